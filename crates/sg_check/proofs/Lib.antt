@@ -1,0 +1,6 @@
+pub mod Finding
+pub mod Judging
+pub mod Late
+pub mod OfPlan
+pub mod OneMore
+pub mod Verdicts

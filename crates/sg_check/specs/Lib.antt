@@ -1,0 +1,5 @@
+pub mod Facts
+pub mod Judging
+pub mod Kinds
+pub mod Laws
+pub mod Verdict

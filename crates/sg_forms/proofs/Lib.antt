@@ -1,0 +1,10 @@
+pub mod Cutting
+pub mod Kept
+pub mod Few
+pub mod WordKinds
+pub mod FormsFound
+pub mod FormsRead
+pub mod Plain
+pub mod Lengths
+pub mod LineLaws
+pub mod FormLaws

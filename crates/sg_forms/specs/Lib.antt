@@ -1,0 +1,5 @@
+pub mod Said
+pub mod Spelling
+pub mod Reading
+pub mod Zeros
+pub mod Laws

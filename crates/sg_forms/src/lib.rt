@@ -1,0 +1,20 @@
+//! The 23 forms of a line of the public record: their words, their one spelling, and how a line is read.
+#![tactic(auto)]
+
+mod ballots;
+mod kinds;
+mod laws;
+mod line;
+mod lists;
+mod plan;
+mod read;
+mod results;
+mod rows;
+mod words;
+
+pub use laws::{no_form_law, spelling_law};
+pub use line::{CodeLine, Line, RowOpening};
+pub use read::read_form;
+
+#[cfg(test)]
+mod tests;

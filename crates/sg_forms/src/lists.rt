@@ -1,0 +1,59 @@
+//! Lists of numbers and of codes that end a line, read into arrays.
+ghost use Rattle.std.specs.Prelude.{◌≡◌, ℕ, List, take, IfSome};
+ghost use Rattle.std.specs.Option.{option_map};
+ghost use Rattle.sg_lines.specs.Words.{decimal_of, code_of};
+ghost use Rattle.sg_forms.specs.Reading.{few_by};
+ghost use Rattle.sg_forms.specs.Zeros.{IsZeroBehind};
+
+use crate::words::Words;
+use sg_lines::{read_code, read_decimal};
+
+/// The most races of a style.
+const MOST_RACES: usize = 32;
+
+/// The most codes of a paper.
+const MOST_CODES: usize = 16;
+
+/// The words that are left, where they are 1 to 32 numbers: the numbers, with zeros behind them, and how many they are.
+#[tactic(auto, using(crate::proofs::Few::few_steps))]
+pub(crate) fn few_numbers(mut words: Words) -> Option<([u32; 32], u32)>
+    ensures exact { option_map (λ found. take found.1 found.0) result ≡ few_by decimal_of 32 words.entry }
+    ensures zeros { IfSome result (λ found. IsZeroBehind 32 found.1 found.0) }
+{
+    let mut numbers = [0; MOST_RACES];
+    let mut count = 0;
+    while let Some(word) = words.word() {
+        if count == MOST_RACES {
+            return None;
+        }
+        numbers[count] = read_decimal(word)?;
+        count += 1;
+    }
+    if count == 0 {
+        None
+    } else {
+        Some((numbers, count as u32))
+    }
+}
+
+/// The words that are left, where they are 1 to 16 codes: the codes, with zeros behind them, and how many they are.
+#[tactic(auto, using(crate::proofs::Few::few_steps))]
+pub(crate) fn few_codes(version: u32, mut words: Words) -> Option<([u16; 16], u32)>
+    ensures exact { option_map (λ found. take found.1 found.0) result ≡ few_by (code_of version) 16 words.entry }
+    ensures zeros { IfSome result (λ found. IsZeroBehind 16 found.1 found.0) }
+{
+    let mut codes = [0; MOST_CODES];
+    let mut count = 0;
+    while let Some(word) = words.word() {
+        if count == MOST_CODES {
+            return None;
+        }
+        codes[count] = read_code(version, word)?;
+        count += 1;
+    }
+    if count == 0 {
+        None
+    } else {
+        Some((codes, count as u32))
+    }
+}

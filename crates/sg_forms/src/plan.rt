@@ -1,0 +1,84 @@
+//! The lines of the plan.
+ghost use Rattle.std.specs.Prelude.{◌≡◌, IfSome};
+ghost use Rattle.std.specs.Option.{option_map};
+ghost use Rattle.sg_forms.specs.Reading.{version_of, election_of, instances_of, race_of, cand_of, style_of, ballots_of};
+ghost use Rattle.sg_forms.specs.Said.{said};
+ghost use Rattle.sg_forms.specs.Zeros.{HasZeros};
+
+use crate::line::Line;
+use crate::lists::few_numbers;
+use crate::words::Words;
+
+/// `scantegrity2 V`, V being 1 or 2
+pub(crate) fn version<'a>(mut words: Words<'a>) -> Option<Line<'a>>
+    ensures exact { option_map said result ≡ version_of words.entry }
+    ensures zeros { IfSome result HasZeros }
+{
+    let number = words.number()?;
+    if number != 1 && number != 2 {
+        return None;
+    }
+    words.whole(Line::Version(number))
+}
+
+/// `election NAME`
+pub(crate) fn election<'a>(mut words: Words<'a>) -> Option<Line<'a>>
+    ensures exact { option_map said result ≡ election_of words.entry }
+    ensures zeros { IfSome result HasZeros }
+{
+    let name = words.name()?;
+    words.whole(Line::Election(name))
+}
+
+/// `instances M`
+pub(crate) fn instances<'a>(mut words: Words<'a>) -> Option<Line<'a>>
+    ensures exact { option_map said result ≡ instances_of words.entry }
+    ensures zeros { IfSome result HasZeros }
+{
+    let instances = words.number()?;
+    words.whole(Line::Instances(instances))
+}
+
+/// `race NAME K W`
+pub(crate) fn race<'a>(mut words: Words<'a>) -> Option<Line<'a>>
+    ensures exact { option_map said result ≡ race_of words.entry }
+    ensures zeros { IfSome result HasZeros }
+{
+    let name = words.name()?;
+    let candidates = words.number()?;
+    let votes = words.number()?;
+    words.whole(Line::Race {
+        name,
+        candidates,
+        votes,
+    })
+}
+
+/// `cand NAME`
+pub(crate) fn cand<'a>(mut words: Words<'a>) -> Option<Line<'a>>
+    ensures exact { option_map said result ≡ cand_of words.entry }
+    ensures zeros { IfSome result HasZeros }
+{
+    let name = words.name()?;
+    words.whole(Line::Cand(name))
+}
+
+/// `style NAME R ..`
+pub(crate) fn style<'a>(mut words: Words<'a>) -> Option<Line<'a>>
+    ensures exact { option_map said result ≡ style_of words.entry }
+    ensures zeros { IfSome result HasZeros }
+{
+    let name = words.name()?;
+    let (races, count) = few_numbers(words)?;
+    Some(Line::Style { name, races, count })
+}
+
+/// `ballots S COUNT`
+pub(crate) fn ballots<'a>(mut words: Words<'a>) -> Option<Line<'a>>
+    ensures exact { option_map said result ≡ ballots_of words.entry }
+    ensures zeros { IfSome result HasZeros }
+{
+    let style = words.number()?;
+    let count = words.number()?;
+    words.whole(Line::Ballots { style, count })
+}

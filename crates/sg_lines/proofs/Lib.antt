@@ -1,0 +1,5 @@
+mod Spelled
+pub mod Numbers
+pub mod Hex
+pub mod Signs
+pub mod Spaces

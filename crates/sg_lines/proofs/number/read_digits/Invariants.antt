@@ -1,0 +1,12 @@
+-- The number so far, and the digits that are left, give the number of the whole word.
+use Rattle.std.proofs.Common.{◌≡◌, ◌^◌, ◌<◌, drop}
+use Rattle.std.specs.Prelude.{◌↔◌}
+use Rattle.std.specs.Str.Parse.{AllDigits, digits_value, digits_value_after}
+use Rattle.sg_lines.proofs.number.read_digits.Given as goal
+
+abbrev pub invariant-loop-byte : goal.invariant-loop-byte
+invariant-loop-byte l = record {
+  small : l.value < 2 ^ 32;
+  value : digits_value_after 10 l.value (drop l.byte-index l.word) ≡ digits_value 10 l.word;
+  digits : AllDigits 10 (drop l.byte-index l.word) ↔ AllDigits 10 l.word;
+}

@@ -1,0 +1,4 @@
+pub mod StreamLemmas
+pub mod LineLemmas
+mod MemoryLemmas
+mod CuttingLemmas

@@ -1,0 +1,5 @@
+pub mod Ballots
+pub mod Codes
+pub mod Laws
+pub mod Limits
+pub mod Names

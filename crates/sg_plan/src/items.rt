@@ -1,0 +1,102 @@
+//! A list that contracts see as the list of its items.
+ghost use Rattle.std.specs.Prelude.{◌≡◌, ◌+◌, [], ◌∷◌, ◌++◌, ◌<◌, ◌≤◌, length, take, drop, slice_get, slice_set, insert, remove, Some, OnOk, OnErr};
+
+use crate::memory::NoMemory;
+use std::alloc::Global;
+use std::marker::Model;
+use std::mem;
+
+/// A list that contracts see as the list of its items.
+///
+/// It keeps its allocator. Only `push` and `insert` take memory.
+#[derive(Debug, Drop)]
+pub struct Items<T> {
+    items: Vec<T>,
+}
+
+impl<T> Model for Items<T> {
+    ghost use Rattle.std.specs.Prelude.{List};
+    ghost use Rattle.std.specs.Coded.{coded_list};
+
+    ghost Value = { List T };
+
+    ghost coded = { coded_list T.code };
+
+    ghost view = { λ it. it.items.items };
+}
+
+impl<T> Items<T> {
+    /// The empty list. It takes no memory.
+    pub fn new(alloc: Global) -> Items<T>
+        ensures { result ≡ [] }
+    {
+        Items {
+            items: Vec::new(alloc),
+        }
+    }
+
+    /// The number of items.
+    pub fn len(&self) -> usize
+        ensures { result ≡ length self.now }
+    {
+        self.items.len()
+    }
+
+    /// All items, in order.
+    pub fn as_slice(&self) -> &[T]
+        ensures { result.now ≡ self.now }
+    {
+        self.items.as_slice()
+    }
+
+    /// The item at `at`, counted from 0.
+    ///
+    /// The two clauses `front` and `rest` follow from `item`: they are what a walk over the list wants.
+    pub fn get(&self, at: usize) -> &T
+        requires { at < length self.now }
+        ensures item { slice_get self.now at ≡ Some result.now }
+        ensures front { take (at + 1) self.now ≡ take at self.now ++ result.now ∷ [] }
+        ensures rest { drop at self.now ≡ result.now ∷ drop (at + 1) self.now }
+    {
+        &self.items[at]
+    }
+}
+
+impl<T: Drop> Items<T> {
+    /// Puts `item` behind the last one.
+    pub fn push(&mut self, item: T) -> Result<(), NoMemory>
+        ensures ok { OnOk result (self.new ≡ self.old ++ item ∷ []) }
+        ensures err { OnErr result (self.new ≡ self.old) }
+    {
+        self.items.push(item)?;
+        Ok(())
+    }
+
+    /// Puts `item` before the one at `at`, or behind the last where `at` is the length.
+    pub fn insert(&mut self, at: usize, item: T) -> Result<(), NoMemory>
+        requires { at ≤ length self.old }
+        ensures ok { OnOk result (self.new ≡ insert self.old at item) }
+        ensures err { OnErr result (self.new ≡ self.old) }
+    {
+        self.items.insert(at, item)?;
+        Ok(())
+    }
+
+    /// Puts `item` in the place of the one at `at`, and answers that one. It takes no memory.
+    pub fn replace(&mut self, at: usize, item: T) -> T
+        requires { at < length self.old }
+        ensures old { slice_get self.old at ≡ Some result }
+        ensures rest { self.new ≡ slice_set self.old at item }
+    {
+        mem::replace(&mut self.items[at], item)
+    }
+
+    /// Takes out the item at `at`, and answers it. It takes no memory.
+    pub fn remove(&mut self, at: usize) -> T
+        requires { at < length self.old }
+        ensures old { slice_get self.old at ≡ Some result }
+        ensures rest { self.new ≡ remove self.old at }
+    {
+        self.items.remove(at)
+    }
+}

@@ -1,0 +1,255 @@
+//! Plans with each fault, at the edges of each limit, and the numbers of a small plan worked out by hand.
+use crate::{Items, Mark, NoMemory, Plan, Race, Run, Style, Word};
+use std::alloc::Global;
+use std::process::Abort;
+use std::test::Fail;
+
+/// Plans, each with what its check answers.
+///
+/// A plan is its version, name, instances, races, styles and runs. A race is its name, a letter for each
+/// candidate, and the votes; a style its name and a digit for each race; a run its style and count. Letters
+/// alone are races of these names, with the candidates A and B and one vote, or styles with race 0.
+const CASES: &str = "1|Town|5|Mayor:AB:1|All:0|0:20000|Ok(())
+2|!~|1|Mayor:AB:2|All:0|0:1|Ok(())
+1|aaaaaaaaaaaaaaaaaaaaaaaaaaaaaaaaaaaaaaaaaaaaaaaaaaaaaaaaaaaaaaaa|5|Mayor:AB:1|All:0|0:1|Ok(())
+0|Town|5|Mayor:AB:1|All:0|0:20000|Err(Version)
+3||17||||Err(Version)
+1||5|Mayor:AB:1|All:0|0:20000|Err(Name)
+1|aaaaaaaaaaaaaaaaaaaaaaaaaaaaaaaaaaaaaaaaaaaaaaaaaaaaaaaaaaaaaaaaa|0||||Err(Name)
+1|My Town|5|Mayor:AB:1|All:0|0:20000|Err(Name)
+1|Town\u{7F}|6|Mayor:AB:1|All:0|0:20000|Err(Name)
+1|Town|0|Mayor:AB:1|All:0|0:20000|Err(Instances)
+1|Town|17||||Err(Instances)
+1|Town|6|Mayor:AB:1|All:0|0:20000|Err(TooLarge(240000))
+1|Town|16|Mayor:AB:1|All:0|0:6250|Ok(())
+1|Town|16|Mayor:AB:1|All:0|0:6251|Err(TooLarge(200032))
+1|Town|16|A:ABCDEFGHIJKLMNOP:16;B:ABCDEFGHIJKLMNOP:1|All:01|0:20000|Err(TooLarge(10240000))
+1|Town|5|Mayor:AB:1;Council:AB:1|All:0|0:20000|Ok(())
+1|Town|1|ABCDEFGHIJKLMNOPQRSTUVWXYZabcdef|All:0|0:1|Ok(())
+1|Town|1|ABCDEFGHIJKLMNOPQRSTUVWXYZabcdefg|All:0|0:1|Err(Race(32))
+1|Town|1|ABCDEFGHIJKLMNOPQRSTUVWXYZabcdea|All:0|0:1|Err(Race(31))
+1|Town|1|A:AB:1;B:A:1;CDEFGHIJKLMNOPQRSTUVWXYZabcdefg|All:0|0:1|Err(Race(1))
+1|Town|1||||Err(Race(0))
+1|Town|1|:AB:1|All:0|0:1|Err(Race(0))
+1|Town|1|Mayor:A:1|All:0|0:1|Err(Race(0))
+1|Town|1|Mayor:ABCDEFGHIJKLMNOP:16|All:0|0:1|Ok(())
+1|Town|1|Mayor:ABCDEFGHIJKLMNOPQ:1|All:0|0:1|Err(Race(0))
+1|Town|1|Mayor:AB:0|All:0|0:1|Err(Race(0))
+1|Town|1|Mayor:AB:3|All:0|0:1|Err(Race(0))
+1|Town|1|Mayor:A :1|All:0|0:1|Err(Race(0))
+1|Town|1|Mayor:ABA:1|All:0|0:1|Err(Race(0))
+1|Town|1|Mayor:AB:1;Mayor:CD:1||0:1|Err(Race(1))
+1|Town|1|Mayor:AB:1;Council:AB:3;:A:0|All:0|0:1|Err(Race(1))
+1|Town|1|AB|ABCDEFGHIJKLMNOPQRSTUVWXYZabcdef|0:1|Ok(())
+1|Town|1|AB|ABCDEFGHIJKLMNOPQRSTUVWXYZabcdefg|0:1|Err(Style(32))
+1|Town|1|AB|All:01;Second:1|1:1|Ok(())
+1|Town|1|AB|||Err(Style(0))
+1|Town|1|AB|A ll:0|0:1|Err(Style(0))
+1|Town|1|AB|All:|0:1|Err(Style(0))
+1|Town|1|AB|All:02|0:1|Err(Style(0))
+1|Town|1|AB|All:10|0:1|Err(Style(0))
+1|Town|1|AB|All:00|0:1|Err(Style(0))
+1|Town|1|AB|All:0;All:1|0:0|Err(Style(1))
+1|Town|1|AB|All:0;:1;All:|0:1|Err(Style(1))
+1|Town|5|Mayor:AB:1|All:0|0:19999;0:1|Ok(())
+1|Town|5|Mayor:AB:1|All:0||Err(Run(0))
+1|Town|5|Mayor:AB:1|All:0|1:1|Err(Run(0))
+1|Town|5|Mayor:AB:1|All:0|0:0|Err(Run(0))
+1|Town|6|Mayor:AB:1|All:0|0:20001|Err(Run(0))
+1|Town|5|Mayor:AB:1|All:0|0:20000;0:1|Err(Run(1))
+1|Town|5|Mayor:AB:1|All:0|0:20000;0:0;1:1|Err(Run(1))
+1|Town|5|Mayor:AB:1|All:0|0:4294967295;0:4294967295|Err(Run(0))
+1|Town|5|Mayor:AB:1|All:0|0:1;0:4294967295;0:4294967295|Err(Run(1))
+1|Town|5|Mayor:AB:1|All:0|0:1;4294967295:1|Err(Run(1))";
+
+/// Ballots 1, 2 and 4 have both races, and ballots 3 and 5 race 1 alone. Race 0 has three candidates.
+const SMALL: &str = "1|Town|5|Mayor:ABC:1;Council:AB:2|All:01;East:1|0:2;1:1;0:1;1:1|";
+
+/// What stands before the mark, and what behind it.
+fn cut(text: &str, mark: char) -> (&str, &str) {
+    match text.split_once(mark) {
+        Some(parts) => parts,
+        None => (text, ""),
+    }
+}
+
+fn number_of(text: &str) -> u32 {
+    match text.parse::<u32>() {
+        Ok(number) => number,
+        Err(_) => 0,
+    }
+}
+
+fn word_of(alloc: Global, bytes: &[u8]) -> Result<Word, NoMemory> {
+    let mut word = Word::new(alloc);
+    word.extend(bytes)?;
+    Ok(word)
+}
+
+fn race_of(alloc: Global, name: &[u8], letters: &[u8], votes: u32) -> Result<Race, NoMemory> {
+    let mut candidates = Items::new(alloc);
+    for letter in letters {
+        candidates.push(word_of(alloc, [*letter].as_slice())?)?;
+    }
+    Ok(Race {
+        name: word_of(alloc, name)?,
+        candidates,
+        votes,
+    })
+}
+
+fn style_of(alloc: Global, name: &[u8], digits: &[u8]) -> Result<Style, NoMemory> {
+    let mut races = Items::new(alloc);
+    for digit in digits {
+        races.push(u32::from(digit.saturating_sub(b'0')))?;
+    }
+    Ok(Style {
+        name: word_of(alloc, name)?,
+        races,
+    })
+}
+
+fn add_races(alloc: Global, races: &mut Items<Race>, text: &str) -> Result<(), NoMemory> {
+    let (name, rest) = cut(text, ':');
+    let (letters, votes) = cut(rest, ':');
+    if text.contains(':') {
+        return races.push(race_of(alloc, name.as_bytes(), letters.as_bytes(), number_of(votes))?);
+    }
+    for letter in text.as_bytes() {
+        races.push(race_of(alloc, [*letter].as_slice(), b"AB".as_slice(), 1)?)?;
+    }
+    Ok(())
+}
+
+fn add_styles(alloc: Global, styles: &mut Items<Style>, text: &str) -> Result<(), NoMemory> {
+    let (name, digits) = cut(text, ':');
+    if text.contains(':') {
+        return styles.push(style_of(alloc, name.as_bytes(), digits.as_bytes())?);
+    }
+    for letter in text.as_bytes() {
+        styles.push(style_of(alloc, [*letter].as_slice(), b"0".as_slice())?)?;
+    }
+    Ok(())
+}
+
+fn races_of(alloc: Global, text: &str) -> Result<Items<Race>, NoMemory> {
+    let mut races = Items::new(alloc);
+    for part in text.split(';') {
+        add_races(alloc, &mut races, part)?;
+    }
+    Ok(races)
+}
+
+fn styles_of(alloc: Global, text: &str) -> Result<Items<Style>, NoMemory> {
+    let mut styles = Items::new(alloc);
+    for part in text.split(';') {
+        add_styles(alloc, &mut styles, part)?;
+    }
+    Ok(styles)
+}
+
+fn runs_of(alloc: Global, text: &str) -> Result<Items<Run>, NoMemory> {
+    let mut runs = Items::new(alloc);
+    for part in text.split(';') {
+        let (style, count) = cut(part, ':');
+        if !part.is_empty() {
+            runs.push(Run {
+                style: number_of(style),
+                count: number_of(count),
+            })?;
+        }
+    }
+    Ok(runs)
+}
+
+/// The plan of a case, and what its check is to answer.
+fn plan_of(alloc: Global, text: &str) -> Result<(Plan, &str), NoMemory> {
+    let (version, rest) = cut(text, '|');
+    let (name, rest) = cut(rest, '|');
+    let (instances, rest) = cut(rest, '|');
+    let (races, rest) = cut(rest, '|');
+    let (styles, rest) = cut(rest, '|');
+    let (runs, want) = cut(rest, '|');
+    let plan = Plan {
+        version: number_of(version),
+        name: word_of(alloc, name.as_bytes())?,
+        instances: number_of(instances),
+        races: races_of(alloc, races)?,
+        styles: styles_of(alloc, styles)?,
+        runs: runs_of(alloc, runs)?,
+    };
+    Ok((plan, want))
+}
+
+/// The check of each plan answers what stands behind it.
+fn expect_faults(rt: &impl Abort, alloc: Global, cases: &str) -> Result<(), Fail> {
+    for line in cases.lines() {
+        let (plan, want) = plan_of(alloc, line)?;
+        let answer = format!(in alloc; "{:?}", plan.check())?;
+        assert_eq!(rt; answer.as_str(), want, "{line}");
+    }
+    Ok(())
+}
+
+#[test]
+fn finds_the_first_fault(rt: HostRuntime) -> Result<(), Fail> {
+    expect_faults(&rt, rt.alloc(), CASES)
+}
+
+#[test]
+fn numbers_ballots(rt: HostRuntime) -> Result<(), Fail> {
+    let (plan, _) = plan_of(rt.alloc(), SMALL)?;
+    plan.check()?;
+    assert!(rt; plan.races.len() == 2);
+    assert!(rt; plan.ballots() == 5);
+    assert!(rt; plan.style_of(1) == 0);
+    assert!(rt; plan.style_of(3) == 1);
+    assert!(rt; plan.rows(0) == 3);
+    assert!(rt; plan.rows(1) == 5);
+    assert!(rt; plan.row_of(0, 4) == 2);
+    assert!(rt; plan.carries(4, 0));
+    assert!(rt; !plan.carries(3, 0));
+    assert!(rt; !plan.carries(6, 1));
+    Ok(())
+}
+
+#[test]
+fn numbers_entries(rt: HostRuntime) -> Result<(), Fail> {
+    let (plan, _) = plan_of(rt.alloc(), SMALL)?;
+    plan.check()?;
+    assert!(rt; plan.races.len() == 2);
+    assert!(rt; plan.entries(0) == 9);
+    assert!(rt; plan.ballot_of(0, 8) == 4);
+    assert!(rt; plan.candidate_of(0, 7) == 1);
+    assert!(rt; plan.entry(0, 4, 2) == Some(8));
+    assert!(rt; plan.entry(1, 5, 1) == Some(9));
+    assert!(rt; plan.entry(0, 3, 0).is_none());
+    assert!(rt; plan.entry(1, 6, 0).is_none());
+    assert!(rt; plan.entry(0, 1, 3).is_none());
+    Ok(())
+}
+
+#[test]
+fn counts_marks(rt: HostRuntime) -> Result<(), Fail> {
+    let (plan, _) = plan_of(rt.alloc(), SMALL)?;
+    assert!(rt; plan.races.len() == 2);
+    let mut marks = Items::new(rt.alloc());
+    marks.push(Mark {
+        race: 0,
+        candidate: 0,
+    })?;
+    assert!(rt; !plan.over(&marks, 0));
+    marks.insert(
+        0,
+        Mark {
+            race: 0,
+            candidate: 1,
+        },
+    )?;
+    assert!(rt; plan.over(&marks, 0));
+    let mut word = Word::new(rt.alloc());
+    word.push(b'a')?;
+    word.insert(0, b'b')?;
+    assert!(rt; word.bytes() == b"ba".as_slice());
+    Ok(())
+}

@@ -1,0 +1,16 @@
+//! The grammar of the public record: which line may stand after the lines before it.
+#![tactic(auto)]
+
+mod body;
+mod counted;
+mod expecting;
+mod head;
+mod reading;
+mod slots;
+mod spots;
+mod state;
+
+pub use expecting::Expect;
+pub use reading::read_line;
+pub use sg_forms::{CodeLine, Line, RowOpening};
+pub use state::{Block, Head, Part, Slot, Spot};

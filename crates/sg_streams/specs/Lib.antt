@@ -1,0 +1,6 @@
+pub mod CoinSides
+pub mod Numbers
+pub mod OpeningKeys
+pub mod Order
+pub mod RowCodes
+pub mod Streams
