@@ -1,0 +1,3 @@
+mod Forms
+mod Judging
+mod Reporting

@@ -1,0 +1,101 @@
+-- How an audit ends, and with which status.
+use Rattle.std.specs.Prelude.{◌≡◌, ℕ, ◌⊎◌, List, Option, IfSome}
+use Rattle.std.specs.Io.KnownBytes.{Appends, IsAtEnd, Keeps}
+use Rattle.sg_outside.specs.Faults.{Rose}
+use Rattle.sg_outside.specs.Streams.{AppendsFront}
+use Rattle.sg_outside.specs.TextLines.{lines_of}
+use Rattle.sg_check.specs.Verdict.{IsVerdict}
+use Rattle.sg_check.specs.declared.verdict.Judged.{Judged}
+use Rattle.sg_check.specs.declared.verdict.Judged.TheVariants.{Yes, No}
+use Rattle.sg_check.specs.declared.verdict.Kind.{Kind}
+use Rattle.sg_check.specs.declared.verdict.Total.{Total}
+use Rattle.sg_app.specs.Report.{report_of}
+use Rattle.sg_app.specs.declared.audit.Ending.{Ending}
+use Rattle.sg_app.specs.declared.audit.Ending.TheVariants as ending
+use Rattle.sg_app.specs.declared.audit.Heard.{Heard}
+use Rattle.sg_app.specs.declared.audit.Heard.TheVariants as heard
+
+-- a source or a sink at a moment: its bytes, where it tells them, and how often it has failed
+pub record Seen : Type 0 where
+  pub bytes : Option (List ℕ)
+  pub faults : ℕ
+
+-- where the source tells its bytes, this is the verdict on their lines
+abbrev pub Judges : Option (List ℕ) → Judged → Type 0
+Judges known judged = IfSome known (λ bytes. IsVerdict (lines_of bytes) judged)
+
+-- a yes has read the input to its end
+abbrev pub HasReadAll : Judged → Option (List ℕ) → Type 0
+HasReadAll (Yes totals) left = IsAtEnd left
+HasReadAll (No line broken) left = Unit {0}
+
+-- what was heard of a source
+abbrev pub Hears : Heard → Seen → Seen → Type 0
+Hears (heard.Verdict judged) input input' = Judges input.bytes judged × HasReadAll judged input'.bytes
+Hears heard.Fault input input' = Rose input.faults input'.faults
+Hears heard.NoMemory input input' = Unit {0}
+
+-- the report of a verdict was written, or a front of it where the output failed
+abbrev pub Writes : Ending → Judged → Seen → Seen → Type 0
+Writes (ending.Done told) judged out out' = (told ≡ judged) × Appends out.bytes out'.bytes (report_of judged)
+Writes ending.ReadFault judged out out' = ⊥
+Writes (ending.WriteFault told) judged out out' = (told ≡ judged) × Rose out.faults out'.faults × AppendsFront out.bytes out'.bytes (report_of judged)
+Writes ending.NoMemory judged out out' = ⊥
+
+-- how an audit ended: the input and the output, before and after it
+abbrev pub AuditEnds : Ending → Seen → Seen → Seen → Seen → Type 0
+AuditEnds (ending.Done judged) input input' out out' =
+    Judges input.bytes judged × HasReadAll judged input'.bytes × Appends out.bytes out'.bytes (report_of judged)
+AuditEnds ending.ReadFault input input' out out' =
+    Rose input.faults input'.faults × Keeps out.bytes out'.bytes
+AuditEnds (ending.WriteFault judged) input input' out out' =
+    Judges input.bytes judged × Rose out.faults out'.faults × AppendsFront out.bytes out'.bytes (report_of judged)
+AuditEnds ending.NoMemory input input' out out' = Keeps out.bytes out'.bytes
+
+-- WHAT EACH STATUS SAYS
+
+-- 0: the verdict on the input's bytes is yes, the input was read to its end, and the report was written whole
+pub record SaysYes (input input' out out' : Seen) : Type 0 where
+  pub totals : List Total
+  pub judged : Judges input.bytes (Yes totals)
+  pub read : IsAtEnd input'.bytes
+  pub written : Appends out.bytes out'.bytes (report_of (Yes totals))
+
+-- 1: the verdict is no, and the report was written whole
+pub record SaysNo (input out out' : Seen) : Type 0 where
+  pub line : ℕ
+  pub broken : Kind
+  pub judged : Judges input.bytes (No line broken)
+  pub written : Appends out.bytes out'.bytes (report_of (No line broken))
+
+-- 3: the input's count of faults rose, and nothing was written
+pub record ReadFails (input input' out out' : Seen) : Type 0 where
+  pub cause : Rose input.faults input'.faults
+  pub written : Keeps out.bytes out'.bytes
+
+-- 4: the output's count of faults rose, and a front of the verdict's report was written
+pub record WriteFails (input out out' : Seen) : Type 0 where
+  pub cause : Rose out.faults out'.faults
+  pub verdict : Judged
+  pub judged : Judges input.bytes verdict
+  pub written : AppendsFront out.bytes out'.bytes (report_of verdict)
+
+-- how an audit ended, by its status: there is no other
+abbrev pub AuditSays : ℕ → Seen → Seen → Seen → Seen → Type 0
+AuditSays status input input' out out' =
+    ((status ≡ 0) × SaysYes input input' out out')
+    ⊎ ((status ≡ 1) × SaysNo input out out')
+    ⊎ ((status ≡ 3) × ReadFails input input' out out')
+    ⊎ ((status ≡ 4) × WriteFails input out out')
+    ⊎ ((status ≡ 9) × Keeps out.bytes out'.bytes)
+
+abbrev pub status_of_verdict : Judged → ℕ
+status_of_verdict (Yes totals) = 0
+status_of_verdict (No line broken) = 1
+
+-- 0: yes; 1: no; 3: a read failed; 4: a write failed; 9: memory was wanted
+abbrev pub status_in : Ending → ℕ
+status_in (ending.Done judged) = status_of_verdict judged
+status_in ending.ReadFault = 3
+status_in (ending.WriteFault judged) = 4
+status_in ending.NoMemory = 9

@@ -1,0 +1,3 @@
+pub mod Audit
+pub mod Command
+pub mod Report

@@ -1,0 +1,116 @@
+ghost use Rattle.std.specs.Prelude.{◌≡◌, [], false, true};
+ghost use Rattle.sg_outside.specs.Cutting.{Cutting};
+ghost use Rattle.sg_pass.specs.Pass.{StandsFor, is_open};
+ghost use Rattle.sg_app.specs.Audit.{AuditEnds, Hears, Seen, Writes, status_in, status_of_verdict};
+
+use crate::report::write_report;
+use sg_check::Judged;
+use sg_outside::{Got, Lines, Sink, Source};
+use sg_pass::{Pass, Step};
+use std::alloc::Global;
+
+/// The most bytes of a line of a record, its line feed included.
+const LONGEST_LINE: usize = 16_384;
+
+/// What was heard of a source.
+#[derive(Debug, Drop)]
+pub enum Heard {
+    /// The verdict on its bytes.
+    Verdict(Judged),
+    /// It failed.
+    Fault,
+    /// Memory was wanted and not found.
+    NoMemory,
+}
+
+/// How an audit ended.
+#[derive(Debug, Drop)]
+pub enum Ending {
+    /// The report of the verdict was written.
+    Done(Judged),
+    /// A read failed, and nothing was written.
+    ReadFault,
+    /// A write failed, and a front of the report was written.
+    WriteFault(Judged),
+    /// Memory was wanted and not found, and nothing was written.
+    NoMemory,
+}
+
+/// The status that the program ends with.
+pub(crate) fn status_of(ending: &Ending) -> u8
+    ensures { result ≡ status_in ending.now }
+{
+    match ending {
+        Ending::Done(judged) => verdict_status(judged),
+        Ending::ReadFault => 3,
+        Ending::WriteFault(_) => 4,
+        Ending::NoMemory => 9,
+    }
+}
+
+/// 0 for yes and 1 for no.
+fn verdict_status(judged: &Judged) -> u8
+    ensures { result ≡ status_of_verdict judged.now }
+{
+    match judged {
+        Judged::Yes(_) => 0,
+        Judged::No { .. } => 1,
+    }
+}
+
+/// Judges the record that the input gives, and writes the report.
+pub(crate) fn audit<S: Source, O: Sink>(alloc: Global, input: &mut S, out: &mut O) -> Ending
+    ensures { AuditEnds result (record { bytes = S.left input.old; faults = S.faults input.old }) (record { bytes = S.left input.new; faults = S.faults input.new })
+        (record { bytes = O.written out.old; faults = O.faults out.old }) (record { bytes = O.written out.new; faults = O.faults out.new }) }
+{
+    match hear(alloc, input) {
+        Heard::Verdict(judged) => told(judged, out),
+        Heard::Fault => Ending::ReadFault,
+        Heard::NoMemory => Ending::NoMemory,
+    }
+}
+
+/// Writes the report of a verdict.
+fn told<O: Sink>(judged: Judged, out: &mut O) -> Ending
+    ensures { Writes result judged (record { bytes = O.written out.old; faults = O.faults out.old }) (record { bytes = O.written out.new; faults = O.faults out.new }) }
+{
+    match write_report(out, &judged) {
+        Ok(()) => Ending::Done(judged),
+        Err(_) => Ending::WriteFault(judged),
+    }
+}
+
+/// Judges the record that the input gives.
+fn hear<S: Source>(alloc: Global, input: &mut S) -> Heard
+    ensures { Hears result (record { bytes = S.left input.old; faults = S.faults input.old }) (record { bytes = S.left input.new; faults = S.faults input.new }) }
+{
+    let Ok(lines) = Lines::new(alloc, LONGEST_LINE) else {
+        return Heard::NoMemory;
+    };
+    judge(Pass::new(alloc), lines, input)
+}
+
+/// Feeds the lines to a pass, up to the first that is bad.
+fn judge<S: Source>(pass: Pass, lines: Lines, input: &mut S) -> Heard
+    requires stands { StandsFor pass [] }
+    requires open { is_open pass ≡ true }
+    requires fresh { lines ≡ record { limit = 16384; text = []; ahead = []; is_over = false } }
+    ensures { Hears result (record { bytes = S.left input.old; faults = S.faults input.old }) (record { bytes = S.left input.new; faults = S.faults input.new }) }
+{
+    let mut pass = pass;
+    let mut lines = lines;
+    loop {
+        match lines.next(input) {
+            Got::Line => {}
+            Got::Part => return Heard::Verdict(pass.end_at_no_line()),
+            Got::Long => return Heard::Verdict(pass.end_at_no_line()),
+            Got::End => return Heard::Verdict(pass.end()),
+            Got::ReadFault => return Heard::Fault,
+        }
+        match pass.line(lines.text()) {
+            Ok(Step::More) => {}
+            Ok(Step::Over) => return Heard::Verdict(pass.end()),
+            Err(_) => return Heard::NoMemory,
+        }
+    }
+}

@@ -1,0 +1,24 @@
+ghost use Rattle.std.specs.Prelude.{◌≡◌, ◌↔◌, None, Some};
+ghost use Rattle.sg_app.specs.Audit.{AuditSays, Seen};
+ghost use Rattle.sg_app.specs.Command.{command_in};
+
+use crate::audit::{audit, status_of};
+use crate::command::{Command, command_of};
+use sg_outside::{Sink, Source};
+use sg_plan::{Items, Word};
+use std::alloc::Global;
+
+/// Runs the command that the words after the program's name ask for, and answers the status to end with.
+pub fn run<S: Source, O: Sink>(alloc: Global, words: &Items<Word>, input: &mut S, out: &mut O) -> u8
+    // Status 2 comes exactly where the words are no command's, and then nothing is read or written.
+    ensures form { (result ≡ 2) ↔ (command_in words.now ≡ None) }
+    ensures untouched { result ≡ 2 → (input.new ≡ input.old) × (out.new ≡ out.old) }
+    // With `audit` the status says how it ended.
+    ensures audit { command_in words.now ≡ Some Command.Audit → AuditSays result (record { bytes = S.left input.old; faults = S.faults input.old }) (record { bytes = S.left input.new; faults = S.faults input.new })
+        (record { bytes = O.written out.old; faults = O.faults out.old }) (record { bytes = O.written out.new; faults = O.faults out.new }) }
+{
+    match command_of(words) {
+        None => 2,
+        Some(Command::Audit) => status_of(&audit(alloc, input, out)),
+    }
+}

@@ -1,0 +1,10 @@
+pub mod BitLists
+pub mod BitSteps
+pub mod Judged
+pub mod KeptSteps
+pub mod Laws
+pub mod Lists
+pub mod Made
+pub mod PathSteps
+pub mod Places
+pub mod Texts

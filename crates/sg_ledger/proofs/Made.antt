@@ -1,0 +1,155 @@
+-- Empty tables tell the lines of the plan.
+use Rattle.std.proofs.Common.{◌≡◌, ℕ, ◌+◌, ◌*◌, ◌<◌, min, false, List, [], ◌∷◌, ◌++◌, if◌then◌else◌, length, get_or, slice_get, replicate, Some, None, count_by, inl, inr, refl, sym, ap, ◌∙◌, arith}
+use Rattle.std.proofs.lemmas.Bool.{cases_lt}
+use Rattle.std.proofs.lemmas.List.{get_or-replicate, get_or_append_left, get_or_at, length-append, length-replicate}
+use Rattle.std.proofs.lemmas.Option.{get_or_from_slice_get, slice_get-get_or}
+use Rattle.sg_check.specs.Facts.{commits_code, commits_left, commits_right, flags_row, marks_ballot, marks_entry, opens_left, opens_right, sets_place, votes_for, votes_on}
+use Rattle.sg_ledger.proofs.Lists.{of_plan-any, of_plan-given, of_plan-placed, of_plan-sum, of_plan-totals}
+use Rattle.sg_ledger.specs.Tables.{most_marks, most_votes}
+use Rattle.sg_ledger.specs.Tells.{AreOfPlan, AreSizes, IsOfPlan, IsSized, Tells, candidate_place, leads_entry, shows_entry}
+use Rattle.sg_ledger.specs.declared.ledger.Ledger.{Ledger}
+use Rattle.sg_plan.proofs.PlanLaws.{entry_place-below, entry_tells, row_place-below}
+use Rattle.sg_plan.specs.Ballots.{all_entries, entry_at, entry_place, r_rows, row_place}
+use Rattle.sg_plan.specs.Laws.{Bounds}
+use Rattle.sg_plan.specs.declared.plan.Plan.{Plan}
+use Rattle.sg_record.specs.Placed.{Placed}
+use Rattle.sg_record.specs.Placed.Placed.{OfPlan}
+
+-- nothing is told in the tables
+pub record IsMade (plan : Plan) (ledger : Ledger) : Type 0 where
+  pub sizes : AreSizes plan ledger.sizes
+  pub codes : ledger.commitments.codes ≡ replicate (all_entries plan) None
+  pub lefts : ledger.commitments.lefts ≡ replicate (r_rows plan) None
+  pub rights : ledger.commitments.rights ≡ replicate (r_rows plan) None
+  pub known : ledger.codes.known ≡ replicate (all_entries plan) None
+  pub marked : ledger.codes.marked ≡ replicate (all_entries plan) false
+  pub marks : ledger.codes.marks ≡ replicate (all_entries plan) 0
+  pub flagged : ledger.bits.flagged ≡ replicate (r_rows plan) false
+  pub places : ledger.bits.places ≡ replicate (all_entries plan) false
+  pub votes : ledger.bits.votes ≡ replicate (16 * length plan.races) 0
+  pub seen_lefts : ledger.pointers.lefts ≡ replicate (r_rows plan) false
+  pub seen_rights : ledger.pointers.rights ≡ replicate (r_rows plan) false
+  pub paths : ledger.paths ≡ replicate (all_entries plan) None
+  pub totals : ledger.totals ≡ []
+
+sized : {A : Type 0} (table : List A) (count : ℕ) (value : A) → table ≡ replicate count value → length table ≡ count
+sized table count value is = ap length is ∙ length-replicate count value
+
+holds : {A : Type 0} (table : List A) (count : ℕ) (value : A) (place : ℕ) (none : A) → table ≡ replicate count value → place < count → get_or table place none ≡ value
+holds {A} table count value place none is below = ap (λ (t : List A). get_or t place none) is ∙ get_or-replicate count place value none below
+
+pub made_sized : (plan : Plan) (ledger : Ledger) → IsMade plan ledger → IsSized plan ledger
+made_sized plan ledger made = record {
+  sizes = made.sizes;
+  codes = sized ledger.commitments.codes (all_entries plan) None made.codes;
+  lefts = sized ledger.commitments.lefts (r_rows plan) None made.lefts;
+  rights = sized ledger.commitments.rights (r_rows plan) None made.rights;
+  known = sized ledger.codes.known (all_entries plan) None made.known;
+  marked = sized ledger.codes.marked (all_entries plan) false made.marked;
+  marks = sized ledger.codes.marks (all_entries plan) 0 made.marks;
+  flagged = sized ledger.bits.flagged (r_rows plan) false made.flagged;
+  places = sized ledger.bits.places (all_entries plan) false made.places;
+  votes = sized ledger.bits.votes (16 * length plan.races) 0 made.votes;
+  seen_lefts = sized ledger.pointers.lefts (r_rows plan) false made.seen_lefts;
+  seen_rights = sized ledger.pointers.rights (r_rows plan) false made.seen_rights;
+  paths = sized ledger.paths (all_entries plan) None made.paths;
+}
+
+-- a line of the plan has no fact
+
+no_code : (race entry : ℕ) (line : Placed) → IsOfPlan line → commits_code race entry line ≡ None
+no_code race entry (OfPlan said) is = refl
+no_code race entry line is = absurd is
+
+no_left : (race instance row : ℕ) (line : Placed) → IsOfPlan line → commits_left race instance row line ≡ None
+no_left race instance row (OfPlan said) is = refl
+no_left race instance row line is = absurd is
+
+no_right : (race instance row : ℕ) (line : Placed) → IsOfPlan line → commits_right race instance row line ≡ None
+no_right race instance row (OfPlan said) is = refl
+no_right race instance row line is = absurd is
+
+no_shown : (plan : Plan) (race entry shown : ℕ) (line : Placed) → IsOfPlan line → shows_entry plan race entry shown line ≡ false
+no_shown plan race entry shown (OfPlan said) is = refl
+no_shown plan race entry shown line is = absurd is
+
+no_mark : (plan : Plan) (race entry : ℕ) (line : Placed) → IsOfPlan line → marks_entry plan race entry line ≡ false
+no_mark plan race entry (OfPlan said) is = refl
+no_mark plan race entry line is = absurd is
+
+no_count : (ballot race : ℕ) (line : Placed) → IsOfPlan line → ◌≡◌ {A = ℕ} (if marks_ballot ballot race line then 1 else 0) 0
+no_count ballot race (OfPlan said) is = refl
+no_count ballot race line is = absurd is
+
+no_flag : (race instance row : ℕ) (line : Placed) → IsOfPlan line → flags_row race instance row line ≡ false
+no_flag race instance row (OfPlan said) is = refl
+no_flag race instance row line is = absurd is
+
+no_place : (race place : ℕ) (line : Placed) → IsOfPlan line → sets_place race place line ≡ false
+no_place race place (OfPlan said) is = refl
+no_place race place line is = absurd is
+
+no_vote : (plan : Plan) (race candidate : ℕ) (line : Placed) → IsOfPlan line → votes_on plan race candidate line ≡ 0
+no_vote plan race candidate (OfPlan said) is = refl
+no_vote plan race candidate line is = absurd is
+
+no_seen_left : (race instance pointer : ℕ) (line : Placed) → IsOfPlan line → opens_left race instance pointer line ≡ false
+no_seen_left race instance pointer (OfPlan said) is = refl
+no_seen_left race instance pointer line is = absurd is
+
+no_seen_right : (race instance pointer : ℕ) (line : Placed) → IsOfPlan line → opens_right race instance pointer line ≡ false
+no_seen_right race instance pointer (OfPlan said) is = refl
+no_seen_right race instance pointer line is = absurd is
+
+no_path : (plan : Plan) (race entry place : ℕ) (line : Placed) → IsOfPlan line → leads_entry plan race entry place line ≡ false
+no_path plan race entry place (OfPlan said) is = refl
+no_path plan race entry place line is = absurd is
+
+min-none : (most count : ℕ) → count ≡ 0 → 0 ≡ min count most
+min-none most count none = omega arith
+
+pub made_tells : (plan : Plan) (ledger : Ledger) → Bounds plan → IsMade plan ledger → (lines : List Placed) → AreOfPlan lines → Tells plan ledger lines
+made_tells plan ledger bounds made lines are = record {
+  sized = made_sized plan ledger made;
+  placed = of_plan-placed plan lines are;
+  commitments = record {
+    codes = λ r e r_in e_in. holds ledger.commitments.codes (all_entries plan) None (entry_place plan r e) None made.codes (entry_place-below plan r e r_in e_in) ∙ sym (of_plan-given (commits_code r e) lines are (no_code r e));
+    lefts = λ r i k r_in i_in k_in. holds ledger.commitments.lefts (r_rows plan) None (row_place plan r i k) None made.lefts (row_place-below plan r i k r_in i_in k_in) ∙ sym (of_plan-given (commits_left r i k) lines are (no_left r i k));
+    rights = λ r i k r_in i_in k_in. holds ledger.commitments.rights (r_rows plan) None (row_place plan r i k) None made.rights (row_place-below plan r i k r_in i_in k_in) ∙ sym (of_plan-given (commits_right r i k) lines are (no_right r i k));
+  };
+  codes = record {
+    known = λ r e r_in e_in shown. rw (holds ledger.codes.known (all_entries plan) None (entry_place plan r e) None made.known (entry_place-below plan r e r_in e_in)) (of_plan-any (shows_entry plan r e shown) lines are (no_shown plan r e shown));
+    marked = λ r e r_in e_in. holds ledger.codes.marked (all_entries plan) false (entry_place plan r e) false made.marked (entry_place-below plan r e r_in e_in) ∙ sym (of_plan-any (marks_entry plan r e) lines are (no_mark plan r e));
+    marks = λ r b r_in has.
+        let below = (entry_tells plan r b 0 has (omega (arith, bounds.two_candidates r r_in))).below in
+        holds ledger.codes.marks (all_entries plan) 0 (entry_place plan r (entry_at plan r b 0)) 0 made.marks (entry_place-below plan r (entry_at plan r b 0) r_in below)
+        ∙ min-none most_marks (count_by (marks_ballot b r) lines) (of_plan-sum (λ (x : Placed). if marks_ballot b r x then 1 else 0) lines are (no_count b r));
+  };
+  bits = record {
+    flagged = λ r i k r_in i_in k_in. holds ledger.bits.flagged (r_rows plan) false (row_place plan r i k) false made.flagged (row_place-below plan r i k r_in i_in k_in) ∙ sym (of_plan-any (flags_row r i k) lines are (no_flag r i k));
+    places = λ r e r_in e_in. holds ledger.bits.places (all_entries plan) false (entry_place plan r e) false made.places (entry_place-below plan r e r_in e_in) ∙ sym (of_plan-any (sets_place r e) lines are (no_place r e));
+    votes = λ r c r_in c_in.
+        holds ledger.bits.votes (16 * length plan.races) 0 (candidate_place r c) 0 made.votes (omega (arith, bounds.few_candidates r, c_in, r_in))
+        ∙ min-none most_votes (votes_for plan r c lines) (of_plan-sum (votes_on plan r c) lines are (no_vote plan r c));
+  };
+  pointers = record {
+    lefts = λ r i k r_in i_in k_in. holds ledger.pointers.lefts (r_rows plan) false (row_place plan r i k) false made.seen_lefts (row_place-below plan r i k r_in i_in k_in) ∙ sym (of_plan-any (opens_left r i k) lines are (no_seen_left r i k));
+    rights = λ r i k r_in i_in k_in. holds ledger.pointers.rights (r_rows plan) false (row_place plan r i k) false made.seen_rights (row_place-below plan r i k r_in i_in k_in) ∙ sym (of_plan-any (opens_right r i k) lines are (no_seen_right r i k));
+  };
+  paths = λ r e r_in e_in place. rw (holds ledger.paths (all_entries plan) None (entry_place plan r e) None made.paths (entry_place-below plan r e r_in e_in)) (of_plan-any (leads_entry plan r e place) lines are (no_path plan r e place));
+  totals = made.totals ∙ sym (of_plan-totals lines are);
+}
+
+-- SIZES
+
+-- a list that holds a function's values, with one more
+pub values-push : (xs : List ℕ) (f : ℕ → ℕ) (n x : ℕ) → length xs ≡ n → x ≡ f n → ((k : ℕ) → k < n → slice_get xs k ≡ Some (f k))
+    → (k : ℕ) → k < n + 1 → slice_get (xs ++ x ∷ []) k ≡ Some (f k)
+values-push xs f n x len is values k below =
+    slice_get-get_or (xs ++ x ∷ []) k 0 (omega (arith, len, length-append xs (x ∷ [])))
+    ∙ ap Some (elim (cases_lt k n) [
+      | inl before ↦ get_or_append_left xs (x ∷ []) 0 k (omega (arith, len)) ∙ get_or_from_slice_get xs k (f k) 0 (values k before)
+      | inr last ↦
+          let at : n ≡ k = omega arith in
+          get_or_at xs x [] 0 k (len ∙ at) ∙ (is ∙ ap f at)
+    ])

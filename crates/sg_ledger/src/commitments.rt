@@ -1,0 +1,165 @@
+//! Commitments, and whether what is opened opens them.
+ghost use Rattle.std.specs.Prelude.{◌≡◌, ◌<◌, ◌^◌, ◌||◌, IfOk, not, length, replicate, slice_index_or};
+ghost use Rattle.sg_check.specs.Facts.{left_of, right_of};
+ghost use Rattle.sg_check.specs.Kinds.{bad_pointer_opening, code_opening, opens_digest};
+ghost use Rattle.sg_ledger.specs.Tables.{with_first};
+
+use crate::tables::{fill, look, put_first};
+use sg_commit::{CommitKind, Digest, Opening, opens};
+use sg_forms::{CodeLine, RowOpening};
+use sg_plan::{Items, NoMemory};
+use std::alloc::Global;
+
+/// The first commitment of each entry's code, and of each row's pointers.
+#[derive(Debug, Drop)]
+pub struct Commitments {
+    pub codes: Items<Option<Digest>>,
+    pub lefts: Items<Option<Digest>>,
+    pub rights: Items<Option<Digest>>,
+}
+
+impl Commitments {
+    /// None yet, for so many entries and rows.
+    pub fn make(alloc: Global, entries: usize, rows: usize) -> Result<Commitments, NoMemory>
+        ensures codes { IfOk result (λ made. made.codes ≡ replicate entries None) }
+        ensures lefts { IfOk result (λ made. made.lefts ≡ replicate rows None) }
+        ensures rights { IfOk result (λ made. made.rights ≡ replicate rows None) }
+    {
+        let codes = fill(alloc, None, entries)?;
+        let lefts = fill(alloc, None, rows)?;
+        let rights = fill(alloc, None, rows)?;
+        Ok(Commitments {
+            codes,
+            lefts,
+            rights,
+        })
+    }
+
+    /// Keeps the commitments of a row's pointers.
+    pub fn keep_row(&mut self, at: usize, left: Digest, right: Digest)
+        requires left { at < length self.old.lefts }
+        requires right { at < length self.old.rights }
+        ensures codes { self.new.codes ≡ self.old.codes }
+        ensures lefts { self.new.lefts ≡ with_first self.old.lefts at left }
+        ensures rights { self.new.rights ≡ with_first self.old.rights at right }
+    {
+        put_first(&mut self.lefts, at, left);
+        put_first(&mut self.rights, at, right);
+    }
+
+    /// The code does not open the commitment of its entry.
+    pub fn is_code_bad(&self, at: usize, race: u32, entry: u32, code: &CodeLine) -> bool
+        requires at { at < length self.now.codes }
+        requires race { race < 2 ^ 16 }
+        ensures { result ≡ not (opens_digest (slice_index_or self.now.codes at None) CommitKind.Q race 0 entry (code_opening code.now)) }
+    {
+        let opening = Opening {
+            key: code.key,
+            value: u32::from(code.code),
+        };
+        !opens_commitment(
+            look(&self.codes, at),
+            CommitKind::Q,
+            race,
+            0,
+            entry,
+            &opening,
+        )
+    }
+
+    /// A pointer that is opened does not open its commitment.
+    pub fn is_row_bad(
+        &self,
+        at: usize,
+        race: u32,
+        instance: u32,
+        row: u32,
+        left: Option<Opening>,
+        right: Option<Opening>,
+    ) -> bool
+        requires left { at < length self.now.lefts }
+        requires right { at < length self.now.rights }
+        requires race { race < 2 ^ 16 }
+        requires instance { instance < 2 ^ 16 }
+        ensures { result ≡ (bad_pointer_opening (slice_index_or self.now.lefts at None) CommitKind.L race instance row left || bad_pointer_opening (slice_index_or self.now.rights at None) CommitKind.R race instance row right) }
+    {
+        let bad_left = is_pointer_bad(
+            look(&self.lefts, at),
+            CommitKind::L,
+            race,
+            instance,
+            row,
+            left,
+        );
+        let bad_right = is_pointer_bad(
+            look(&self.rights, at),
+            CommitKind::R,
+            race,
+            instance,
+            row,
+            right,
+        );
+        bad_left || bad_right
+    }
+}
+
+/// The commitment is there, and this opens it.
+#[tactic(auto, using(crate::proofs::Texts::opened))]
+fn opens_commitment(
+    digest: Option<Digest>,
+    kind: CommitKind,
+    race: u32,
+    instance: u32,
+    place: u32,
+    opening: &Opening,
+) -> bool
+    requires race { race < 2 ^ 16 }
+    requires instance { instance < 2 ^ 16 }
+    ensures { result ≡ opens_digest digest kind race instance place opening.now }
+{
+    match digest {
+        Some(digest) => opens(&digest, kind, race, instance, place, opening),
+        None => false,
+    }
+}
+
+/// The pointer is opened, and does not open the commitment.
+fn is_pointer_bad(
+    digest: Option<Digest>,
+    kind: CommitKind,
+    race: u32,
+    instance: u32,
+    row: u32,
+    opening: Option<Opening>,
+) -> bool
+    requires race { race < 2 ^ 16 }
+    requires instance { instance < 2 ^ 16 }
+    ensures { result ≡ bad_pointer_opening digest kind race instance row opening }
+{
+    match opening {
+        Some(opening) => !opens_commitment(digest, kind, race, instance, row, &opening),
+        None => false,
+    }
+}
+
+/// The left pointer, where it is opened.
+pub fn left_opening(opening: &RowOpening) -> Option<Opening>
+    ensures { result ≡ left_of opening.now }
+{
+    match *opening {
+        RowOpening::Left(left) => Some(left),
+        RowOpening::Right(_) => None,
+        RowOpening::Both(left, _) => Some(left),
+    }
+}
+
+/// The right pointer, where it is opened.
+pub fn right_opening(opening: &RowOpening) -> Option<Opening>
+    ensures { result ≡ right_of opening.now }
+{
+    match *opening {
+        RowOpening::Left(_) => None,
+        RowOpening::Right(right) => Some(right),
+        RowOpening::Both(_, right) => Some(right),
+    }
+}

@@ -1,0 +1,460 @@
+//! The ledger: what its tables tell, what a line is judged by them, and how a line is kept in them.
+ghost use Rattle.std.specs.Prelude.{◌≡◌, ◌<◌, ◌==◌, ◌||◌, if◌then◌else◌, None, List, [], ◌∷◌, ◌++◌, IfOk, IsOk, OnOk, OnErr};
+ghost use Rattle.sg_check.specs.Kinds.{bad_flag, bad_opening, bad_pointer, first_bad};
+ghost use Rattle.sg_check.specs.Verdict.{total_on};
+ghost use Rattle.sg_forms.specs.Said.{said};
+ghost use Rattle.sg_ledger.specs.Reads.{code_kind, row_kind};
+ghost use Rattle.sg_plan.specs.Ballots.{r_rows, row_place};
+ghost use Rattle.sg_plan.specs.Limits.{fault_of};
+ghost use Rattle.sg_plan.specs.declared.plan.Plan.{Plan as PlanOf};
+ghost use Rattle.sg_record.specs.Placed.{Placed};
+ghost use Rattle.sg_record.specs.Placed.Placed.{CodeCommitAt, RowCommitAt, CodeAt, FlagsAt, PlacesAt, TotalAt, RowAt};
+ghost use Rattle.sg_record.specs.Spots.{IsPlacedIn, placed_at};
+
+use crate::bits::{Bits, is_flag_wrong};
+use crate::codes::Codes;
+use crate::commitments::{Commitments, left_opening, right_opening};
+use crate::paths::{is_path_bad, keep_path};
+use crate::pointers::{Pointers, is_pointer_bad, keep_pointer};
+use crate::sizes::{Sizes, count_candidates, count_votes, first_entry};
+use crate::tables::{fill, look, put_first, set_bits};
+use crate::told::{Told, tell};
+use sg_check::{Kind, Total};
+use sg_commit::Digest;
+use sg_forms::{CodeLine, Line, RowOpening};
+use sg_plan::{Items, NoMemory, Plan};
+use sg_record::{Block, Spot};
+use std::alloc::Global;
+
+/// How many places the table of votes has for each race: the most candidates of a race.
+const CANDIDATES: usize = 16;
+
+/// What the lines of a record have said so far.
+#[derive(Debug, Drop)]
+pub struct Ledger {
+    sizes: Sizes,
+    commitments: Commitments,
+    codes: Codes,
+    bits: Bits,
+    pointers: Pointers,
+    /// The place to which a row leads each entry, in any instance.
+    paths: Items<Option<u32>>,
+    totals: Items<Total>,
+}
+
+impl Ledger {
+    ghost use Rattle.sg_ledger.specs.Steps.{ledger_after};
+    ghost use Rattle.sg_ledger.specs.Tells.{AreOfPlan, IsSized, Tells, TellsSome, totals_placed};
+
+    /// Tables for a plan, in which nothing is told yet. All memory but that of the totals is taken here.
+    pub fn make(alloc: Global, plan: &Plan) -> Result<Ledger, NoMemory>
+        requires good { fault_of plan.now ≡ None }
+        ensures { IfOk result (λ ledger. (lines : List Placed) → AreOfPlan lines → Tells plan.now ledger lines) }
+    {
+        let sizes = Sizes::make(alloc, plan)?;
+        let entries = sizes.all_entries(plan);
+        let rows = sizes.all_rows(plan);
+        let commitments = Commitments::make(alloc, entries, rows)?;
+        let codes = Codes::make(alloc, entries)?;
+        let bits = Bits::make(alloc, entries, rows, CANDIDATES * plan.races.len())?;
+        let pointers = Pointers::make(alloc, rows)?;
+        let paths = fill(alloc, None, entries)?;
+        Ok(Ledger {
+            sizes,
+            commitments,
+            codes,
+            bits,
+            pointers,
+            paths,
+            totals: Items::new(alloc),
+        })
+    }
+
+    /// What the line in its place is bad in, against the lines told: all kinds but form and seal.
+    pub fn judge(&self, plan: &Plan, at: Spot, line: &Line) -> Option<Kind>
+        requires good { fault_of plan.now ≡ None }
+        requires placed { IsPlacedIn plan.now (placed_at at (said line.now)) }
+        requires some { TellsSome plan.now self.now }
+        ensures { (lines : List Placed) → Tells plan.now self.now lines → result ≡ first_bad plan.now lines (placed_at at (said line.now)) }
+    {
+        match tell(at, line) {
+            Told::CodeCommit(..) => None,
+            Told::RowCommit(..) => None,
+            Told::Code(block, ballot, race, column, code) => self.judge_code(
+                plan, block, ballot, race, column, &code,
+            ),
+            Told::Flags(..) => None,
+            Told::Places(..) => None,
+            Told::Total(race, candidate, count) => self.judge_total(plan, race, candidate, count),
+            Told::Row(race, instance, row, opening) => self.judge_row(
+                plan, race, instance, row, &opening,
+            ),
+            Told::Nothing => None,
+        }
+    }
+
+    /// Tells one more line, in which nothing is bad. Only the line of a total takes memory.
+    pub fn keep(&mut self, plan: &Plan, at: Spot, line: &Line) -> Result<(), NoMemory>
+        requires good { fault_of plan.now ≡ None }
+        requires placed { IsPlacedIn plan.now (placed_at at (said line.now)) }
+        requires some { TellsSome plan.now self.old }
+        ensures ok { OnOk result ((lines : List Placed) → Tells plan.now self.old lines → first_bad plan.now lines (placed_at at (said line.now)) ≡ None → Tells plan.now self.new (lines ++ placed_at at (said line.now) ∷ [])) }
+        ensures err { OnErr result (self.new ≡ self.old) }
+        ensures memory { total_on (placed_at at (said line.now)) ≡ [] → IsOk result }
+    {
+        self.write(plan, at, line)
+    }
+
+    /// The totals told, in the order of their lines.
+    pub fn totals(self) -> Items<Total>
+        ensures { (plan : PlanOf) (lines : List Placed) → Tells plan self lines → result ≡ totals_placed lines }
+    {
+        self.totals
+    }
+
+    /// What a code in a block is bad in.
+    fn judge_code(
+        &self,
+        plan: &Plan,
+        block: Block,
+        ballot: u32,
+        race: u32,
+        column: u32,
+        code: &CodeLine,
+    ) -> Option<Kind>
+        requires good { fault_of plan.now ≡ None }
+        requires placed { IsPlacedIn plan.now (CodeAt block ballot race column code.now) }
+        requires sized { IsSized plan.now self.now }
+        ensures { (lines : List Placed) → Tells plan.now self.now lines → result ≡ first_bad plan.now lines (CodeAt block ballot race column code.now) }
+    {
+        let first = first_entry(plan, race, ballot, column);
+        let at = self.sizes.entry_place(plan, race, first);
+        let own = at + column as usize;
+        let opening = self
+            .commitments
+            .is_code_bad(own, race, first + column, code);
+        let many = self.codes.has_enough(block, at, count_votes(plan, race));
+        let candidates = count_candidates(plan, race);
+        let against = self
+            .codes
+            .are_against(at, candidates, column as usize, code.code);
+        kind_of_code(opening, many, against)
+    }
+
+    /// What a total is bad in.
+    fn judge_total(&self, plan: &Plan, race: u32, candidate: u32, count: u32) -> Option<Kind>
+        requires good { fault_of plan.now ≡ None }
+        requires placed { IsPlacedIn plan.now (TotalAt race candidate count) }
+        requires sized { IsSized plan.now self.now }
+        ensures { (lines : List Placed) → Tells plan.now self.now lines → result ≡ first_bad plan.now lines (TotalAt race candidate count) }
+    {
+        let votes = look(
+            &self.bits.votes,
+            CANDIDATES * race as usize + candidate as usize,
+        );
+        kind_of_total(votes, count)
+    }
+
+    /// What the opening of a row is bad in.
+    fn judge_row(
+        &self,
+        plan: &Plan,
+        race: u32,
+        instance: u32,
+        row: u32,
+        opening: &RowOpening,
+    ) -> Option<Kind>
+        requires good { fault_of plan.now ≡ None }
+        requires placed { IsPlacedIn plan.now (RowAt race instance row opening.now) }
+        requires sized { IsSized plan.now self.now }
+        ensures { (lines : List Placed) → Tells plan.now self.now lines → result ≡ first_bad plan.now lines (RowAt race instance row opening.now) }
+    {
+        let at = self.sizes.row_place(plan, race, instance, row);
+        let bad_opening = self.is_row_opening_bad(plan, at, race, instance, row, opening);
+        let bad_pointer = self.is_row_pointer_bad(plan, race, instance, row, opening);
+        let bad_flag = self.is_row_flag_bad(plan, at, race, instance, row, opening);
+        let bad_path = is_path_bad(&self.paths, &self.sizes, plan, race, opening);
+        kind_of_row(bad_opening, bad_pointer, bad_flag, bad_path)
+    }
+
+    /// A pointer that the row opens does not open its commitment.
+    fn is_row_opening_bad(
+        &self,
+        plan: &Plan,
+        at: usize,
+        race: u32,
+        instance: u32,
+        row: u32,
+        opening: &RowOpening,
+    ) -> bool
+        requires good { fault_of plan.now ≡ None }
+        requires placed { IsPlacedIn plan.now (RowAt race instance row opening.now) }
+        requires sized { IsSized plan.now self.now }
+        requires at { at ≡ row_place plan.now race instance row }
+        requires within { at < r_rows plan.now }
+        ensures { (lines : List Placed) → Tells plan.now self.now lines → result ≡ bad_opening plan.now lines (RowAt race instance row opening.now) }
+    {
+        let left = left_opening(opening);
+        let right = right_opening(opening);
+        self.commitments
+            .is_row_bad(at, race, instance, row, left, right)
+    }
+
+    /// A pointer that the row opens is n or more, or was opened before.
+    fn is_row_pointer_bad(
+        &self,
+        plan: &Plan,
+        race: u32,
+        instance: u32,
+        row: u32,
+        opening: &RowOpening,
+    ) -> bool
+        requires good { fault_of plan.now ≡ None }
+        requires placed { IsPlacedIn plan.now (RowAt race instance row opening.now) }
+        requires sized { IsSized plan.now self.now }
+        ensures { (lines : List Placed) → Tells plan.now self.now lines → result ≡ bad_pointer plan.now lines (RowAt race instance row opening.now) }
+    {
+        let left = is_pointer_bad(
+            &self.pointers.lefts,
+            &self.sizes,
+            plan,
+            race,
+            instance,
+            left_opening(opening),
+        );
+        let right = is_pointer_bad(
+            &self.pointers.rights,
+            &self.sizes,
+            plan,
+            race,
+            instance,
+            right_opening(opening),
+        );
+        is_either(left, right)
+    }
+
+    /// The row's flag disagrees with an entry's mark or with a place's bit.
+    fn is_row_flag_bad(
+        &self,
+        plan: &Plan,
+        at: usize,
+        race: u32,
+        instance: u32,
+        row: u32,
+        opening: &RowOpening,
+    ) -> bool
+        requires placed { IsPlacedIn plan.now (RowAt race instance row opening.now) }
+        requires sized { IsSized plan.now self.now }
+        requires at { at ≡ row_place plan.now race instance row }
+        requires within { at < r_rows plan.now }
+        ensures { (lines : List Placed) → Tells plan.now self.now lines → result ≡ bad_flag plan.now lines (RowAt race instance row opening.now) }
+    {
+        let flag = look(&self.bits.flagged, at);
+        let left = is_flag_wrong(
+            &self.codes.marked,
+            &self.sizes,
+            plan,
+            race,
+            flag,
+            left_opening(opening),
+        );
+        let right = is_flag_wrong(
+            &self.bits.places,
+            &self.sizes,
+            plan,
+            race,
+            flag,
+            right_opening(opening),
+        );
+        is_either(left, right)
+    }
+
+    /// Puts what the line tells into the tables.
+    fn write(&mut self, plan: &Plan, at: Spot, line: &Line) -> Result<(), NoMemory>
+        requires good { fault_of plan.now ≡ None }
+        requires placed { IsPlacedIn plan.now (placed_at at (said line.now)) }
+        requires sized { IsSized plan.now self.old }
+        ensures ok { OnOk result (self.new ≡ ledger_after plan.now self.old (placed_at at (said line.now))) }
+        ensures err { OnErr result (self.new ≡ self.old) }
+        ensures memory { total_on (placed_at at (said line.now)) ≡ [] → IsOk result }
+    {
+        match tell(at, line) {
+            Told::CodeCommit(race, entry, digest) => self.write_code_commit(
+                plan, race, entry, digest,
+            ),
+            Told::RowCommit(race, instance, row, left, right) => self.write_row_commit(
+                plan, race, instance, row, left, right,
+            ),
+            Told::Code(block, ballot, race, column, code) => self.write_code(
+                plan, block, ballot, race, column, &code,
+            ),
+            Told::Flags(race, instance, from, bits) => self.write_flags(
+                plan, race, instance, from, bits,
+            ),
+            Told::Places(race, from, bits) => self.write_places(plan, race, from, bits),
+            Told::Total(race, candidate, count) => {
+                return self.totals.push(Total {
+                    race,
+                    candidate,
+                    count,
+                });
+            }
+            Told::Row(race, instance, row, opening) => self.write_row(
+                plan, race, instance, row, &opening,
+            ),
+            Told::Nothing => (),
+        }
+        Ok(())
+    }
+
+    /// Keeps the commitment of a code.
+    fn write_code_commit(&mut self, plan: &Plan, race: u32, entry: u32, digest: Digest)
+        requires placed { IsPlacedIn plan.now (CodeCommitAt race entry digest) }
+        requires sized { IsSized plan.now self.old }
+        ensures { self.new ≡ ledger_after plan.now self.old (CodeCommitAt race entry digest) }
+    {
+        let at = self.sizes.entry_place(plan, race, entry);
+        put_first(&mut self.commitments.codes, at, digest);
+    }
+
+    /// Keeps the commitments of a row's pointers.
+    fn write_row_commit(
+        &mut self,
+        plan: &Plan,
+        race: u32,
+        instance: u32,
+        row: u32,
+        left: Digest,
+        right: Digest,
+    )
+        requires good { fault_of plan.now ≡ None }
+        requires placed { IsPlacedIn plan.now (RowCommitAt race instance row left right) }
+        requires sized { IsSized plan.now self.old }
+        ensures { self.new ≡ ledger_after plan.now self.old (RowCommitAt race instance row left right) }
+    {
+        let at = self.sizes.row_place(plan, race, instance, row);
+        self.commitments.keep_row(at, left, right);
+    }
+
+    /// Keeps a code that is shown, and the mark that it may be.
+    fn write_code(
+        &mut self,
+        plan: &Plan,
+        block: Block,
+        ballot: u32,
+        race: u32,
+        column: u32,
+        code: &CodeLine,
+    )
+        requires good { fault_of plan.now ≡ None }
+        requires placed { IsPlacedIn plan.now (CodeAt block ballot race column code.now) }
+        requires sized { IsSized plan.now self.old }
+        ensures { self.new ≡ ledger_after plan.now self.old (CodeAt block ballot race column code.now) }
+    {
+        let first = first_entry(plan, race, ballot, column);
+        let at = self.sizes.entry_place(plan, race, first);
+        self.codes.keep(block, at, column as usize, code.code);
+    }
+
+    /// Keeps flags.
+    fn write_flags(&mut self, plan: &Plan, race: u32, instance: u32, from: u32, bits: &[u8])
+        requires good { fault_of plan.now ≡ None }
+        requires placed { IsPlacedIn plan.now (FlagsAt race instance from bits.now) }
+        requires sized { IsSized plan.now self.old }
+        ensures { self.new ≡ ledger_after plan.now self.old (FlagsAt race instance from bits.now) }
+    {
+        let at = self.sizes.row_place(plan, race, instance, from);
+        set_bits(&mut self.bits.flagged, at, bits);
+    }
+
+    /// Keeps bits of places, and counts their votes.
+    fn write_places(&mut self, plan: &Plan, race: u32, from: u32, bits: &[u8])
+        requires good { fault_of plan.now ≡ None }
+        requires placed { IsPlacedIn plan.now (PlacesAt race from bits.now) }
+        requires sized { IsSized plan.now self.old }
+        ensures { self.new ≡ ledger_after plan.now self.old (PlacesAt race from bits.now) }
+    {
+        let at = self.sizes.entry_place(plan, race, from);
+        let first = CANDIDATES * race as usize;
+        let candidates = count_candidates(plan, race);
+        self.bits
+            .keep_places(at, first, candidates, from as usize, bits);
+    }
+
+    /// Keeps the pointers that a row opens, and the path of its entry.
+    fn write_row(&mut self, plan: &Plan, race: u32, instance: u32, row: u32, opening: &RowOpening)
+        requires good { fault_of plan.now ≡ None }
+        requires placed { IsPlacedIn plan.now (RowAt race instance row opening.now) }
+        requires sized { IsSized plan.now self.old }
+        ensures { self.new ≡ ledger_after plan.now self.old (RowAt race instance row opening.now) }
+    {
+        let left = left_opening(opening);
+        let right = right_opening(opening);
+        keep_pointer(
+            &mut self.pointers.lefts,
+            &self.sizes,
+            plan,
+            race,
+            instance,
+            left,
+        );
+        keep_pointer(
+            &mut self.pointers.rights,
+            &self.sizes,
+            plan,
+            race,
+            instance,
+            right,
+        );
+        keep_path(&mut self.paths, &self.sizes, plan, race, opening);
+    }
+}
+
+/// One of two sides is bad.
+fn is_either(left: bool, right: bool) -> bool
+    ensures { result ≡ (left || right) }
+{
+    left || right
+}
+
+/// The first kind in which a code is bad: it does not open its commitment, or there are too many marks, or a code is
+/// against it.
+fn kind_of_code(opening: bool, many: bool, against: bool) -> Option<Kind>
+    ensures { result ≡ code_kind opening (many || against) }
+{
+    if opening {
+        Some(Kind::Opening)
+    } else if many || against {
+        Some(Kind::Rule)
+    } else {
+        None
+    }
+}
+
+/// The total is not the number of votes counted.
+fn kind_of_total(votes: u64, count: u32) -> Option<Kind>
+    ensures { result ≡ (if votes == count then None else Some Kind.Total) }
+{
+    if votes == u64::from(count) {
+        None
+    } else {
+        Some(Kind::Total)
+    }
+}
+
+/// The first kind in which a row is bad.
+fn kind_of_row(opening: bool, pointer: bool, flag: bool, path: bool) -> Option<Kind>
+    ensures { result ≡ row_kind opening pointer flag path }
+{
+    if opening {
+        Some(Kind::Opening)
+    } else if pointer {
+        Some(Kind::Pointer)
+    } else if flag {
+        Some(Kind::Flag)
+    } else if path {
+        Some(Kind::Path)
+    } else {
+        None
+    }
+}

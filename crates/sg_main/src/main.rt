@@ -1,0 +1,64 @@
+//! The program: the real input and output, and `main`.
+#![tactic(auto)]
+
+mod streams;
+
+use sg_app::run;
+use sg_plan::{Items, NoMemory, Word};
+use std::process::ExitCode;
+use std::{env, io};
+use streams::{StdSink, StdSource};
+
+/// The status for words that are no command's.
+const BAD_WORDS: u8 = 2;
+
+/// The status for want of memory.
+const WANT_OF_MEMORY: u8 = 9;
+
+/// Why the words after the program's name were not had.
+enum WordFault {
+    /// A word is not UTF-8.
+    NotText,
+    /// Memory was wanted and not found.
+    NoMemory,
+}
+
+impl From<NoMemory> for WordFault {
+    fn from(_: NoMemory) -> WordFault {
+        WordFault::NoMemory
+    }
+}
+
+impl From<io::Error> for WordFault {
+    fn from(error: io::Error) -> WordFault {
+        match error.kind() {
+            io::ErrorKind::OutOfMemory => WordFault::NoMemory,
+            _ => WordFault::NotText,
+        }
+    }
+}
+
+/// The words after the program's name.
+fn words_of(rt: &HostRuntime) -> Result<Items<Word>, WordFault> {
+    let mut words = Items::new(rt.alloc());
+    for text in env::args(rt)?.skip(1) {
+        let mut word = Word::new(rt.alloc());
+        word.extend(text.as_bytes())?;
+        words.push(word)?;
+    }
+    Ok(words)
+}
+
+fn main(rt: HostRuntime) -> ExitCode {
+    let status = match words_of(&rt) {
+        Ok(words) => run(
+            rt.alloc(),
+            &words,
+            &mut StdSource::new(rt.stdin()),
+            &mut StdSink::new(rt.stdout()),
+        ),
+        Err(WordFault::NotText) => BAD_WORDS,
+        Err(WordFault::NoMemory) => WANT_OF_MEMORY,
+    };
+    ExitCode::from(status)
+}
