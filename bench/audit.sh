@@ -3,7 +3,8 @@
 #
 #   bench/audit.sh        (at the top of the repository; builds the program first)
 #
-# Prints, for each record: its size, both times (the best of five runs), their ratio, and the peak memory of `audit`.
+# Prints, for each record: its size, both times (the best of five runs), their ratio, and the most that the peak memory
+# of `audit` can be (what starts it has some 13 MB of its own).
 set -u
 cd "$(dirname "$0")/.." || exit 1
 made=bench/made
@@ -38,7 +39,7 @@ for shape in "2000 10 1" "20000 10 1" "12500 16 2" "20000 10 1 2000"; do
 import sys
 ballots, candidates, runs, size, audit, sha, memory, first = sys.argv[1:]
 rows, size, audit, sha = int(ballots) * int(candidates), int(size), float(audit), float(sha)
-print("rows %d  runs %s  bytes %d  audit %.3f s (%s)  sha256sum %.3f s  ratio %.2f  peak memory %.1f MB (%.2f of the record)"
+print("rows %d  runs %s  bytes %d  audit %.3f s (%s)  sha256sum %.3f s  ratio %.2f  peak memory at most %.1f MB (%.2f of the record)"
       % (rows, runs, size, audit, first, sha, audit / sha, int(memory) / 1024, int(memory) * 1024 / size))
 PY
 done
