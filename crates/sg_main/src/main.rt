@@ -24,6 +24,11 @@ enum WordFault {
 }
 
 impl From<NoMemory> for WordFault {
+    ghost use Rattle.std.specs.Prelude.{◌≡◌};
+    ghost use Rattle.sg_main.specs.declared.WordFault.TheVariants.{NoMemory};
+
+    ghost from_gives = { λ _ e. e ≡ NoMemory };
+
     fn from(_: NoMemory) -> WordFault {
         WordFault::NoMemory
     }

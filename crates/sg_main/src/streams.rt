@@ -13,7 +13,9 @@ pub struct StdSource {
 
 impl StdSource {
     /// With no fault counted.
-    pub fn new(stdin: Stdin) -> StdSource {
+    pub fn new(stdin: Stdin) -> StdSource
+        ensures { result.faults ≡ 0 }
+    {
         StdSource { stdin, faults: 0 }
     }
 }
@@ -43,7 +45,9 @@ pub struct StdSink {
 
 impl StdSink {
     /// With no fault counted.
-    pub fn new(stdout: Stdout) -> StdSink {
+    pub fn new(stdout: Stdout) -> StdSink
+        ensures { result.faults ≡ 0 }
+    {
         StdSink { stdout, faults: 0 }
     }
 
