@@ -1,10 +1,10 @@
 #!/usr/bin/env bash
-# Times `audit` beside `sha256sum` of the same file, at about 20,000 and 200,000 rows of table R.
+# Times `audit` beside `sha256sum` of the same file, over records of 20,000 to 200,000 rows of table R.
 #
-#   bench/audit.sh        (at the top of the repository; builds the program first)
+#   bench/audit.sh        (at the top of the repository; builds the program first, and makes the records once)
 #
-# Prints, for each record: its size, both times (the best of five runs), their ratio, and the most that the peak memory
-# of `audit` can be (what starts it has some 13 MB of its own).
+# Prints, for each record: its rows and bytes, both times (the best of five runs), their ratio, the report's first line,
+# and the most that the peak memory of `audit` can be (what starts it has some 13 MB of its own).
 set -u
 cd "$(dirname "$0")/.." || exit 1
 made=bench/made
@@ -12,6 +12,7 @@ mkdir -p "$made"
 (cd crates/sg_main && rt run -- audit < stdin) > /dev/null || exit 1
 program=$(ls -t crates/sg_main/out/sg_main crates/sg_main/out/*/sg_main 2>/dev/null | head -1)
 [ -x "$program" ] || { echo "no program was built"; exit 1; }
+zeros=$(printf '0%.0s' {1..64})
 
 # best of five, in seconds
 best() {
@@ -28,18 +29,29 @@ print("%.4f %d" % (min(times), resource.getrusage(resource.RUSAGE_CHILDREN).ru_m
 PY
 }
 
-for shape in "2000 10 1" "20000 10 1" "12500 16 2" "20000 10 1 2000"; do
-    set -- $shape
-    record=$made/$1-$2-v$3-r${4:-1}.record
-    [ -f "$record" ] || python3 bench/narrowed_record.py "$1" "$2" --version "$3" --runs "${4:-1}" > "$record" || exit 1
+# a name, and what bench/record.py is to make
+measure() {
+    name=$1
+    shift
+    record=$made/$name.record
+    [ -f "$record" ] || python3 bench/record.py "$@" > "$record" || exit 1
     first=$("$program" audit < "$record" | head -1)
     read -r audit_time memory <<< "$(best "$record" "$program" audit)"
     read -r hash_time _ <<< "$(best "$record" sha256sum)"
-    python3 - "$1" "$2" "${4:-1}" "$(stat -c %s "$record")" "$audit_time" "$hash_time" "$memory" "$first" <<'PY'
+    python3 - "$name" "$(grep -c '^row-commit' "$record")" "$(stat -c %s "$record")" "$audit_time" "$hash_time" "$memory" "$first" <<'PY'
 import sys
-ballots, candidates, runs, size, audit, sha, memory, first = sys.argv[1:]
-rows, size, audit, sha = int(ballots) * int(candidates), int(size), float(audit), float(sha)
-print("rows %d  runs %s  bytes %d  audit %.3f s (%s)  sha256sum %.3f s  ratio %.2f  peak memory at most %.1f MB (%.2f of the record)"
-      % (rows, runs, size, audit, first, sha, audit / sha, int(memory) / 1024, int(memory) * 1024 / size))
+name, rows, size, audit, sha, memory, first = sys.argv[1:]
+size, audit, sha = int(size), float(audit), float(sha)
+print("%-24s rows %-6s bytes %-8d audit %.3f s (%s)  sha256sum %.3f s  ratio %.2f  %.0f MB/s  peak memory at most %.1f MB"
+      % (name, rows, size, audit, first, sha, audit / sha, size / audit / 1e6, int(memory) / 1024))
 PY
-done
+}
+
+measure full-20000 2000 10
+measure full-200000 20000 10
+measure full-200000-version-2 12500 16 --version 2
+measure public-20000 800 5 --instances 5 --draw "$zeros" --audited 20 --spoiled 20
+measure public-200000 8000 5 --instances 5 --draw "$zeros" --audited 200 --spoiled 200
+measure town 1700 4,3 --instances 5 --draw "$zeros" --audited 50 --spoiled 50
+measure runs-20000 20000 2 --instances 5 --runs 20000 --draw "$zeros"
+measure longest 12500 16 --version 2 --disputes 10000

@@ -1,3 +1,4 @@
 mod Forms
 mod Judging
 mod Reporting
+mod Taking

@@ -1,14 +1,16 @@
 -- How an audit ends, and with which status.
-use Rattle.std.specs.Prelude.{◌≡◌, ℕ, ◌⊎◌, List, Option, IfSome}
-use Rattle.std.specs.Io.KnownBytes.{Appends, IsAtEnd, Keeps}
+use Rattle.std.specs.Prelude.{◌≡◌, ℕ, ◌+◌, ◌<◌, ◌≤◌, ◌⊎◌, false, List, ◌++◌, length, take, Option, IfSome}
+use Rattle.std.specs.List.{concat}
+use Rattle.std.specs.Io.KnownBytes.{Appends, Consumes, IsAtEnd, Keeps}
 use Rattle.sg_outside.specs.Faults.{Rose}
 use Rattle.sg_outside.specs.Streams.{AppendsFront}
-use Rattle.sg_outside.specs.TextLines.{lines_of}
-use Rattle.sg_check.specs.Verdict.{IsVerdict}
-use Rattle.sg_check.specs.declared.verdict.Judged.{Judged}
-use Rattle.sg_check.specs.declared.verdict.Judged.TheVariants.{Yes, No}
-use Rattle.sg_check.specs.declared.verdict.Kind.{Kind}
-use Rattle.sg_check.specs.declared.verdict.Total.{Total}
+use Rattle.sg_outside.specs.TextLines.{AreLines, HasNoFeed, lines_of}
+use Rattle.sg_check.specs.Verdict.{AreFine, IsVerdict}
+use Rattle.sg_check.specs.declared.judged.Judged.{Judged}
+use Rattle.sg_check.specs.declared.judged.Judged.TheVariants.{Yes, No}
+use Rattle.sg_check.specs.declared.judged.Kind.{Kind}
+use Rattle.sg_check.specs.declared.judged.Total.{Total}
+use Rattle.sg_pass.specs.Pass.{is_behind_plan}
 use Rattle.sg_app.specs.Report.{report_of}
 use Rattle.sg_app.specs.declared.audit.Ending.{Ending}
 use Rattle.sg_app.specs.declared.audit.Ending.TheVariants as ending
@@ -24,16 +26,42 @@ pub record Seen : Type 0 where
 abbrev pub Judges : Option (List ℕ) → Judged → Type 0
 Judges known judged = IfSome known (λ bytes. IsVerdict (lines_of bytes) judged)
 
--- a yes has read the input to its end
-abbrev pub HasReadAll : Judged → Option (List ℕ) → Type 0
-HasReadAll (Yes totals) left = IsAtEnd left
-HasReadAll (No line broken) left = Unit {0}
+-- what was taken ends, where the bytes are told, fewer than 16,384 bytes behind the end of the line of this number; a
+-- number past the last line stands for that one
+pub record TookUpTo (number : ℕ) (before now : Option (List ℕ)) : Type 0 where
+  pub front : List ℕ
+  pub taken : Consumes before now front
+  pub few : IfSome before (λ bytes. length front < length (concat (take number (lines_of bytes))) + 16384)
+
+-- a yes has read the input to its end, and a no took fewer than 16,384 bytes behind the line that it names
+abbrev pub HasRead : Judged → Option (List ℕ) → Option (List ℕ) → Type 0
+HasRead (Yes totals) before now = IsAtEnd now
+HasRead (No line broken) before now = TookUpTo line before now
+
+-- of these bytes whole lines that are fine were taken, and behind them fewer than 16,384 bytes, without a line feed
+pub record TookFine (before now : Option (List ℕ)) : Type 0 where
+  pub done : List (List ℕ)
+  pub rest : List ℕ
+  pub lines : AreLines done
+  pub fine : AreFine done
+  pub unended : HasNoFeed rest
+  pub few : length rest < 16384
+  pub taken : Consumes before now (concat done ++ rest)
+
+-- of these bytes fine lines of the plan were taken, and at most the bytes of one more line or as many
+pub record TookHeader (before now : Option (List ℕ)) : Type 0 where
+  pub done : List (List ℕ)
+  pub rest : List ℕ
+  pub fine : AreFine done
+  pub header : is_behind_plan done ≡ false
+  pub few : length rest ≤ 16384
+  pub taken : Consumes before now (concat done ++ rest)
 
 -- what was heard of a source
 abbrev pub Hears : Heard → Seen → Seen → Type 0
-Hears (heard.Verdict judged) input input' = Judges input.bytes judged × HasReadAll judged input'.bytes
-Hears heard.Fault input input' = Rose input.faults input'.faults
-Hears heard.NoMemory input input' = Unit {0}
+Hears (heard.Verdict judged) input input' = Judges input.bytes judged × HasRead judged input.bytes input'.bytes
+Hears heard.Fault input input' = Rose input.faults input'.faults × TookFine input.bytes input'.bytes
+Hears heard.NoMemory input input' = TookHeader input.bytes input'.bytes
 
 -- the report of a verdict was written, or a front of it where the output failed
 abbrev pub Writes : Ending → Judged → Seen → Seen → Type 0
@@ -45,12 +73,13 @@ Writes ending.NoMemory judged out out' = ⊥
 -- how an audit ended: the input and the output, before and after it
 abbrev pub AuditEnds : Ending → Seen → Seen → Seen → Seen → Type 0
 AuditEnds (ending.Done judged) input input' out out' =
-    Judges input.bytes judged × HasReadAll judged input'.bytes × Appends out.bytes out'.bytes (report_of judged)
+    Judges input.bytes judged × HasRead judged input.bytes input'.bytes × Appends out.bytes out'.bytes (report_of judged)
 AuditEnds ending.ReadFault input input' out out' =
-    Rose input.faults input'.faults × Keeps out.bytes out'.bytes
+    Rose input.faults input'.faults × TookFine input.bytes input'.bytes × Keeps out.bytes out'.bytes
 AuditEnds (ending.WriteFault judged) input input' out out' =
     Judges input.bytes judged × Rose out.faults out'.faults × AppendsFront out.bytes out'.bytes (report_of judged)
-AuditEnds ending.NoMemory input input' out out' = Keeps out.bytes out'.bytes
+AuditEnds ending.NoMemory input input' out out' =
+    TookHeader input.bytes input'.bytes × Keeps out.bytes out'.bytes
 
 -- WHAT EACH STATUS SAYS
 
@@ -61,16 +90,20 @@ pub record SaysYes (input input' out out' : Seen) : Type 0 where
   pub read : IsAtEnd input'.bytes
   pub written : Appends out.bytes out'.bytes (report_of (Yes totals))
 
--- 1: the verdict is no, and the report was written whole
-pub record SaysNo (input out out' : Seen) : Type 0 where
+-- 1: the verdict is no, fewer than 16,384 bytes behind the line that it names were taken, and the report was written
+-- whole
+pub record SaysNo (input input' out out' : Seen) : Type 0 where
   pub line : ℕ
   pub broken : Kind
   pub judged : Judges input.bytes (No line broken)
+  pub read : TookUpTo line input.bytes input'.bytes
   pub written : Appends out.bytes out'.bytes (report_of (No line broken))
 
--- 3: the input's count of faults rose, and nothing was written
+-- 3: the input's count of faults rose; what was taken of it are whole lines that are fine, and bytes without a line feed
+-- behind them; and nothing was written
 pub record ReadFails (input input' out out' : Seen) : Type 0 where
   pub cause : Rose input.faults input'.faults
+  pub taken : TookFine input.bytes input'.bytes
   pub written : Keeps out.bytes out'.bytes
 
 -- 4: the output's count of faults rose, and a front of the verdict's report was written
@@ -80,14 +113,19 @@ pub record WriteFails (input out out' : Seen) : Type 0 where
   pub judged : Judges input.bytes verdict
   pub written : AppendsFront out.bytes out'.bytes (report_of verdict)
 
+-- 9: memory was wanted before the first line behind the plan was taken, and nothing was written
+pub record WantsMemory (input input' out out' : Seen) : Type 0 where
+  pub taken : TookHeader input.bytes input'.bytes
+  pub written : Keeps out.bytes out'.bytes
+
 -- how an audit ended, by its status: there is no other
 abbrev pub AuditSays : ℕ → Seen → Seen → Seen → Seen → Type 0
 AuditSays status input input' out out' =
     ((status ≡ 0) × SaysYes input input' out out')
-    ⊎ ((status ≡ 1) × SaysNo input out out')
+    ⊎ ((status ≡ 1) × SaysNo input input' out out')
     ⊎ ((status ≡ 3) × ReadFails input input' out out')
     ⊎ ((status ≡ 4) × WriteFails input out out')
-    ⊎ ((status ≡ 9) × Keeps out.bytes out'.bytes)
+    ⊎ ((status ≡ 9) × WantsMemory input input' out out')
 
 abbrev pub status_of_verdict : Judged → ℕ
 status_of_verdict (Yes totals) = 0

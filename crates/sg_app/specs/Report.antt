@@ -1,10 +1,10 @@
 -- The report of an audit (this project's formats).
 use Rattle.std.specs.Prelude.{ℕ, List, [], ◌∷◌, ◌++◌, codes, decimal}
-use Rattle.sg_check.specs.declared.verdict.Judged.{Judged}
-use Rattle.sg_check.specs.declared.verdict.Judged.TheVariants.{Yes, No}
-use Rattle.sg_check.specs.declared.verdict.Kind.{Kind}
-use Rattle.sg_check.specs.declared.verdict.Kind.TheVariants as kind
-use Rattle.sg_check.specs.declared.verdict.Total.{Total}
+use Rattle.sg_check.specs.declared.judged.Judged.{Judged}
+use Rattle.sg_check.specs.declared.judged.Judged.TheVariants.{Yes, No}
+use Rattle.sg_check.specs.declared.judged.Kind.{Kind}
+use Rattle.sg_check.specs.declared.judged.Kind.TheVariants as kind
+use Rattle.sg_check.specs.declared.judged.Total.{Total}
 
 -- the word for a kind
 abbrev pub kind_word : Kind → List ℕ

@@ -1,7 +1,8 @@
-ghost use Rattle.std.specs.Prelude.{◌≡◌, [], false, true};
+ghost use Rattle.std.specs.Prelude.{◌≡◌, ℕ, List, [], Option, false, true};
 ghost use Rattle.sg_outside.specs.Cutting.{Cutting};
-ghost use Rattle.sg_pass.specs.Pass.{StandsFor, is_open};
+ghost use Rattle.sg_pass.specs.Pass.{StandsFor, is_open, is_ready};
 ghost use Rattle.sg_app.specs.Audit.{AuditEnds, Hears, Seen, Writes, status_in, status_of_verdict};
+ghost use Rattle.sg_app.specs.Feeding.{IsFed, IsFedSome};
 
 use crate::report::write_report;
 use sg_check::Judged;
@@ -87,13 +88,18 @@ fn hear<S: Source>(alloc: Global, input: &mut S) -> Heard
     let Ok(lines) = Lines::new(alloc, LONGEST_LINE) else {
         return Heard::NoMemory;
     };
-    judge(Pass::new(alloc), lines, input)
+    let Ok(pass) = Pass::new(alloc) else {
+        return Heard::NoMemory;
+    };
+    judge(pass, lines, input)
 }
 
-/// Feeds the lines to a pass, up to the first that is bad.
+/// Feeds the lines to a pass, up to the first that is bad: here those of the plan and the first behind them. All
+/// memory is taken here.
 fn judge<S: Source>(pass: Pass, lines: Lines, input: &mut S) -> Heard
     requires stands { StandsFor pass [] }
     requires open { is_open pass ≡ true }
+    requires before { is_ready pass ≡ false }
     requires fresh { lines ≡ record { limit = 16384; text = []; ahead = []; is_over = false } }
     ensures { Hears result (record { bytes = S.left input.old; faults = S.faults input.old }) (record { bytes = S.left input.new; faults = S.faults input.new }) }
 {
@@ -107,10 +113,36 @@ fn judge<S: Source>(pass: Pass, lines: Lines, input: &mut S) -> Heard
             Got::End => return Heard::Verdict(pass.end()),
             Got::ReadFault => return Heard::Fault,
         }
-        match pass.line(lines.text()) {
+        match pass.header_line(lines.text()) {
             Ok(Step::More) => {}
+            Ok(Step::Ready) => return judge_behind(pass, lines, input),
             Ok(Step::Over) => return Heard::Verdict(pass.end()),
             Err(_) => return Heard::NoMemory,
+        }
+    }
+}
+
+/// Feeds the lines behind those to the pass. It takes no memory.
+fn judge_behind<S: Source>(pass: Pass, lines: Lines, input: &mut S) -> Heard
+    requires fed { IsFedSome pass lines (S.left input.old) }
+    requires ready { is_ready pass ≡ true }
+    ensures { (before : Option (List ℕ)) → IsFed pass lines before (S.left input.old)
+        → Hears result (record { bytes = before; faults = S.faults input.old }) (record { bytes = S.left input.new; faults = S.faults input.new }) }
+{
+    let mut pass = pass;
+    let mut lines = lines;
+    loop {
+        match lines.next(input) {
+            Got::Line => {}
+            Got::Part => return Heard::Verdict(pass.end_at_no_line()),
+            Got::Long => return Heard::Verdict(pass.end_at_no_line()),
+            Got::End => return Heard::Verdict(pass.end()),
+            Got::ReadFault => return Heard::Fault,
+        }
+        match pass.line(lines.text()) {
+            Step::More => {}
+            Step::Ready => unreachable!(),
+            Step::Over => return Heard::Verdict(pass.end()),
         }
     }
 }

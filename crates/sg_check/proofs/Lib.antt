@@ -1,6 +1,11 @@
+pub mod CutLines
+pub mod FineLines
 pub mod Finding
 pub mod Judging
 pub mod Late
+pub mod Noting
 pub mod OfPlan
 pub mod OneMore
+pub mod Reading
+pub mod Taking
 pub mod Verdicts

@@ -2,17 +2,17 @@
 use Rattle.std.proofs.Common.{◌≡◌, ℕ, Bool, false, ◌||◌, List, [], ◌∷◌, ◌++◌, None, refl, ap, ◌∙◌}
 use Rattle.sg_forms.specs.Said.{Said}
 use Rattle.sg_plan.specs.declared.plan.Plan.{Plan}
-use Rattle.sg_record.specs.Placed.{Placed}
-use Rattle.sg_record.specs.Placed.Placed.{OfPlan}
-use Rattle.sg_record.specs.Walk.{Posted}
+use Rattle.sg_grammar.specs.Placed.{Placed}
+use Rattle.sg_grammar.specs.Placed.Placed.{OfPlan}
+use Rattle.sg_grammar.specs.Walk.{Posted}
 use Rattle.sg_check.proofs.Finding.{find-none}
 use Rattle.sg_check.specs.Kinds.{is_bad, placed_of}
 use Rattle.sg_check.specs.Verdict.{late, total_on, totals_in}
 use Rattle.sg_check.specs.Judging.{AreOfPlan, IsOfPlan, first_late, bad_in, later_kinds}
 use Rattle.sg_check.specs.Kinds.{kinds}
-use Rattle.sg_check.specs.declared.verdict.Kind.{Kind}
-use Rattle.sg_check.specs.declared.verdict.Kind.TheVariants as kind
-use Rattle.sg_check.specs.declared.verdict.Total.{Total}
+use Rattle.sg_check.specs.declared.judged.Kind.{Kind}
+use Rattle.sg_check.specs.declared.judged.Kind.TheVariants as kind
+use Rattle.sg_check.specs.declared.judged.Total.{Total}
 
 said-good : (k : Kind) (plan : Plan) (before : List Posted) (bytes : List ℕ) (said : Said) → is_bad k plan before (record { bytes = bytes; line = OfPlan said }) ≡ false
 said-good kind.Seal plan before bytes said = refl

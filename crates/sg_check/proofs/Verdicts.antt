@@ -5,11 +5,11 @@ use Rattle.std.proofs.lemmas.List.{take_all}
 use Rattle.std.proofs.lemmas.Option.{none-some, same_Some}
 use Rattle.sg_check.specs.Laws.{EndsAreJudged, FirstBadStays, FrontsAreFine, OneVerdict, SomeVerdict}
 use Rattle.sg_check.specs.Verdict.{AreFine, IsFirstBad, IsGood, IsVerdict, are_whole, least_broken, totals_of}
-use Rattle.sg_check.specs.declared.verdict.Judged.{Judged}
-use Rattle.sg_check.specs.declared.verdict.Judged.TheVariants as judged
-use Rattle.sg_check.specs.declared.verdict.Kind.{Kind}
-use Rattle.sg_check.specs.declared.verdict.Kind.TheVariants as kind
-use Rattle.sg_check.specs.declared.verdict.Total.{Total}
+use Rattle.sg_check.specs.declared.judged.Judged.{Judged}
+use Rattle.sg_check.specs.declared.judged.Judged.TheVariants as judged
+use Rattle.sg_check.specs.declared.judged.Kind.{Kind}
+use Rattle.sg_check.specs.declared.judged.Kind.TheVariants as kind
+use Rattle.sg_check.specs.declared.judged.Total.{Total}
 use Rattle.sg_check.proofs.OneMore.{fine-front, verdict-more}
 
 -- AT THE END

@@ -1,18 +1,21 @@
 -- What the lines of a record say: facts about coordinates, over the lines in their places
 -- (this project's rules for the record).
-use Rattle.std.specs.Prelude.{ℕ, ◌+◌, ◌-◌, ◌%◌, ◌==◌, nat_le, if◌then◌else◌, Bool, false, true, ◌&&◌, List, [], ◌∷◌, slice_get, Option, Some, None, sum_by}
+use Rattle.std.specs.Prelude.{ℕ, ◌+◌, ◌-◌, ◌%◌, ◌==◌, nat_le, if◌then◌else◌, Bool, false, true, ◌&&◌, List, [], ◌∷◌, slice_get, Option, Some, None, is_some, count_by, sum_by}
 use Rattle.std.specs.List.{list_any}
-use Rattle.std.specs.Option.{option_map_or}
+use Rattle.std.specs.Option.{option_map, option_map_or}
+use Rattle.std.specs.Result.{result_unwrap_or}
 use Rattle.sg_commit.specs.declared.Digest.{Digest}
 use Rattle.sg_commit.specs.declared.Opening.{Opening}
 use Rattle.sg_forms.specs.declared.line.RowOpening.{RowOpening}
 use Rattle.sg_forms.specs.declared.line.RowOpening.TheVariants as row
-use Rattle.sg_plan.specs.Ballots.{candidates_of, entry_at}
+use Rattle.sg_lines.specs.Words.{decode_of}
+use Rattle.sg_plan.specs.Ballots.{ballot_row, candidates_of, entry_at}
+use Rattle.sg_plan.specs.declared.plan.ClaimWord.{ClaimWord}
 use Rattle.sg_plan.specs.declared.plan.Plan.{Plan}
-use Rattle.sg_record.specs.Placed.{Placed}
-use Rattle.sg_record.specs.Placed.Placed.{CodeCommitAt, RowCommitAt, CodeAt, FlagsAt, PlacesAt, RowAt}
-use Rattle.sg_record.specs.declared.state.Block.{Block}
-use Rattle.sg_record.specs.declared.state.Block.TheVariants as block
+use Rattle.sg_grammar.specs.Placed.{Placed}
+use Rattle.sg_grammar.specs.Placed.Placed.{CodeCommitAt, RowCommitAt, CodeAt, PaperAt, FlagsAt, PlacesAt, DrawnFull, DrawnPublic, RowAt, Disputed}
+use Rattle.sg_grammar.specs.declared.state.Block.{Block}
+use Rattle.sg_grammar.specs.declared.state.Block.TheVariants as block
 
 -- the first value that a line gives
 abbrev pub first_given : {A B : Type 0} → (A → Option B) → List A → Option B
@@ -62,6 +65,16 @@ is_cast block.Cast = true
 is_cast block.Audited = false
 is_cast block.Dispute = false
 
+abbrev pub is_audit : Block → Bool
+is_audit block.Cast = false
+is_audit block.Audited = true
+is_audit block.Dispute = false
+
+abbrev pub is_dispute : Block → Bool
+is_dispute block.Cast = false
+is_dispute block.Audited = false
+is_dispute block.Dispute = true
+
 -- the line marks this entry: it shows its code in the block of a cast ballot
 abbrev pub marks_entry : Plan → ℕ → ℕ → Placed → Bool
 marks_entry plan race entry (CodeAt block ballot of column code) = is_cast block && (of == race && entry_at plan of ballot column == entry)
@@ -74,6 +87,38 @@ is_marked plan race entry lines = list_any (marks_entry plan race entry) lines
 abbrev pub marks_ballot : ℕ → ℕ → Placed → Bool
 marks_ballot ballot race (CodeAt block of in_race column code) = is_cast block && (of == ballot && in_race == race)
 marks_ballot ballot race line = false
+
+-- AUDITED BALLOTS
+
+-- the line shows the code of this entry in the block of an audited ballot
+abbrev pub audits_entry : Plan → ℕ → ℕ → Placed → Option ℕ
+audits_entry plan race entry (CodeAt block ballot of column code) = (if is_audit block && (of == race && entry_at plan of ballot column == entry) then Some code.code else None)
+audits_entry plan race entry line = None
+
+-- the code that an audited ballot shows of the entry: there is one exactly where the entry is of an audited ballot
+abbrev pub audited_code : Plan → ℕ → ℕ → List Placed → Option ℕ
+audited_code plan race entry lines = first_given (audits_entry plan race entry) lines
+
+abbrev pub is_audited : Plan → ℕ → ℕ → List Placed → Bool
+is_audited plan race entry lines = is_some (audited_code plan race entry lines)
+
+-- the line shows an entry of the race in the block of an audited ballot
+abbrev pub audits_race : ℕ → Placed → Bool
+audits_race race (CodeAt block ballot of column code) = is_audit block && of == race
+audits_race race line = false
+
+-- how many entries of audited ballots the race has: each is shown once in its ballot's block
+abbrev pub audited_entries : ℕ → List Placed → ℕ
+audited_entries race lines = count_by (audits_race race) lines
+
+-- the line shows what the paper of this ballot row has beside the candidate
+abbrev pub shows_paper : Plan → ℕ → ℕ → ℕ → Placed → Option ℕ
+shows_paper plan race row candidate (PaperAt ballot of list) = (if of == race && ballot_row plan of ballot == row then slice_get list candidate else None)
+shows_paper plan race row candidate line = None
+
+-- the code that was read from the paper of this ballot row beside the candidate
+abbrev pub paper_code : Plan → ℕ → ℕ → ℕ → List Placed → Option ℕ
+paper_code plan race row candidate lines = first_given (shows_paper plan race row candidate) lines
 
 -- FLAGS, PLACES AND TOTALS
 
@@ -137,3 +182,64 @@ opens_left race instance pointer line = false
 abbrev pub opens_right : ℕ → ℕ → ℕ → Placed → Bool
 opens_right race instance pointer (RowAt of within number opening) = (of == race && within == instance) && points_to pointer (right_of opening)
 opens_right race instance pointer line = false
+
+abbrev pub is_both : RowOpening → Bool
+is_both (row.Left opening) = false
+is_both (row.Right opening) = false
+is_both (row.Both left right) = true
+
+-- the line is a row of the instance that is opened on both sides
+abbrev pub opens_both : ℕ → ℕ → Placed → Bool
+opens_both race instance (RowAt of within number opening) = (of == race && within == instance) && is_both opening
+opens_both race instance line = false
+
+-- how many rows of the instance are opened on both sides
+abbrev pub both_rows : ℕ → ℕ → List Placed → ℕ
+both_rows race instance lines = count_by (opens_both race instance) lines
+
+-- THE DRAW
+
+-- the line says that each row is opened on both sides
+abbrev pub draws_full : Placed → Bool
+draws_full DrawnFull = true
+draws_full line = false
+
+abbrev pub is_full_draw : List Placed → Bool
+is_full_draw lines = list_any draws_full lines
+
+-- the line has these digits of the public bytes
+abbrev pub draws_digits : Placed → Option (List ℕ)
+draws_digits (DrawnPublic digits) = Some digits
+draws_digits line = None
+
+-- the bytes that hexadecimal digits spell
+abbrev pub bytes_of_digits : List ℕ → List ℕ
+bytes_of_digits digits = result_unwrap_or (decode_of digits) []
+
+-- the public bytes, where they were drawn
+abbrev pub public_bytes : List Placed → Option (List ℕ)
+public_bytes lines = option_map bytes_of_digits (first_given draws_digits lines)
+
+-- DISPUTES
+
+-- a claim that is under dispute: the code that is claimed, the office's answer, and the lines behind that one
+pub record Claim : Type 0 where
+  pub code : ℕ
+  pub answer : ClaimWord
+  pub behind : List Placed
+
+-- the last of the claims
+abbrev pub last_claim : List Placed → Option Claim
+last_claim [] = None
+last_claim (Disputed ballot race code word ∷ lines) = option_map_or Some (last_claim lines) (Some (record { code = code; answer = word; behind = lines }))
+last_claim (line ∷ lines) = last_claim lines
+
+-- the line marks an entry of this ballot in the race, and shows this code of it
+abbrev pub marks_code : ℕ → ℕ → ℕ → Placed → Bool
+marks_code ballot race code (CodeAt block of in_race column shown) = (is_cast block && (of == ballot && in_race == race)) && shown.code == code
+marks_code ballot race code line = false
+
+-- the line shows this code in the block of a dispute
+abbrev pub shows_disputed : ℕ → Placed → Bool
+shows_disputed code (CodeAt block ballot race column shown) = is_dispute block && shown.code == code
+shows_disputed code line = false

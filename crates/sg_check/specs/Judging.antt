@@ -1,13 +1,13 @@
 -- What one more line is judged in, behind lines that are fine.
 use Rattle.std.specs.Prelude.{List, [], ◌∷◌, find, Option}
 use Rattle.sg_plan.specs.declared.plan.Plan.{Plan}
-use Rattle.sg_record.specs.Placed.{Placed}
-use Rattle.sg_record.specs.Placed.Placed.{OfPlan}
-use Rattle.sg_record.specs.Walk.{Posted}
+use Rattle.sg_grammar.specs.Placed.{Placed}
+use Rattle.sg_grammar.specs.Placed.Placed.{OfPlan}
+use Rattle.sg_grammar.specs.Walk.{Posted}
 use Rattle.sg_check.specs.Kinds.{is_bad, kinds}
 use Rattle.sg_check.specs.Verdict.{late}
-use Rattle.sg_check.specs.declared.verdict.Kind.{Kind}
-use Rattle.sg_check.specs.declared.verdict.Kind.TheVariants as kind
+use Rattle.sg_check.specs.declared.judged.Kind.{Kind}
+use Rattle.sg_check.specs.declared.judged.Kind.TheVariants as kind
 
 -- the line is one of the plan
 abbrev pub IsOfPlan : Placed → Type 0

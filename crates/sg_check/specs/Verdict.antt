@@ -1,15 +1,15 @@
 -- The verdict on the lines of a record (this project's rules for the record).
 use Rattle.std.specs.Prelude.{◌≡◌, ℕ, ◌+◌, ◌<◌, ◌≤◌, Bool, true, false, ◌||◌, ◌⊎◌, List, [], ◌∷◌, ◌++◌, length, take, find, Option, Some, None, is_none}
 use Rattle.std.specs.Option.{option_map_or}
-use Rattle.sg_record.specs.Placed.{Placed}
-use Rattle.sg_record.specs.Placed.Placed.{TotalAt}
-use Rattle.sg_record.specs.Walk.{Posted, Walked, start, walk, is_whole}
+use Rattle.sg_grammar.specs.Placed.{Placed}
+use Rattle.sg_grammar.specs.Placed.Placed.{TotalAt}
+use Rattle.sg_grammar.specs.Walk.{Posted, Walked, start, walk, is_whole}
 use Rattle.sg_check.specs.Kinds.{is_bad, kinds}
-use Rattle.sg_check.specs.declared.verdict.Kind.{Kind}
-use Rattle.sg_check.specs.declared.verdict.Kind.TheVariants as kind
-use Rattle.sg_check.specs.declared.verdict.Judged.{Judged}
-use Rattle.sg_check.specs.declared.verdict.Judged.TheVariants as judged
-use Rattle.sg_check.specs.declared.verdict.Total.{Total}
+use Rattle.sg_check.specs.declared.judged.Kind.{Kind}
+use Rattle.sg_check.specs.declared.judged.Kind.TheVariants as kind
+use Rattle.sg_check.specs.declared.judged.Judged.{Judged}
+use Rattle.sg_check.specs.declared.judged.Judged.TheVariants as judged
+use Rattle.sg_check.specs.declared.judged.Total.{Total}
 
 -- one of the lines is bad against the lines before it; the first list stands before all of them
 abbrev pub late : {A : Type 0} → (List A → A → Bool) → List A → List A → Bool

@@ -1,5 +1,5 @@
 //! Laws of verdicts: what follows from the definitions alone. Each function does nothing, and its contract is proved.
-ghost use Rattle.sg_check.specs.Laws.{EndsAreJudged, FirstBadStays, FormIsJudged, FrontsAreFine, LineIsJudged, OneVerdict, SomeVerdict};
+ghost use Rattle.sg_check.specs.Laws.{CodesAreKnown, EndsAreJudged, FirstBadStays, FlagsAgree, FormIsJudged, FrontsAreFine, LineIsJudged, OneVerdict, OpeningsOpen, PathsAgree, PointersStandOnce, PrintsAgree, SidesAreDrawn, SomeVerdict, TotalsCount};
 
 /// Lines have at most one verdict.
 pub fn one_verdict_law()
@@ -34,4 +34,44 @@ pub fn form_law()
 /// Behind fine lines, one that may stand is judged alone, against the lines before it.
 pub fn line_law()
     ensures { LineIsJudged }
+{}
+
+/// Among fine lines an entry has one code, and two entries of a ballot in a race have different ones.
+pub fn codes_law()
+    ensures { CodesAreKnown }
+{}
+
+/// Among fine lines the pointers on a side of an instance are below n and different.
+pub fn pointers_law()
+    ensures { PointersStandOnce }
+{}
+
+/// Among fine lines a row is flagged exactly where its entry is marked, and exactly where its place is set.
+pub fn flags_law()
+    ensures { FlagsAgree }
+{}
+
+/// Among fine lines a total is the number of set places.
+pub fn counts_law()
+    ensures { TotalsCount }
+{}
+
+/// Among fine lines an entry leads to one place, and two entries of a ballot lead to different candidates.
+pub fn paths_law()
+    ensures { PathsAgree }
+{}
+
+/// Among fine lines what is opened opens its commitment.
+pub fn openings_law()
+    ensures { OpeningsOpen }
+{}
+
+/// Among fine lines each row is opened on the side that was drawn.
+pub fn sides_law()
+    ensures { SidesAreDrawn }
+{}
+
+/// Among fine lines rows agree with the audits of prints.
+pub fn prints_law()
+    ensures { PrintsAgree }
 {}

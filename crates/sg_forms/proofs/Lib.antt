@@ -5,6 +5,9 @@ pub mod WordKinds
 pub mod FormsFound
 pub mod FormsRead
 pub mod Plain
+pub mod Overwriting
 pub mod Lengths
 pub mod LineLaws
 pub mod FormLaws
+pub mod Written
+pub mod Drawn

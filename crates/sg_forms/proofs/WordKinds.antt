@@ -45,14 +45,14 @@ number_kind = record {
 -- ---- keys, digests and public bytes
 
 -- bytes in a list are bytes at each index, and past the end
-bytes_everywhere : (bytes : List ℕ) → All (λ byte. byte < 256) bytes → IsBytes bytes
+pub bytes_everywhere : (bytes : List ℕ) → All (λ byte. byte < 256) bytes → IsBytes bytes
 bytes_everywhere bytes all i = elim (cases_lt i (length bytes)) [
   | inl below ↦ All-get_or (λ byte. byte < 256) bytes i 0 below all
   | inr past ↦ rw (get_or_past bytes i 0 past) (omega arith)
 ]
 
 -- bytes at each index are those of the list
-bytes_in_list : (bytes : List ℕ) → IsBytes bytes → All (λ byte. byte < 256) bytes
+pub bytes_in_list : (bytes : List ℕ) → IsBytes bytes → All (λ byte. byte < 256) bytes
 bytes_in_list bytes everywhere = All-from_get_or (λ byte. byte < 256) bytes 0 (λ i below. everywhere i)
 
 -- a digit passes the test

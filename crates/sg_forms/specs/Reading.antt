@@ -4,13 +4,14 @@
 use Rattle.std.specs.Prelude.{ℕ, ◌-◌, ◌%◌, nat_le, ◌==◌, Bool, ◌&&◌, ◌||◌, if◌then◌else◌, List, [], ◌∷◌, length, take, Option, None, Some, bytes_eq, codes}
 use Rattle.std.specs.List.{slice_split, list_all}
 use Rattle.std.specs.Option.{option_map, option_and_then}
+use Rattle.std.specs.Result.{result_unwrap_or}
 use Rattle.std.specs.Io.BufRead.{ends_with_byte}
 use Rattle.sg_commit.specs.declared.Digest.{Digest}
 use Rattle.sg_commit.specs.declared.Key.{Key}
 use Rattle.sg_commit.specs.declared.Opening.{Opening}
 use Rattle.sg_plan.specs.declared.plan.ClaimWord.{ClaimWord}
 use Rattle.sg_plan.specs.declared.plan.ClaimWord.TheVariants.{Posted, Unposted, Absent}
-use Rattle.sg_lines.specs.Words.{decimal_of, key_of, digest_of, code_of}
+use Rattle.sg_lines.specs.Words.{decimal_of, decode_of, key_of, digest_of, code_of}
 use Rattle.sg_forms.specs.declared.line.RowOpening.TheVariants as row
 use Rattle.sg_forms.specs.Said.{Said}
 use Rattle.sg_forms.specs.Said.Said.{Version, Election, Instances, Race, Cand, Style, Ballots, CodeCommit, RowCommit, Seal, Cast, Spoiled, Audited, Code, Over, Paper, Flags, Places, Total, DrawFull, DrawPublic, Row, Dispute, Voided}
@@ -63,6 +64,10 @@ is_hex_sign byte = (nat_le 48 byte && nat_le byte 57) || (nat_le 97 byte && nat_
 -- 2 to 8,192 lower-case hexadecimal digits, an even number
 abbrev pub digits_of : List ℕ → Option (List ℕ)
 digits_of = kept_where (λ word. is_few 8192 word && ((length word % 2 == 0) && list_all is_hex_sign word))
+
+-- the public bytes that their hexadecimal digits stand for
+abbrev pub public_bytes : List ℕ → List ℕ
+public_bytes digits = result_unwrap_or (decode_of digits) []
 
 -- a dispute's answer
 abbrev pub claim_of : List ℕ → Option ClaimWord

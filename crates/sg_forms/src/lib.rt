@@ -2,19 +2,24 @@
 #![tactic(auto)]
 
 mod ballots;
+mod draw;
 mod kinds;
 mod laws;
 mod line;
 mod lists;
+mod parts;
 mod plan;
 mod read;
 mod results;
 mod rows;
 mod words;
+mod write;
 
+pub use draw::draw_bytes;
 pub use laws::{no_form_law, spelling_law};
 pub use line::{CodeLine, Line, RowOpening};
 pub use read::read_form;
+pub use write::write_line;
 
 #[cfg(test)]
 mod tests;

@@ -13,9 +13,9 @@ use Rattle.sg_ledger.specs.Tells.{AtCandidates, AtEntries, AtRows, candidate_pla
 use Rattle.sg_plan.proofs.PlanLaws.{entry_place-one, row_place-one}
 use Rattle.sg_plan.specs.Ballots.{all_entries, candidates_of, entries_of, entry_place, r_rows, row_place}
 use Rattle.sg_plan.specs.declared.plan.Plan.{Plan}
-use Rattle.sg_record.specs.Placed.{Placed}
-use Rattle.sg_record.specs.Placed.Placed.{FlagsAt, PlacesAt}
-use Rattle.sg_record.specs.Spots.{IsPlacedIn}
+use Rattle.sg_grammar.specs.Placed.{Placed}
+use Rattle.sg_grammar.specs.Placed.Placed.{FlagsAt, PlacesAt}
+use Rattle.sg_grammar.specs.Spots.{IsPlacedIn}
 
 -- a bit at a place is that of the coordinate, where `same` says that the coordinates before the last are those of the line
 bit_is : (at from place number : ℕ) (bits : List ℕ) (same : Bool) → (same ≡ true → place + from ≡ at + number) → (same ≡ false → at ≤ place → place < at + length bits → ⊥)

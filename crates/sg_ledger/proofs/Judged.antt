@@ -1,15 +1,16 @@
 -- What is looked up in the tables judges a line as the lines before it do.
 use Rattle.std.proofs.Common.{◌≡◌, ℕ, ◌+◌, ◌*◌, ◌/◌, ◌%◌, ◌<◌, ◌≤◌, ◌==◌, nat_lt, nat_le, min, inl, inr, if◌then◌else◌, Bool, true, false, not, ◌&&◌, ◌||◌, List, length, get_or, Option, Some, None, count_by, refl, sym, ap, ap₂, ◌∙◌, arith, eqb-true, eq-eqb, ne_eqb, ltb-true, le-ltb, le-leb}
-use Rattle.std.proofs.lemmas.Bool.{and_from, and_parts, and_right, both_ways, cases_eq, cases_lt, false_from_ne_true, false≢true, lt-leb, or_parts}
+use Rattle.std.proofs.lemmas.Bool.{and_from, and_parts, and_right, both_ways, cases_eq, cases_lt, false_from_ne_true, false≢true, leb-false, lt-leb, or_parts}
 use Rattle.std.proofs.lemmas.Nat.{div-add-mod', div-mul-add, mod_below}
 use Rattle.std.specs.List.{list_any}
 use Rattle.std.specs.Option.{option_map_or}
-use Rattle.sg_check.specs.Facts.{is_cast, marks_ballot}
-use Rattle.sg_check.specs.Kinds.{bad_flag, bad_opening, bad_path, bad_pointer, bad_rule, clashes_with, differ, first_bad, shows_against}
-use Rattle.sg_check.specs.declared.verdict.Kind.TheVariants as kind
+use Rattle.sg_check.specs.Facts.{is_cast, marks_ballot, opens_left}
+use Rattle.sg_check.specs.Kinds.{bad_dispute, bad_flag, bad_left_pointer, bad_opening, bad_path, bad_pointer, bad_print, bad_right_pointer, bad_rule, bad_side, clashes_with, differ, first_bad, shows_against}
+use Rattle.sg_check.specs.declared.judged.Kind.TheVariants as kind
 use Rattle.sg_commit.specs.declared.Opening.{Opening}
 use Rattle.sg_forms.specs.declared.line.CodeLine.{CodeLine}
 use Rattle.sg_forms.specs.declared.line.RowOpening.TheVariants as row
+use Rattle.sg_ledger.proofs.AuditSteps.{HasFresh}
 use Rattle.sg_ledger.proofs.KeptSteps.{AgreesWith, TellsKnown, TellsMarks}
 use Rattle.sg_ledger.proofs.Lists.{any-along, any-none}
 use Rattle.sg_ledger.proofs.PathSteps.{are_small}
@@ -20,10 +21,10 @@ use Rattle.sg_ledger.specs.Tells.{ArePlacedIn, TellsPaths, is_value, leads_entry
 use Rattle.sg_plan.proofs.PlanLaws.{entry_tells}
 use Rattle.sg_plan.specs.Ballots.{ballot_has, candidates_of, entries_of, entry_at, entry_place, rows_of, votes_of}
 use Rattle.sg_plan.specs.declared.plan.Plan.{Plan}
-use Rattle.sg_record.specs.Placed.{Placed}
-use Rattle.sg_record.specs.Placed.Placed.{CodeAt, RowAt}
-use Rattle.sg_record.specs.Spots.{IsPlacedIn}
-use Rattle.sg_record.specs.declared.state.Block.{Block}
+use Rattle.sg_grammar.specs.Placed.{Placed}
+use Rattle.sg_grammar.specs.Placed.Placed.{CodeAt, RowAt}
+use Rattle.sg_grammar.specs.Spots.{IsPlacedIn}
+use Rattle.sg_grammar.specs.declared.state.Block.{Block}
 
 -- THE COLUMNS OF A BALLOT
 
@@ -39,7 +40,7 @@ value_is : (kept : Option ℕ) (test : ℕ → Bool) → option_map_or test kept
 value_is None test passes = absurd (false≢true passes)
 value_is (Some value) test passes = (value, refl, passes)
 
-is_value-some : (kept : Option ℕ) (value : ℕ) → is_value kept value ≡ true → kept ≡ Some value
+pub is_value-some : (kept : Option ℕ) (value : ℕ) → is_value kept value ≡ true → kept ≡ Some value
 is_value-some None value is = absurd (false≢true is)
 is_value-some (Some k) value is = ap Some (eqb-true k value is)
 
@@ -254,27 +255,40 @@ total_kind false = refl
 
 -- WHERE NOTHING IS BAD
 
-code_kind-none : (opening rule : Bool) → code_kind opening rule ≡ None → rule ≡ false
-code_kind-none true rule none = absurd (cc)
-code_kind-none false true none = absurd (cc)
-code_kind-none false false none = refl
+code_kind-none : (opening rule dispute : Bool) → code_kind opening rule dispute ≡ None → rule ≡ false
+code_kind-none true rule dispute none = absurd (cc)
+code_kind-none false true dispute none = absurd (cc)
+code_kind-none false false dispute none = refl
 
-row_kind-none : (opening pointer flag path : Bool) → row_kind opening pointer flag path ≡ None → path ≡ false
-row_kind-none true pointer flag path none = absurd (cc)
-row_kind-none false true flag path none = absurd (cc)
-row_kind-none false false true path none = absurd (cc)
-row_kind-none false false false true none = absurd (cc)
-row_kind-none false false false false none = refl
+row_kind-none : (opening side pointer flag path print : Bool) → row_kind opening side pointer flag path print ≡ None → (pointer ≡ false) × (path ≡ false)
+row_kind-none true side pointer flag path print none = absurd (cc)
+row_kind-none false true pointer flag path print none = absurd (cc)
+row_kind-none false false true flag path print none = absurd (cc)
+row_kind-none false false false true path print none = absurd (cc)
+row_kind-none false false false false true print none = absurd (cc)
+row_kind-none false false false false false print none = (refl, refl)
 
 -- a line in which nothing is bad agrees with the lines before it
 pub agrees : (plan : Plan) (lines : List Placed) (line : Placed) → first_bad plan lines line ≡ None → AgreesWith plan line lines
 agrees plan lines (CodeAt block ballot race column code) none =
     (or_parts (is_cast block && nat_le (votes_of plan race) (count_by (marks_ballot ballot race) lines)) (list_any (shows_against ballot race column code.code) lines)
-    (code_kind-none (bad_opening plan lines (CodeAt block ballot race column code)) (bad_rule plan lines (CodeAt block ballot race column code)) none)).1
+    (code_kind-none (bad_opening plan lines (CodeAt block ballot race column code)) (bad_rule plan lines (CodeAt block ballot race column code)) (bad_dispute plan lines (CodeAt block ballot race column code)) none)).1
 agrees plan lines (RowAt race instance number (row.Both left right)) none = λ small.
     let line = RowAt race instance number (row.Both left right) in
-    let path = row_kind-none (bad_opening plan lines line) (bad_pointer plan lines line) (bad_flag plan lines line) (bad_path plan lines line) none in
+    let path = (row_kind-none (bad_opening plan lines line) (bad_side plan lines line) (bad_pointer plan lines line) (bad_flag plan lines line) (bad_path plan lines line) (bad_print plan lines line) none).1 in
     rw small at path
 agrees plan lines (RowAt race instance number (row.Left opening)) none = tt
 agrees plan lines (RowAt race instance number (row.Right opening)) none = tt
 agrees plan lines line none = tt
+
+-- the left pointer of a row in which nothing is bad is below n, and no row of its instance opens it
+pub freshness : (plan : Plan) (lines : List Placed) (line : Placed) → first_bad plan lines line ≡ None → HasFresh plan lines line
+freshness plan lines (RowAt race instance number (row.Both left right)) none =
+    let line = RowAt race instance number (row.Both left right) in
+    let pointer = (row_kind-none (bad_opening plan lines line) (bad_side plan lines line) (bad_pointer plan lines line) (bad_flag plan lines line) (bad_path plan lines line) (bad_print plan lines line) none).0 in
+    let left_fine = (or_parts (bad_left_pointer plan lines race instance (Some left)) (bad_right_pointer plan lines race instance (Some right)) pointer).0 in
+    let parts = or_parts (nat_le (entries_of plan race) left.value) (list_any (opens_left race instance left.value) lines) left_fine in
+    record { below = leb-false (entries_of plan race) left.value parts.0; fresh = parts.1 }
+freshness plan lines (RowAt race instance number (row.Left opening)) none = tt
+freshness plan lines (RowAt race instance number (row.Right opening)) none = tt
+freshness plan lines line none = tt

@@ -16,9 +16,9 @@ use Rattle.sg_ledger.specs.Tells.{ArePlacedIn, AtBallots, AtEntries, AtRows, is_
 use Rattle.sg_plan.proofs.PlanLaws.{entry_place-below, entry_place-one, entry_tells, row_place-below}
 use Rattle.sg_plan.specs.Ballots.{all_entries, ballot_has, candidates_of, entries_of, entry_at, entry_place, r_rows, row_place}
 use Rattle.sg_plan.specs.declared.plan.Plan.{Plan}
-use Rattle.sg_record.specs.Placed.{Placed}
-use Rattle.sg_record.specs.Placed.Placed.{CodeCommitAt, RowCommitAt, CodeAt, RowAt}
-use Rattle.sg_record.specs.Spots.{IsPlacedIn}
+use Rattle.sg_grammar.specs.Placed.{Placed}
+use Rattle.sg_grammar.specs.Placed.Placed.{CodeCommitAt, RowCommitAt, CodeAt, RowAt}
+use Rattle.sg_grammar.specs.Spots.{IsPlacedIn}
 
 -- COMMITMENTS
 
@@ -143,14 +143,14 @@ min-more most a = omega arith
 count_none : (most a : ℕ) → min (a + 0) most ≡ min a most
 count_none most a = omega arith
 
-count-push : (p : Placed → Bool) (lines : List Placed) (line : Placed) → count_by p (lines ++ line ∷ []) ≡ count_by p lines + (if p line then 1 else 0)
+pub count-push : (p : Placed → Bool) (lines : List Placed) (line : Placed) → count_by p (lines ++ line ∷ []) ≡ count_by p lines + (if p line then 1 else 0)
 count-push p lines line = sum_by_push (λ x. cond (p x) 1 0) lines line
 
-count-skip : (p : Placed → Bool) (lines : List Placed) (line : Placed) → p line ≡ false → min (count_by p (lines ++ line ∷ [])) most_marks ≡ min (count_by p lines) most_marks
+pub count-skip : (p : Placed → Bool) (lines : List Placed) (line : Placed) → p line ≡ false → min (count_by p (lines ++ line ∷ [])) most_marks ≡ min (count_by p lines) most_marks
 count-skip p lines line fails =
     ap (λ (n : ℕ). min n most_marks) (count-push p lines line ∙ ap (λ (b : Bool). count_by p lines + (if b then 1 else 0)) fails) ∙ count_none most_marks (count_by p lines)
 
-count-one : (p : Placed → Bool) (lines : List Placed) (line : Placed) → p line ≡ true → min (min (count_by p lines) most_marks + 1) most_marks ≡ min (count_by p (lines ++ line ∷ [])) most_marks
+pub count-one : (p : Placed → Bool) (lines : List Placed) (line : Placed) → p line ≡ true → min (min (count_by p lines) most_marks + 1) most_marks ≡ min (count_by p (lines ++ line ∷ [])) most_marks
 count-one p lines line passes =
     min-more most_marks (count_by p lines) ∙ sym (ap (λ (n : ℕ). min n most_marks) (count-push p lines line ∙ ap (λ (b : Bool). count_by p lines + (if b then 1 else 0)) passes))
 

@@ -1,31 +1,33 @@
 -- A ledger that tells lines tells one more; and what it judges.
-use Rattle.std.proofs.Common.{◌≡◌, ℕ, ◌<◌, nat_lt, if◌then◌else◌, Bool, true, false, List, [], ◌∷◌, ◌++◌, append-nil, length, get_or, set, min, ◌+◌, Option, Some, None, Result, Ok, Err, OnOk, refl, sym, ap, ◌∙◌, arith, length-set}
-use Rattle.sg_check.specs.Facts.{is_cast, left_of, right_of}
+use Rattle.std.proofs.Common.{◌≡◌, ℕ, ◌<◌, nat_lt, if◌then◌else◌, Bool, true, false, List, [], ◌∷◌, ◌++◌, append-nil, length, get_or, set, min, ◌+◌, Option, Some, None, refl, sym, ap, ◌∙◌, arith, length-set}
+use Rattle.sg_check.specs.Facts.{is_audit, is_both, is_cast, left_of, right_of}
 use Rattle.sg_check.specs.Kinds.{first_bad}
 use Rattle.sg_check.specs.Verdict.{total_on}
-use Rattle.sg_check.specs.declared.verdict.Total.{Total}
+use Rattle.sg_check.specs.declared.judged.Total.{Total}
 use Rattle.sg_commit.specs.declared.Opening.{Opening}
 use Rattle.sg_forms.specs.Said.{Said}
 use Rattle.sg_forms.specs.declared.line.RowOpening.TheVariants as row
 use Rattle.sg_ledger.proofs.BitLists.{length-bits, length-votes}
 use Rattle.sg_ledger.proofs.BitSteps.{flagged_step, places_step, votes_step}
-use Rattle.sg_ledger.proofs.Judged.{agrees}
+use Rattle.sg_ledger.proofs.AuditSteps.{audit_counts_step, audited_step, both_counts_step, few_step, length-firsts, papers_step}
+use Rattle.sg_ledger.proofs.DrawSteps.{claim_step, coins_step, full_step}
+use Rattle.sg_ledger.proofs.Judged.{agrees, freshness}
 use Rattle.sg_ledger.proofs.KeptSteps.{codes_step, known_step, lefts_step, marked_step, marks_step, rights_step, seen_lefts_step, seen_rights_step}
 use Rattle.sg_ledger.proofs.Lists.{placed-push, totals-push}
 use Rattle.sg_ledger.proofs.PathSteps.{are_small, paths_step}
 use Rattle.sg_ledger.proofs.Places.{length-first}
-use Rattle.sg_ledger.specs.Reads.{IsQuiet}
-use Rattle.sg_ledger.specs.Steps.{codes_after, flagged_after, known_after, ledger_after, lefts_after, marked_after, marks_after, paths_after, places_after, rights_after, seen_after, seen_lefts_after, seen_rights_after, votes_after}
+use Rattle.sg_check.specs.Told.{IsQuiet}
+use Rattle.sg_ledger.specs.Steps.{audit_counts_after, audited_after, both_counts_after, papers_after, codes_after, flagged_after, known_after, ledger_after, lefts_after, marked_after, marks_after, paths_after, places_after, rights_after, seen_after, seen_lefts_after, seen_rights_after, votes_after}
 use Rattle.sg_ledger.specs.Tables.{most_marks, with_one_more}
-use Rattle.sg_ledger.specs.Tells.{IsSized, Tells, candidate_place}
+use Rattle.sg_ledger.specs.Tells.{IsSized, Tells, candidate_place, instance_place, totals_kept, totals_placed}
 use Rattle.sg_ledger.specs.declared.ledger.Ledger.{Ledger}
 use Rattle.sg_plan.proofs.PlanLaws.{bounds}
 use Rattle.sg_plan.specs.Ballots.{candidates_of, entries_of, entry_at, entry_place, row_place}
 use Rattle.sg_plan.specs.Limits.{fault_of}
 use Rattle.sg_plan.specs.declared.plan.Plan.{Plan}
-use Rattle.sg_record.specs.Placed.{Placed}
-use Rattle.sg_record.specs.Placed.Placed.{OfPlan, CodeCommitAt, RowCommitAt, SealAt, Begun, CodeAt, FlagsAt, PlacesAt, DrawnFull, RowAt}
-use Rattle.sg_record.specs.Spots.{IsPlacedIn}
+use Rattle.sg_grammar.specs.Placed.{Placed}
+use Rattle.sg_grammar.specs.Placed.Placed.{OfPlan, CodeCommitAt, RowCommitAt, Begun, CodeAt, PaperAt, FlagsAt, PlacesAt, RowAt}
+use Rattle.sg_grammar.specs.Spots.{IsPlacedIn}
 
 -- THE TABLES KEEP THEIR LENGTHS
 
@@ -87,6 +89,22 @@ paths_len plan table (RowAt race instance number (row.Left opening)) = refl
 paths_len plan table (RowAt race instance number (row.Right opening)) = refl
 paths_len plan table line = refl
 
+audited_len : (plan : Plan) (table : List Bool) (line : Placed) → length (audited_after plan table line) ≡ length table
+audited_len plan table (CodeAt block ballot race column code) = choice_len (is_audit block) table (set table (entry_place plan race (entry_at plan race ballot column)) true) (length-set table (entry_place plan race (entry_at plan race ballot column)) true)
+audited_len plan table line = refl
+
+papers_len : (plan : Plan) (table : List (Option ℕ)) (line : Placed) → length (papers_after plan table line) ≡ length table
+papers_len plan table (PaperAt ballot race list) = length-firsts table (entry_place plan race (entry_at plan race ballot 0)) list
+papers_len plan table line = refl
+
+audit_counts_len : (table : List ℕ) (line : Placed) → length (audit_counts_after table line) ≡ length table
+audit_counts_len table (CodeAt block ballot race column code) = choice_len (is_audit block) table (with_one_more most_marks table race) (length-set table race (min (get_or table race 0 + 1) most_marks))
+audit_counts_len table line = refl
+
+both_counts_len : (table : List ℕ) (line : Placed) → length (both_counts_after table line) ≡ length table
+both_counts_len table (RowAt race instance number opening) = choice_len (is_both opening) table (with_one_more most_marks table (instance_place race instance)) (length-set table (instance_place race instance) (min (get_or table (instance_place race instance) 0 + 1) most_marks))
+both_counts_len table line = refl
+
 pub sized_after : (plan : Plan) (ledger : Ledger) (line : Placed) → IsSized plan ledger → IsSized plan (ledger_after plan ledger line)
 sized_after plan ledger line sized = record {
   sizes = sized.sizes;
@@ -102,6 +120,10 @@ sized_after plan ledger line sized = record {
   seen_lefts = seen_lefts_len plan ledger.pointers.lefts line ∙ sized.seen_lefts;
   seen_rights = seen_rights_len plan ledger.pointers.rights line ∙ sized.seen_rights;
   paths = paths_len plan ledger.paths line ∙ sized.paths;
+  audited = audited_len plan ledger.audits.audited line ∙ sized.audited;
+  papers = papers_len plan ledger.audits.papers line ∙ sized.papers;
+  audit_counts = audit_counts_len ledger.audits.entries line ∙ sized.audit_counts;
+  both_counts = both_counts_len ledger.audits.boths line ∙ sized.both_counts;
 }
 
 -- THE TABLES TELL ONE MORE LINE
@@ -136,30 +158,38 @@ tells_after plan ledger lines line good placed tells fine =
         rights = seen_rights_step plan ledger.pointers.rights lines line placed sized.seen_rights tells.pointers.rights;
       };
       paths = paths_step plan ledger.paths lines line placed sized.paths tells.placed agree tells.paths;
+      audits = record {
+        audited = audited_step plan ledger.audits.audited lines line placed sized.audited tells.audits.audited;
+        papers = papers_step plan ledger.audits.papers lines line some placed sized.papers tells.audits.papers;
+        entries = audit_counts_step plan ledger.audits.entries lines line placed sized.audit_counts tells.audits.entries;
+        boths = both_counts_step plan ledger.audits.boths lines line few.few_instances placed sized.both_counts tells.audits.boths;
+        few = few_step plan lines line (freshness plan lines line fine) tells.audits.few;
+      };
+      drawn = record {
+        full = full_step ledger.drawn.full lines line tells.drawn.full;
+        coins = coins_step ledger.drawn.coins lines line tells.drawn.coins;
+      };
+      claim = claim_step ledger.claim lines line tells.claim;
       totals = ap (λ (totals : List Total). totals ++ total_on line) tells.totals ∙ sym (totals-push lines line);
     }
 
--- the same where the line was kept
-pub keep_tells : {T E : Type 0} (plan : Plan) (ledger new : Ledger) (line : Placed) (result : Result T E) → fault_of plan ≡ None → IsPlacedIn plan line
-    → OnOk result (new ≡ ledger_after plan ledger line)
-    → OnOk result ((lines : List Placed) → Tells plan ledger lines → first_bad plan lines line ≡ None → Tells plan new (lines ++ line ∷ []))
-keep_tells plan ledger new line (Ok x) good placed same = λ lines told fine. rw same (tells_after plan ledger lines line good placed told fine)
-keep_tells plan ledger new line (Err e) good placed same = tt
+-- the ledger has the totals of the lines that it tells
+pub totals_kept-tells : (plan : Plan) (ledger : Ledger) (lines : List Placed) → Tells plan ledger lines → totals_kept ledger ≡ length (totals_placed lines)
+totals_kept-tells plan ledger lines tells = ap length tells.totals
 
 -- QUIET LINES
 
 pub quiet_fine : (plan : Plan) (lines : List Placed) (line : Placed) → IsQuiet line → first_bad plan lines line ≡ None
 quiet_fine plan lines (OfPlan said) quiet = refl
-quiet_fine plan lines (SealAt number digest) quiet = refl
 quiet_fine plan lines (Begun ballot) quiet = refl
-quiet_fine plan lines DrawnFull quiet = refl
 quiet_fine plan lines line quiet = absurd quiet
 
+no_totals : (ledger : Ledger) → record ledger { totals = ledger.totals ++ [] } ≡ ledger
+no_totals ledger = ap (λ (totals : List Total). record ledger { totals = totals }) (append-nil ledger.totals)
+
 pub quiet_after : (plan : Plan) (ledger : Ledger) (line : Placed) → IsQuiet line → ledger_after plan ledger line ≡ ledger
-quiet_after plan ledger (OfPlan said) quiet = ap (λ (totals : List Total). record ledger { totals = totals }) (append-nil ledger.totals)
-quiet_after plan ledger (SealAt number digest) quiet = ap (λ (totals : List Total). record ledger { totals = totals }) (append-nil ledger.totals)
-quiet_after plan ledger (Begun ballot) quiet = ap (λ (totals : List Total). record ledger { totals = totals }) (append-nil ledger.totals)
-quiet_after plan ledger DrawnFull quiet = ap (λ (totals : List Total). record ledger { totals = totals }) (append-nil ledger.totals)
+quiet_after plan ledger (OfPlan said) quiet = no_totals ledger
+quiet_after plan ledger (Begun ballot) quiet = no_totals ledger
 quiet_after plan ledger line quiet = absurd quiet
 
 -- a line of the plan is never bad

@@ -1,5 +1,9 @@
+pub mod AuditSteps
+pub mod BallotRows
 pub mod BitLists
 pub mod BitSteps
+pub mod Digits
+pub mod DrawSteps
 pub mod Judged
 pub mod KeptSteps
 pub mod Laws
@@ -7,4 +11,5 @@ pub mod Lists
 pub mod Made
 pub mod PathSteps
 pub mod Places
+pub mod ShownJudged
 pub mod Texts

@@ -1,5 +1,5 @@
 -- Tests and looked up values over lists of lines, as one more line is added.
-use Rattle.std.proofs.Common.{◌≡◌, ℕ, Bool, true, false, ◌||◌, List, [], ◌∷◌, ◌++◌, append_assoc, append-nil, Option, Some, None, sum_by, inl, inr, refl, sym, ap, ◌∙◌, arith, rules}
+use Rattle.std.proofs.Common.{◌≡◌, ◌⊎◌, ℕ, Bool, true, false, ◌||◌, List, [], ◌∷◌, ◌++◌, append_assoc, append-nil, Option, Some, None, sum_by, inl, inr, refl, sym, ap, ◌∙◌, arith, rules}
 use Rattle.std.proofs.lemmas.Bool.{or_cases, or_from, or_left, or_right}
 use Rattle.std.proofs.lemmas.List.Folds.{list_any-append}
 use Rattle.std.proofs.lemmas.List.Sums.{sum_by-cons}
@@ -8,13 +8,14 @@ use Rattle.std.specs.Option.{option_map_or, option_or}
 use Rattle.sg_check.specs.Facts.{first_given}
 use Rattle.sg_check.specs.Kinds.{placed_of}
 use Rattle.sg_check.specs.Verdict.{total_on, totals_in}
-use Rattle.sg_check.specs.declared.verdict.Total.{Total}
-use Rattle.sg_ledger.specs.Tells.{AreOfPlan, ArePlacedIn, IsOfPlan, totals_placed}
+use Rattle.sg_check.specs.declared.judged.Total.{Total}
+use Rattle.sg_check.specs.Judging.{AreOfPlan, IsOfPlan}
+use Rattle.sg_ledger.specs.Tells.{ArePlacedIn, totals_placed}
 use Rattle.sg_plan.specs.declared.plan.Plan.{Plan}
-use Rattle.sg_record.specs.Placed.{Placed}
-use Rattle.sg_record.specs.Placed.Placed.{OfPlan}
-use Rattle.sg_record.specs.Spots.{IsPlacedIn}
-use Rattle.sg_record.specs.Walk.{Posted}
+use Rattle.sg_grammar.specs.Placed.{Placed}
+use Rattle.sg_grammar.specs.Placed.Placed.{OfPlan}
+use Rattle.sg_grammar.specs.Spots.{IsPlacedIn}
+use Rattle.sg_grammar.specs.Walk.{Posted}
 
 pub or-false : (b : Bool) → (b || false) ≡ b
 or-false true = refl
@@ -91,6 +92,11 @@ of_plan-totals (line ∷ lines) are = absurd are.0
 
 -- SOME LINE
 
+-- the first value is given, or a later one is
+given_cases : {B : Type 0} (first later : Option B) (value : B) → option_map_or Some first later ≡ Some value → (first ≡ Some value) ⊎ (later ≡ Some value)
+given_cases None later value found = inr found
+given_cases (Some x) later value found = inl found
+
 -- what passes one test passes another: so of lists
 pub any-along : (plan : Plan) (p q : Placed → Bool) (lines : List Placed) → ArePlacedIn plan lines → ((line : Placed) → IsPlacedIn plan line → p line ≡ true → q line ≡ true)
     → list_any p lines ≡ true → list_any q lines ≡ true
@@ -114,6 +120,27 @@ any-none plan p all (line ∷ lines) placed part fails =
     or_from (p line) (list_any p lines)
     (fails line placed.0 (λ f passes. part f (or_left (f line) (list_any f lines) passes)))
     (any-none plan p all lines placed.1 (λ f passes. part f (or_right (f line) (list_any f lines) passes)) fails)
+
+-- what passes one test passes another, by what each of them is: so of lists
+pub any-by : (plan : Plan) (p q : Placed → Bool) (all lines : List Placed) → ArePlacedIn plan lines → ArePartOf lines all
+    → ((line : Placed) → IsPlacedIn plan line → ((f : Placed → Bool) → f line ≡ true → list_any f all ≡ true) → p line ≡ true → q line ≡ true)
+    → list_any p lines ≡ true → list_any q lines ≡ true
+any-by plan p q all [] placed part then passes = passes
+any-by plan p q all (line ∷ lines) placed part then passes =
+    elim (or_cases (p line) (list_any p lines) passes) [
+      | inl here ↦ or_left (q line) (list_any q lines) (then line placed.0 (λ f found. part f (or_left (f line) (list_any f lines) found)) here)
+      | inr later ↦ or_right (q line) (list_any q lines) (any-by plan p q all lines placed.1 (λ f found. part f (or_right (f line) (list_any f lines) found)) then later)
+    ]
+
+-- the value that is first given passes a test that each line with it passes
+pub given-any : {B : Type 0} (given : Placed → Option B) (test : Placed → Bool) (value : B) → ((line : Placed) → given line ≡ Some value → test line ≡ true)
+    → (lines : List Placed) → first_given given lines ≡ Some value → list_any test lines ≡ true
+given-any given test value then [] found = absurd (cc)
+given-any given test value then (line ∷ lines) found =
+    elim (given_cases (given line) (first_given given lines) value found) [
+      | inl here ↦ or_left (test line) (list_any test lines) (then line here)
+      | inr later ↦ or_right (test line) (list_any test lines) (given-any given test value then lines later)
+    ]
 
 -- TOTALS
 

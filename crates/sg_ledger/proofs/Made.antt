@@ -1,19 +1,22 @@
 -- Empty tables tell the lines of the plan.
-use Rattle.std.proofs.Common.{◌≡◌, ℕ, ◌+◌, ◌*◌, ◌<◌, min, false, List, [], ◌∷◌, ◌++◌, if◌then◌else◌, length, get_or, slice_get, replicate, Some, None, count_by, inl, inr, refl, sym, ap, ◌∙◌, arith}
+use Rattle.std.proofs.Common.{◌≡◌, ℕ, ◌+◌, ◌*◌, ◌/◌, ◌%◌, ◌<◌, min, false, List, [], ◌∷◌, ◌++◌, if◌then◌else◌, length, get_or, slice_get, replicate, Option, Some, None, is_some, count_by, inl, inr, refl, sym, ap, ◌∙◌, arith}
 use Rattle.std.proofs.lemmas.Bool.{cases_lt}
 use Rattle.std.proofs.lemmas.List.{get_or-replicate, get_or_append_left, get_or_at, length-append, length-replicate}
 use Rattle.std.proofs.lemmas.Option.{get_or_from_slice_get, slice_get-get_or}
-use Rattle.sg_check.specs.Facts.{commits_code, commits_left, commits_right, flags_row, marks_ballot, marks_entry, opens_left, opens_right, sets_place, votes_for, votes_on}
+use Rattle.std.specs.Option.{option_map}
+use Rattle.sg_check.specs.Facts.{Claim, audits_entry, audits_race, bytes_of_digits, commits_code, commits_left, commits_right, draws_digits, draws_full, flags_row, last_claim, marks_ballot, marks_entry, opens_both, opens_left, opens_right, sets_place, shows_paper, votes_for, votes_on}
 use Rattle.sg_ledger.proofs.Lists.{of_plan-any, of_plan-given, of_plan-placed, of_plan-sum, of_plan-totals}
 use Rattle.sg_ledger.specs.Tables.{most_marks, most_votes}
-use Rattle.sg_ledger.specs.Tells.{AreOfPlan, AreSizes, IsOfPlan, IsSized, Tells, candidate_place, leads_entry, shows_entry}
+use Rattle.sg_check.specs.Judging.{AreOfPlan, IsOfPlan}
+use Rattle.sg_ledger.specs.Tells.{AreSizes, IsSized, Tells, candidate_place, instance_place, kept_of, leads_entry, shows_entry}
 use Rattle.sg_ledger.specs.declared.ledger.Ledger.{Ledger}
 use Rattle.sg_plan.proofs.PlanLaws.{entry_place-below, entry_tells, row_place-below}
-use Rattle.sg_plan.specs.Ballots.{all_entries, entry_at, entry_place, r_rows, row_place}
+use Rattle.sg_plan.specs.Ballots.{all_entries, candidates_of, entry_at, entry_place, r_rows, row_place}
 use Rattle.sg_plan.specs.Laws.{Bounds}
 use Rattle.sg_plan.specs.declared.plan.Plan.{Plan}
-use Rattle.sg_record.specs.Placed.{Placed}
-use Rattle.sg_record.specs.Placed.Placed.{OfPlan}
+use Rattle.sg_streams.specs.CoinSides.{coin_seed}
+use Rattle.sg_grammar.specs.Placed.{Placed}
+use Rattle.sg_grammar.specs.Placed.Placed.{OfPlan}
 
 -- nothing is told in the tables
 pub record IsMade (plan : Plan) (ledger : Ledger) : Type 0 where
@@ -30,6 +33,13 @@ pub record IsMade (plan : Plan) (ledger : Ledger) : Type 0 where
   pub seen_lefts : ledger.pointers.lefts ≡ replicate (r_rows plan) false
   pub seen_rights : ledger.pointers.rights ≡ replicate (r_rows plan) false
   pub paths : ledger.paths ≡ replicate (all_entries plan) None
+  pub audited : ledger.audits.audited ≡ replicate (all_entries plan) false
+  pub papers : ledger.audits.papers ≡ replicate (all_entries plan) None
+  pub audit_counts : ledger.audits.entries ≡ replicate (length plan.races) 0
+  pub both_counts : ledger.audits.boths ≡ replicate (16 * length plan.races) 0
+  pub full : ledger.drawn.full ≡ false
+  pub coins : ledger.drawn.coins ≡ None
+  pub claim : ledger.claim ≡ None
   pub totals : ledger.totals ≡ []
 
 sized : {A : Type 0} (table : List A) (count : ℕ) (value : A) → table ≡ replicate count value → length table ≡ count
@@ -53,6 +63,10 @@ made_sized plan ledger made = record {
   seen_lefts = sized ledger.pointers.lefts (r_rows plan) false made.seen_lefts;
   seen_rights = sized ledger.pointers.rights (r_rows plan) false made.seen_rights;
   paths = sized ledger.paths (all_entries plan) None made.paths;
+  audited = sized ledger.audits.audited (all_entries plan) false made.audited;
+  papers = sized ledger.audits.papers (all_entries plan) None made.papers;
+  audit_counts = sized ledger.audits.entries (length plan.races) 0 made.audit_counts;
+  both_counts = sized ledger.audits.boths (16 * length plan.races) 0 made.both_counts;
 }
 
 -- a line of the plan has no fact
@@ -105,6 +119,35 @@ no_path : (plan : Plan) (race entry place : ℕ) (line : Placed) → IsOfPlan li
 no_path plan race entry place (OfPlan said) is = refl
 no_path plan race entry place line is = absurd is
 
+no_audit : (plan : Plan) (race entry : ℕ) (line : Placed) → IsOfPlan line → audits_entry plan race entry line ≡ None
+no_audit plan race entry (OfPlan said) is = refl
+no_audit plan race entry line is = absurd is
+
+no_paper : (plan : Plan) (race row candidate : ℕ) (line : Placed) → IsOfPlan line → shows_paper plan race row candidate line ≡ None
+no_paper plan race row candidate (OfPlan said) is = refl
+no_paper plan race row candidate line is = absurd is
+
+no_audit_count : (race : ℕ) (line : Placed) → IsOfPlan line → ◌≡◌ {A = ℕ} (if audits_race race line then 1 else 0) 0
+no_audit_count race (OfPlan said) is = refl
+no_audit_count race line is = absurd is
+
+no_both : (race instance : ℕ) (line : Placed) → IsOfPlan line → ◌≡◌ {A = ℕ} (if opens_both race instance line then 1 else 0) 0
+no_both race instance (OfPlan said) is = refl
+no_both race instance line is = absurd is
+
+no_full : (line : Placed) → IsOfPlan line → draws_full line ≡ false
+no_full (OfPlan said) is = refl
+no_full line is = absurd is
+
+no_digits : (line : Placed) → IsOfPlan line → draws_digits line ≡ None
+no_digits (OfPlan said) is = refl
+no_digits line is = absurd is
+
+no_claim : (lines : List Placed) → AreOfPlan lines → last_claim lines ≡ None
+no_claim [] are = refl
+no_claim (OfPlan said ∷ lines) are = no_claim lines are.1
+no_claim (line ∷ lines) are = absurd are.0
+
 min-none : (most count : ℕ) → count ≡ 0 → 0 ≡ min count most
 min-none most count none = omega arith
 
@@ -137,6 +180,28 @@ made_tells plan ledger bounds made lines are = record {
     rights = λ r i k r_in i_in k_in. holds ledger.pointers.rights (r_rows plan) false (row_place plan r i k) false made.seen_rights (row_place-below plan r i k r_in i_in k_in) ∙ sym (of_plan-any (opens_right r i k) lines are (no_seen_right r i k));
   };
   paths = λ r e r_in e_in place. rw (holds ledger.paths (all_entries plan) None (entry_place plan r e) None made.paths (entry_place-below plan r e r_in e_in)) (of_plan-any (leads_entry plan r e place) lines are (no_path plan r e place));
+  audits = record {
+    audited = λ r e r_in e_in.
+        holds ledger.audits.audited (all_entries plan) false (entry_place plan r e) false made.audited (entry_place-below plan r e r_in e_in)
+        ∙ sym (ap (λ (o : Option ℕ). is_some o) (of_plan-given (audits_entry plan r e) lines are (no_audit plan r e)));
+    papers = λ r e r_in e_in.
+        holds ledger.audits.papers (all_entries plan) None (entry_place plan r e) None made.papers (entry_place-below plan r e r_in e_in)
+        ∙ sym (of_plan-given (shows_paper plan r (e / candidates_of plan r) (e % candidates_of plan r)) lines are (no_paper plan r (e / candidates_of plan r) (e % candidates_of plan r)));
+    entries = λ r r_in.
+        holds ledger.audits.entries (length plan.races) 0 r 0 made.audit_counts r_in
+        ∙ min-none most_marks (count_by (audits_race r) lines) (of_plan-sum (λ (x : Placed). if audits_race r x then 1 else 0) lines are (no_audit_count r));
+    boths = λ r i r_in i_in.
+        holds ledger.audits.boths (16 * length plan.races) 0 (instance_place r i) 0 made.both_counts (omega (arith, bounds.few_instances, i_in, r_in))
+        ∙ min-none most_marks (count_by (opens_both r i) lines) (of_plan-sum (λ (x : Placed). if opens_both r i x then 1 else 0) lines are (no_both r i));
+    few = λ r i r_in i_in.
+        let none : count_by (opens_both r i) lines ≡ 0 = of_plan-sum (λ (x : Placed). if opens_both r i x then 1 else 0) lines are (no_both r i) in
+        omega (arith, none);
+  };
+  drawn = record {
+    full = made.full ∙ sym (of_plan-any draws_full lines are no_full);
+    coins = made.coins ∙ sym (ap (λ (o : Option (List ℕ)). option_map coin_seed (option_map bytes_of_digits o)) (of_plan-given draws_digits lines are no_digits));
+  };
+  claim = made.claim ∙ sym (ap (λ (o : Option Claim). option_map kept_of o) (no_claim lines are));
   totals = made.totals ∙ sym (of_plan-totals lines are);
 }
 

@@ -13,9 +13,9 @@ use Rattle.sg_ledger.specs.Tells.{ArePlacedIn, TellsPaths, is_value, leads_entry
 use Rattle.sg_plan.proofs.PlanLaws.{entry_place-below}
 use Rattle.sg_plan.specs.Ballots.{all_entries, entries_of, entry_place}
 use Rattle.sg_plan.specs.declared.plan.Plan.{Plan}
-use Rattle.sg_record.specs.Placed.{Placed}
-use Rattle.sg_record.specs.Placed.Placed.{RowAt}
-use Rattle.sg_record.specs.Spots.{IsPlacedIn}
+use Rattle.sg_grammar.specs.Placed.{Placed}
+use Rattle.sg_grammar.specs.Placed.Placed.{RowAt}
+use Rattle.sg_grammar.specs.Spots.{IsPlacedIn}
 
 -- both pointers are below n
 abbrev pub are_small : Plan → ℕ → Opening → Opening → Bool

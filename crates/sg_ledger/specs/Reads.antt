@@ -1,35 +1,39 @@
--- What a line in its place gives the ledger.
-use Rattle.std.specs.Prelude.{◌≡◌, if◌then◌else◌, Bool, Option, Some, None}
-use Rattle.sg_check.specs.declared.verdict.Kind.{Kind}
-use Rattle.sg_check.specs.declared.verdict.Kind.TheVariants as kind
-use Rattle.sg_ledger.specs.declared.told.Told.{Told}
-use Rattle.sg_ledger.specs.declared.told.Told.TheVariants as told
-use Rattle.sg_record.specs.Placed.{Placed}
-use Rattle.sg_record.specs.Placed.Placed.{OfPlan, CodeCommitAt, RowCommitAt, SealAt, Begun, CodeAt, FlagsAt, PlacesAt, TotalAt, DrawnFull, RowAt}
-
--- the line gives the ledger nothing
-abbrev pub IsQuiet : Placed → Type 0
-IsQuiet (OfPlan said) = Unit {0}
-IsQuiet (SealAt number digest) = Unit {0}
-IsQuiet (Begun ballot) = Unit {0}
-IsQuiet DrawnFull = Unit {0}
-IsQuiet line = ⊥
-
--- the line is told by this value
-abbrev pub IsToldBy : Placed → Told → Type 0
-IsToldBy line (told.CodeCommit race entry digest) = line ≡ CodeCommitAt race entry digest
-IsToldBy line (told.RowCommit race instance row left right) = line ≡ RowCommitAt race instance row left right
-IsToldBy line (told.Code block ballot race column code) = line ≡ CodeAt block ballot race column code
-IsToldBy line (told.Flags race instance from bits) = line ≡ FlagsAt race instance from bits.now
-IsToldBy line (told.Places race from bits) = line ≡ PlacesAt race from bits.now
-IsToldBy line (told.Total race candidate count) = line ≡ TotalAt race candidate count
-IsToldBy line (told.Row race instance row opening) = line ≡ RowAt race instance row opening
-IsToldBy line told.Nothing = IsQuiet line
+-- What is read from the tables of a line, and the first of the kinds in which a line is bad.
+use Rattle.std.specs.Prelude.{ℕ, ◌+◌, ◌*◌, ◌/◌, ◌%◌, nat_lt, if◌then◌else◌, Bool, false, not, ◌&&◌, List, slice_index_or, Option, Some, None}
+use Rattle.std.specs.Option.{option_map_or}
+use Rattle.sg_check.specs.Kinds.{is_there}
+use Rattle.sg_check.specs.declared.judged.Kind.{Kind}
+use Rattle.sg_check.specs.declared.judged.Kind.TheVariants as kind
+use Rattle.sg_forms.specs.declared.line.RowOpening.{RowOpening}
+use Rattle.sg_forms.specs.declared.line.RowOpening.TheVariants as row
+use Rattle.sg_plan.specs.Ballots.{candidates_of, entries_of, entry_place}
+use Rattle.sg_plan.specs.declared.plan.Plan.{Plan}
 
 -- the first kind in which a code is bad
-abbrev pub code_kind : Bool → Bool → Option Kind
-code_kind opening rule = (if opening then Some kind.Opening else (if rule then Some kind.Rule else None))
+abbrev pub code_kind : Bool → Bool → Bool → Option Kind
+code_kind opening rule dispute = (if opening then Some kind.Opening else (if rule then Some kind.Rule else (if dispute then Some kind.Dispute else None)))
+
+-- the kind in which a line is bad that is judged by the rules alone
+abbrev pub rule_kind : Bool → Option Kind
+rule_kind rule = (if rule then Some kind.Rule else None)
 
 -- the first kind in which a row is bad
-abbrev pub row_kind : Bool → Bool → Bool → Bool → Option Kind
-row_kind opening pointer flag path = (if opening then Some kind.Opening else (if pointer then Some kind.Pointer else (if flag then Some kind.Flag else (if path then Some kind.Path else None))))
+abbrev pub row_kind : Bool → Bool → Bool → Bool → Bool → Bool → Option Kind
+row_kind opening side pointer flag path print = (if opening then Some kind.Opening else (if side then Some kind.Side else (if pointer then Some kind.Pointer else (if flag then Some kind.Flag else (if path then Some kind.Path else (if print then Some kind.Print else None))))))
+
+-- the entry of a ballot in the column of the candidate to whom a place belongs
+abbrev pub beside : ℕ → ℕ → ℕ → ℕ
+beside candidates entry place = entry / candidates * candidates + place % candidates
+
+-- the paper's code is the one that is known
+abbrev pub is_same_code : Option ℕ → Option ℕ → Bool
+is_same_code paper known = option_map_or (λ code. is_there paper code) known false
+
+-- the row leads an audited entry to a candidate beside whom the paper has another code than the entry's
+abbrev pub reads_another : Plan → List Bool → List (Option ℕ) → List (Option ℕ) → ℕ → RowOpening → Bool
+reads_another plan audited papers known race (row.Left left) = false
+reads_another plan audited papers known race (row.Right right) = false
+reads_another plan audited papers known race (row.Both left right) =
+    (nat_lt left.value (entries_of plan race) && nat_lt right.value (entries_of plan race))
+    && (slice_index_or audited (entry_place plan race left.value) false
+    && not (is_same_code (slice_index_or papers (entry_place plan race (beside (candidates_of plan race) left.value right.value)) None) (slice_index_or known (entry_place plan race left.value) None)))

@@ -1,19 +1,22 @@
 -- What one more line in its place makes of each table, over plain lists.
-use Rattle.std.specs.Prelude.{ℕ, nat_lt, if◌then◌else◌, Bool, true, ◌&&◌, List, ◌++◌, slice_set, Option, Some}
-use Rattle.std.specs.Option.{option_map_or}
-use Rattle.sg_check.specs.Facts.{is_cast, left_of, right_of}
+use Rattle.std.specs.Prelude.{ℕ, nat_lt, ◌==◌, if◌then◌else◌, Bool, true, false, ◌&&◌, ◌||◌, List, ◌++◌, slice_set, Option, Some}
+use Rattle.std.specs.Option.{option_map, option_map_or, option_or}
+use Rattle.sg_check.specs.Facts.{bytes_of_digits, is_audit, is_both, is_cast, is_dispute, left_of, right_of}
 use Rattle.sg_check.specs.Verdict.{total_on}
 use Rattle.sg_commit.specs.declared.Digest.{Digest}
 use Rattle.sg_commit.specs.declared.Opening.{Opening}
 use Rattle.sg_forms.specs.declared.line.RowOpening.{RowOpening}
 use Rattle.sg_forms.specs.declared.line.RowOpening.TheVariants as row
-use Rattle.sg_ledger.specs.Tables.{most_marks, with_bits, with_first, with_one_more, with_votes}
-use Rattle.sg_ledger.specs.Tells.{candidate_place}
+use Rattle.sg_ledger.specs.Tables.{most_marks, with_bits, with_first, with_firsts, with_one_more, with_votes}
+use Rattle.sg_ledger.specs.Tells.{candidate_place, instance_place}
+use Rattle.sg_ledger.specs.declared.claims.Claimed.{Claimed}
 use Rattle.sg_ledger.specs.declared.ledger.Ledger.{Ledger}
 use Rattle.sg_plan.specs.Ballots.{candidates_of, entries_of, entry_at, entry_place, row_place}
 use Rattle.sg_plan.specs.declared.plan.Plan.{Plan}
-use Rattle.sg_record.specs.Placed.{Placed}
-use Rattle.sg_record.specs.Placed.Placed.{CodeCommitAt, RowCommitAt, CodeAt, FlagsAt, PlacesAt, RowAt}
+use Rattle.sg_streams.specs.CoinSides.{coin_seed}
+use Rattle.sg_grammar.specs.Placed.{Placed}
+use Rattle.sg_grammar.specs.declared.state.Block.{Block}
+use Rattle.sg_grammar.specs.Placed.Placed.{CodeCommitAt, RowCommitAt, CodeAt, PaperAt, FlagsAt, PlacesAt, DrawnFull, DrawnPublic, RowAt, Disputed}
 
 abbrev pub codes_after : Plan → List (Option Digest) → Placed → List (Option Digest)
 codes_after plan table (CodeCommitAt race entry digest) = with_first table (entry_place plan race entry) digest
@@ -72,6 +75,40 @@ abbrev pub paths_after : Plan → List (Option ℕ) → Placed → List (Option 
 paths_after plan table (RowAt race instance number opening) = path_after plan table race opening
 paths_after plan table line = table
 
+abbrev pub audited_after : Plan → List Bool → Placed → List Bool
+audited_after plan table (CodeAt block ballot race column code) = (if is_audit block then slice_set table (entry_place plan race (entry_at plan race ballot column)) true else table)
+audited_after plan table line = table
+
+abbrev pub papers_after : Plan → List (Option ℕ) → Placed → List (Option ℕ)
+papers_after plan table (PaperAt ballot race list) = with_firsts table (entry_place plan race (entry_at plan race ballot 0)) list
+papers_after plan table line = table
+
+abbrev pub audit_counts_after : List ℕ → Placed → List ℕ
+audit_counts_after table (CodeAt block ballot race column code) = (if is_audit block then with_one_more most_marks table race else table)
+audit_counts_after table line = table
+
+abbrev pub both_counts_after : List ℕ → Placed → List ℕ
+both_counts_after table (RowAt race instance number opening) = (if is_both opening then with_one_more most_marks table (instance_place race instance) else table)
+both_counts_after table line = table
+
+abbrev pub full_after : Bool → Placed → Bool
+full_after full DrawnFull = true
+full_after full line = full
+
+-- the seed of the first public bytes stays
+abbrev pub coins_after : Option (List ℕ) → Placed → Option (List ℕ)
+coins_after coins (DrawnPublic digits) = option_or coins (Some (coin_seed (bytes_of_digits digits)))
+coins_after coins line = coins
+
+-- the claim, where a block shows the code
+abbrev pub with_shown : Block → ℕ → Claimed → Claimed
+with_shown block code claim = record { code = claim.code; answer = claim.answer; shown = claim.shown || (is_dispute block && code == claim.code) }
+
+abbrev pub claim_after : Option Claimed → Placed → Option Claimed
+claim_after claim (CodeAt block ballot race column code) = option_map (with_shown block code.code) claim
+claim_after claim (Disputed ballot race code word) = Some (record { code = code; answer = word; shown = false })
+claim_after claim line = claim
+
 -- the ledger with one more line
 abbrev pub ledger_after : Plan → Ledger → Placed → Ledger
 ledger_after plan ledger line = record {
@@ -81,5 +118,8 @@ ledger_after plan ledger line = record {
   bits = record { flagged = flagged_after plan ledger.bits.flagged line; places = places_after plan ledger.bits.places line; votes = votes_after plan ledger.bits.votes line };
   pointers = record { lefts = seen_lefts_after plan ledger.pointers.lefts line; rights = seen_rights_after plan ledger.pointers.rights line };
   paths = paths_after plan ledger.paths line;
+  audits = record { audited = audited_after plan ledger.audits.audited line; papers = papers_after plan ledger.audits.papers line; entries = audit_counts_after ledger.audits.entries line; boths = both_counts_after ledger.audits.boths line };
+  drawn = record { full = full_after ledger.drawn.full line; coins = coins_after ledger.drawn.coins line };
+  claim = claim_after ledger.claim line;
   totals = ledger.totals ++ total_on line;
 }

@@ -6,6 +6,11 @@ use Rattle.std.specs.Option.{option_map_or}
 abbrev pub with_first : {A : Type 0} → List (Option A) → ℕ → A → List (Option A)
 with_first table at value = (if is_some (slice_index_or table at None) then table else slice_set table at (Some value))
 
+-- with each value at a place, unless one stands there; the first is of this place
+abbrev pub with_firsts : {A : Type 0} → List (Option A) → ℕ → List A → List (Option A)
+with_firsts table at [] = table
+with_firsts table at (value ∷ values) = with_firsts (with_first table at value) (at + 1) values
+
 -- a count that would be larger stands as this
 abbrev pub most_marks : ℕ
 most_marks = 2 ^ 32 - 1
@@ -27,6 +32,15 @@ with_bits table at (bit ∷ bits) = with_bits (if bit == 0x31 then slice_set tab
 abbrev pub with_votes : ℕ → ℕ → List ℕ → ℕ → List ℕ → List ℕ
 with_votes candidates first votes place [] = votes
 with_votes candidates first votes place (bit ∷ bits) = with_votes candidates first (if bit == 0x31 then with_one_more most_votes votes (first + place % candidates) else votes) (place + 1) bits
+
+-- of each ballot, by its style, how many ballots before it pass the test; so many come before the first
+abbrev pub rows_before : (ℕ → Bool) → ℕ → List ℕ → List ℕ
+rows_before has row [] = []
+rows_before has row (style ∷ styles) = row ∷ rows_before has (row + (if has style then 1 else 0)) styles
+
+-- the most totals of a plan: 32 races of 16 candidates
+abbrev pub most_totals : ℕ
+most_totals = 512
 
 -- what is known of column `at` is against the code of the column: another column's and the same code, or this column's
 -- and another code

@@ -1,40 +1,41 @@
 -- What the tables of a ledger tell: the facts of the lines in their places, at the place of each coordinate.
-use Rattle.std.specs.Prelude.{◌≡◌, ℕ, ◌+◌, ◌*◌, ◌<◌, ◌==◌, nat_lt, min, Bool, true, false, ◌&&◌, List, [], ◌∷◌, ◌++◌, length, slice_get, slice_index_or, Option, Some, None, count_by}
+use Rattle.std.specs.Prelude.{◌≡◌, ℕ, zero, suc, ◌+◌, ◌*◌, ◌/◌, ◌%◌, ◌<◌, ◌≤◌, ◌==◌, nat_lt, if◌then◌else◌, min, Bool, true, false, ◌&&◌, List, [], ◌∷◌, ◌++◌, length, slice_get, slice_index_or, Option, Some, None, count_by}
 use Rattle.std.specs.List.{list_any}
-use Rattle.std.specs.Option.{option_map_or}
-use Rattle.sg_check.specs.Facts.{code_commitment, left_commitment, right_commitment, is_marked, marks_ballot, is_flagged, is_set, votes_for, opens_left, opens_right}
+use Rattle.std.specs.Option.{option_map, option_map_or}
+use Rattle.sg_check.specs.Facts.{Claim, code_commitment, left_commitment, right_commitment, is_marked, marks_ballot, audited_entries, is_audited, paper_code, is_flagged, is_set, votes_for, opens_left, opens_right, both_rows, is_full_draw, public_bytes, last_claim, shows_disputed}
 use Rattle.sg_check.specs.Verdict.{total_on}
-use Rattle.sg_check.specs.declared.verdict.Total.{Total}
+use Rattle.sg_check.specs.declared.judged.Total.{Total}
+use Rattle.sg_forms.specs.Spelling.{AreDigits}
 use Rattle.sg_forms.specs.declared.line.RowOpening.{RowOpening}
 use Rattle.sg_forms.specs.declared.line.RowOpening.TheVariants as row
-use Rattle.sg_ledger.specs.Tables.{most_marks, most_votes}
+use Rattle.sg_ledger.specs.Tables.{most_marks, most_votes, rows_before}
+use Rattle.sg_ledger.specs.declared.audits.Audits.{Audits}
 use Rattle.sg_ledger.specs.declared.bits.Bits.{Bits}
+use Rattle.sg_ledger.specs.declared.claims.Claimed.{Claimed}
 use Rattle.sg_ledger.specs.declared.codes.Codes.{Codes}
 use Rattle.sg_ledger.specs.declared.commitments.Commitments.{Commitments}
+use Rattle.sg_ledger.specs.declared.drawn.Drawn.{Drawn}
 use Rattle.sg_ledger.specs.declared.ledger.Ledger.{Ledger}
 use Rattle.sg_ledger.specs.declared.pointers.Pointers.{Pointers}
 use Rattle.sg_ledger.specs.declared.sizes.Sizes.{Sizes}
-use Rattle.sg_plan.specs.Ballots.{all_entries, ballot_has, candidates_of, entries_before, entries_of, entry_at, entry_place, r_rows, row_place}
+use Rattle.sg_plan.specs.Ballots.{all_entries, ballot_has, ballot_styles, ballots_of, candidates_of, entries_before, entries_of, entry_at, entry_place, r_rows, row_place, style_has}
 use Rattle.sg_plan.specs.declared.plan.Plan.{Plan}
-use Rattle.sg_record.specs.Placed.{Placed}
-use Rattle.sg_record.specs.Placed.Placed.{OfPlan, CodeAt, RowAt}
-use Rattle.sg_record.specs.Spots.{IsPlacedIn}
+use Rattle.sg_grammar.specs.Placed.{Placed}
+use Rattle.sg_grammar.specs.Placed.Placed.{CodeAt, DrawnPublic, RowAt}
+use Rattle.sg_grammar.specs.Spots.{IsPlacedIn}
+use Rattle.sg_streams.specs.CoinSides.{coin_seed}
 
 -- LINES
-
-abbrev pub IsOfPlan : Placed → Type 0
-IsOfPlan (OfPlan said) = Unit {0}
-IsOfPlan line = ⊥
-
--- each of the lines is a line of the plan
-abbrev pub AreOfPlan : List Placed → Type 0
-AreOfPlan [] = Unit {0}
-AreOfPlan (line ∷ lines) = IsOfPlan line × AreOfPlan lines
 
 -- the coordinates of each line are of the plan
 abbrev pub ArePlacedIn : Plan → List Placed → Type 0
 ArePlacedIn plan [] = Unit {0}
 ArePlacedIn plan (line ∷ lines) = IsPlacedIn plan line × ArePlacedIn plan lines
+
+-- public bytes that the line draws are spelled as its form wants
+abbrev pub HasDigits : Placed → Type 0
+HasDigits (DrawnPublic digits) = AreDigits digits
+HasDigits line = Unit {0}
 
 -- what the `total` lines say, in their order
 abbrev pub totals_placed : List Placed → List Total
@@ -55,6 +56,19 @@ leads_to plan race entry place (row.Right opening) = false
 abbrev pub leads_entry : Plan → ℕ → ℕ → ℕ → Placed → Bool
 leads_entry plan race entry place (RowAt of instance number opening) = of == race && leads_to plan race entry place opening
 leads_entry plan race entry place line = false
+
+-- how many of the numbers below n pass the test
+abbrev pub count_to : ℕ → (ℕ → Bool) → ℕ
+count_to zero test = 0
+count_to (suc n) test = count_to n test + (if test n then 1 else 0)
+
+-- how many left pointers below n the rows of the instance open
+abbrev pub opened_lefts : Plan → ℕ → ℕ → List Placed → ℕ
+opened_lefts plan race instance lines = count_to (entries_of plan race) (λ pointer. list_any (opens_left race instance pointer) lines)
+
+-- what is kept of a claim: whether the block shows its code
+abbrev pub kept_of : Claim → Claimed
+kept_of claim = record { code = claim.code; answer = claim.answer; shown = list_any (shows_disputed claim.code) claim.behind }
 
 -- this value is there
 abbrev pub is_value : Option ℕ → ℕ → Bool
@@ -85,13 +99,34 @@ abbrev pub AtCandidates : Plan → List ℕ → (ℕ → ℕ → ℕ → Type 0)
 AtCandidates plan table fact = (race candidate : ℕ) → race < length plan.races → candidate < candidates_of plan race
     → fact race candidate (slice_index_or table (candidate_place race candidate) 0)
 
--- how many entries come before those of each race, and how many it has
+-- the fact of each race holds of what stands at its place
+abbrev pub AtRaces : Plan → List ℕ → (ℕ → ℕ → Type 0) → Type 0
+AtRaces plan table fact = (race : ℕ) → race < length plan.races → fact race (slice_index_or table race 0)
+
+-- where an instance stands when 16 are left for each race
+abbrev pub instance_place : ℕ → ℕ → ℕ
+instance_place race instance = 16 * race + instance
+
+-- the fact of each instance holds of what stands at its place
+abbrev pub AtInstances : Plan → List ℕ → (ℕ → ℕ → ℕ → Type 0) → Type 0
+AtInstances plan table fact = (race instance : ℕ) → race < length plan.races → instance < plan.instances
+    → fact race instance (slice_index_or table (instance_place race instance) 0)
+
+-- of each of so many races, the ballot rows of all ballots; where a ballot does not have the race, that of the next
+-- ballot that has it
+abbrev pub rows_to : Plan → ℕ → List ℕ
+rows_to plan zero = []
+rows_to plan (suc race) = rows_to plan race ++ rows_before (style_has plan race) 0 (ballot_styles plan.runs)
+
+-- how many entries come before those of each race, and how many it has; and the ballot rows
 pub record AreSizes (plan : Plan) (sizes : Sizes) : Type 0 where
   pub befores : length sizes.before ≡ length plan.races
   pub counts : length sizes.entries ≡ length plan.races
   pub before : (race : ℕ) → race < length plan.races → slice_get sizes.before race ≡ Some (entries_before plan race)
   pub count : (race : ℕ) → race < length plan.races → slice_get sizes.entries race ≡ Some (entries_of plan race)
   pub all : sizes.all ≡ all_entries plan
+  pub ballots : sizes.ballots ≡ ballots_of plan
+  pub rows : sizes.rows ≡ rows_to plan (length plan.races)
 
 -- each table has a place for each coordinate
 pub record IsSized (plan : Plan) (ledger : Ledger) : Type 0 where
@@ -108,6 +143,10 @@ pub record IsSized (plan : Plan) (ledger : Ledger) : Type 0 where
   pub seen_lefts : length ledger.pointers.lefts ≡ r_rows plan
   pub seen_rights : length ledger.pointers.rights ≡ r_rows plan
   pub paths : length ledger.paths ≡ all_entries plan
+  pub audited : length ledger.audits.audited ≡ all_entries plan
+  pub papers : length ledger.audits.papers ≡ all_entries plan
+  pub audit_counts : length ledger.audits.entries ≡ length plan.races
+  pub both_counts : length ledger.audits.boths ≡ 16 * length plan.races
 
 pub record TellsCommitments (plan : Plan) (kept : Commitments) (lines : List Placed) : Type 0 where
   pub codes : AtEntries plan kept.codes None (λ race entry digest. digest ≡ code_commitment race entry lines)
@@ -134,6 +173,19 @@ pub record TellsPointers (plan : Plan) (kept : Pointers) (lines : List Placed) :
 abbrev pub TellsPaths : Plan → List (Option ℕ) → List Placed → Type 0
 TellsPaths plan kept lines = AtEntries plan kept None (λ race entry to. (place : ℕ) → list_any (leads_entry plan race entry place) lines ≡ is_value to place)
 
+-- no instance has more rows opened on both sides than left pointers that they open
+pub record TellsAudits (plan : Plan) (kept : Audits) (lines : List Placed) : Type 0 where
+  pub audited : AtEntries plan kept.audited false (λ race entry bit. bit ≡ is_audited plan race entry lines)
+  pub papers : AtEntries plan kept.papers None (λ race entry code. code ≡ paper_code plan race (entry / candidates_of plan race) (entry % candidates_of plan race) lines)
+  pub entries : AtRaces plan kept.entries (λ race count. count ≡ min (audited_entries race lines) most_marks)
+  pub boths : AtInstances plan kept.boths (λ race instance count. count ≡ min (both_rows race instance lines) most_marks)
+  pub few : (race instance : ℕ) → race < length plan.races → instance < plan.instances → both_rows race instance lines ≤ opened_lefts plan race instance lines
+
+-- whether all sides are drawn, and the seed of the coins where public bytes are
+pub record TellsDrawn (kept : Drawn) (lines : List Placed) : Type 0 where
+  pub full : kept.full ≡ is_full_draw lines
+  pub coins : kept.coins ≡ option_map coin_seed (public_bytes lines)
+
 -- the ledger tells these lines
 pub record Tells (plan : Plan) (ledger : Ledger) (lines : List Placed) : Type 0 where
   pub sized : IsSized plan ledger
@@ -143,7 +195,14 @@ pub record Tells (plan : Plan) (ledger : Ledger) (lines : List Placed) : Type 0 
   pub bits : TellsBits plan ledger.bits lines
   pub pointers : TellsPointers plan ledger.pointers lines
   pub paths : TellsPaths plan ledger.paths lines
+  pub audits : TellsAudits plan ledger.audits lines
+  pub drawn : TellsDrawn ledger.drawn lines
+  pub claim : ledger.claim ≡ option_map kept_of (last_claim lines)
   pub totals : ledger.totals ≡ totals_placed lines
+
+-- how many totals the ledger has
+abbrev pub totals_kept : Ledger → ℕ
+totals_kept ledger = length ledger.totals
 
 -- the ledger tells some lines
 abbrev pub TellsSome : Plan → Ledger → Type 0

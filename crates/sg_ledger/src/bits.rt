@@ -7,7 +7,7 @@ ghost use Rattle.sg_ledger.specs.Tells.{AreSizes};
 ghost use Rattle.sg_plan.specs.Ballots.{all_entries, entries_of, entry_place};
 
 use crate::sizes::Sizes;
-use crate::tables::{count_vote, fill, look, set_bits};
+use crate::tables::{count_vote, look, set_bits};
 use sg_commit::Opening;
 use sg_plan::{Items, NoMemory, Plan};
 use std::alloc::Global;
@@ -35,9 +35,9 @@ impl Bits {
         ensures places { IfOk result (λ made. made.places ≡ replicate entries false) }
         ensures votes { IfOk result (λ made. made.votes ≡ replicate candidates 0) }
     {
-        let flagged = fill(alloc, false, rows)?;
-        let places = fill(alloc, false, entries)?;
-        let votes = fill(alloc, 0, candidates)?;
+        let flagged = Items::filled(alloc, false, rows)?;
+        let places = Items::filled(alloc, false, entries)?;
+        let votes = Items::filled(alloc, 0, candidates)?;
         Ok(Bits {
             flagged,
             places,

@@ -1,11 +1,12 @@
 //! Codes that are shown, and marks.
-ghost use Rattle.std.specs.Prelude.{◌≡◌, ℕ, ◌+◌, ◌<◌, ◌≤◌, ◌^◌, ◌&&◌, if◌then◌else◌, IfOk, true, false, nat_le, length, replicate, slice_index_or, slice_set};
+ghost use Rattle.std.specs.Prelude.{◌≡◌, ℕ, ◌+◌, ◌<◌, ◌≤◌, ◌^◌, ◌&&◌, if◌then◌else◌, IfOk, true, false, nat_le, nat_lt, length, replicate, slice_index_or, slice_set};
 ghost use Rattle.sg_check.specs.Facts.{is_cast};
+ghost use Rattle.sg_check.specs.Kinds.{is_there};
 ghost use Rattle.sg_ledger.specs.Tables.{most_marks, shows_another, with_one_more};
 
-use crate::tables::{count_mark, fill, look};
+use crate::tables::{count_mark, look};
+use sg_grammar::Block;
 use sg_plan::{Items, NoMemory};
-use sg_record::Block;
 use std::alloc::Global;
 
 /// The codes and the marks that were shown.
@@ -26,9 +27,9 @@ impl Codes {
         ensures marked { IfOk result (λ made. made.marked ≡ replicate entries false) }
         ensures marks { IfOk result (λ made. made.marks ≡ replicate entries 0) }
     {
-        let known = fill(alloc, None, entries)?;
-        let marked = fill(alloc, false, entries)?;
-        let marks = fill(alloc, 0, entries)?;
+        let known = Items::filled(alloc, None, entries)?;
+        let marked = Items::filled(alloc, false, entries)?;
+        let marks = Items::filled(alloc, 0, entries)?;
         Ok(Codes {
             known,
             marked,
@@ -69,6 +70,31 @@ impl Codes {
         }
     }
 
+    /// The ballot has a mark.
+    pub fn has_mark(&self, first: usize) -> bool
+        requires { first < length self.now.marks }
+        ensures { result ≡ nat_lt 0 (slice_index_or self.now.marks first 0) }
+    {
+        0 < look(&self.marks, first)
+    }
+
+    /// A column of the ballot is marked, and shows the code.
+    pub fn is_posted(&self, first: usize, candidates: usize, code: u16) -> bool
+        requires few { first + candidates < 2 ^ 32 }
+        requires known { first + candidates ≤ length self.now.known }
+        requires marked { first + candidates ≤ length self.now.marked }
+        ensures some { result ≡ true → (at : ℕ) × (at < candidates) × ((slice_index_or self.now.marked (first + at) false && is_there (slice_index_or self.now.known (first + at) None) code) ≡ true) }
+        ensures none { result ≡ false → (at : ℕ) → at < candidates → (slice_index_or self.now.marked (first + at) false && is_there (slice_index_or self.now.known (first + at) None) code) ≡ false }
+    {
+        for at in 0..candidates {
+            let marked = look(&self.marked, first + at);
+            if is_mark_of(code, marked, look(&self.known, first + at)) {
+                return true;
+            }
+        }
+        false
+    }
+
     /// A column of the ballot shows the code already, or this column another one.
     pub fn are_against(&self, first: usize, candidates: usize, column: usize, code: u16) -> bool
         requires few { first + candidates < 2 ^ 32 }
@@ -82,6 +108,16 @@ impl Codes {
             }
         }
         false
+    }
+}
+
+/// The column is marked, and the code is known of it.
+fn is_mark_of(code: u16, marked: bool, known: Option<u16>) -> bool
+    ensures { result ≡ (marked && is_there known code) }
+{
+    match known {
+        Some(known) => marked && known == code,
+        None => false,
     }
 }
 

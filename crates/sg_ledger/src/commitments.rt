@@ -4,7 +4,7 @@ ghost use Rattle.sg_check.specs.Facts.{left_of, right_of};
 ghost use Rattle.sg_check.specs.Kinds.{bad_pointer_opening, code_opening, opens_digest};
 ghost use Rattle.sg_ledger.specs.Tables.{with_first};
 
-use crate::tables::{fill, look, put_first};
+use crate::tables::{look, put_first};
 use sg_commit::{CommitKind, Digest, Opening, opens};
 use sg_forms::{CodeLine, RowOpening};
 use sg_plan::{Items, NoMemory};
@@ -25,9 +25,9 @@ impl Commitments {
         ensures lefts { IfOk result (λ made. made.lefts ≡ replicate rows None) }
         ensures rights { IfOk result (λ made. made.rights ≡ replicate rows None) }
     {
-        let codes = fill(alloc, None, entries)?;
-        let lefts = fill(alloc, None, rows)?;
-        let rights = fill(alloc, None, rows)?;
+        let codes = Items::filled(alloc, None, entries)?;
+        let lefts = Items::filled(alloc, None, rows)?;
+        let rights = Items::filled(alloc, None, rows)?;
         Ok(Commitments {
             codes,
             lefts,

@@ -1,33 +1,41 @@
 //! The ledger: what its tables tell, what a line is judged by them, and how a line is kept in them.
-ghost use Rattle.std.specs.Prelude.{◌≡◌, ◌<◌, ◌==◌, ◌||◌, if◌then◌else◌, None, List, [], ◌∷◌, ◌++◌, IfOk, IsOk, OnOk, OnErr};
-ghost use Rattle.sg_check.specs.Kinds.{bad_flag, bad_opening, bad_pointer, first_bad};
+ghost use Rattle.std.specs.Prelude.{◌≡◌, ◌+◌, ◌<◌, ◌≤◌, ◌==◌, ◌&&◌, ◌||◌, if◌then◌else◌, None, true, List, ◌∷◌, [], ◌++◌, IfOk, length, take};
+ghost use Rattle.sg_check.specs.Kinds.{bad_dispute, bad_flag, bad_opening, bad_pointer, bad_print, bad_side, first_bad};
 ghost use Rattle.sg_check.specs.Verdict.{total_on};
 ghost use Rattle.sg_forms.specs.Said.{said};
-ghost use Rattle.sg_ledger.specs.Reads.{code_kind, row_kind};
-ghost use Rattle.sg_plan.specs.Ballots.{r_rows, row_place};
+ghost use Rattle.sg_forms.specs.Spelling.{AreDigits};
+ghost use Rattle.sg_ledger.specs.Reads.{code_kind, row_kind, rule_kind};
+ghost use Rattle.sg_ledger.specs.Tables.{most_totals};
+ghost use Rattle.sg_plan.specs.Ballots.{candidates_of, entry_at, entry_place, r_rows, row_place};
 ghost use Rattle.sg_plan.specs.Limits.{fault_of};
 ghost use Rattle.sg_plan.specs.declared.plan.Plan.{Plan as PlanOf};
-ghost use Rattle.sg_record.specs.Placed.{Placed};
-ghost use Rattle.sg_record.specs.Placed.Placed.{CodeCommitAt, RowCommitAt, CodeAt, FlagsAt, PlacesAt, TotalAt, RowAt};
-ghost use Rattle.sg_record.specs.Spots.{IsPlacedIn, placed_at};
+ghost use Rattle.sg_grammar.specs.Placed.{Placed};
+ghost use Rattle.sg_grammar.specs.Placed.Placed.{CodeCommitAt, RowCommitAt, CodeAt, OverAt, PaperAt, FlagsAt, PlacesAt, TotalAt, DrawnFull, DrawnPublic, RowAt, Disputed};
+ghost use Rattle.sg_grammar.specs.Spots.{IsPlacedIn, placed_at};
 
+use crate::audits::{Audits, are_both, count_both, has_repeat, is_number_wrong, is_paper_wrong};
 use crate::bits::{Bits, is_flag_wrong};
+use crate::claims::{Claimed, is_dispute, is_right, with_shown};
 use crate::codes::Codes;
 use crate::commitments::{Commitments, left_opening, right_opening};
+use crate::drawn::Drawn;
 use crate::paths::{is_path_bad, keep_path};
 use crate::pointers::{Pointers, is_pointer_bad, keep_pointer};
-use crate::sizes::{Sizes, count_candidates, count_votes, first_entry};
-use crate::tables::{fill, look, put_first, set_bits};
-use crate::told::{Told, tell};
-use sg_check::{Kind, Total};
+use crate::sizes::{Sizes, count_candidates, count_votes};
+use crate::tables::{look, put_first, put_firsts, set_bits};
+use crate::totals::Totals;
+use sg_check::{Kind, Told, Total, tell};
 use sg_commit::Digest;
 use sg_forms::{CodeLine, Line, RowOpening};
-use sg_plan::{Items, NoMemory, Plan};
-use sg_record::{Block, Spot};
+use sg_grammar::{Block, Spot};
+use sg_plan::{ClaimWord, Items, NoMemory, Plan};
 use std::alloc::Global;
 
 /// How many places the table of votes has for each race: the most candidates of a race.
 const CANDIDATES: usize = 16;
+
+/// How many places the count of rows opened on both sides has for each race: the most instances.
+const INSTANCES: usize = 16;
 
 /// What the lines of a record have said so far.
 #[derive(Debug, Drop)]
@@ -39,14 +47,19 @@ pub struct Ledger {
     pointers: Pointers,
     /// The place to which a row leads each entry, in any instance.
     paths: Items<Option<u32>>,
-    totals: Items<Total>,
+    audits: Audits,
+    drawn: Drawn,
+    /// The last claim.
+    claim: Option<Claimed>,
+    totals: Totals,
 }
 
 impl Ledger {
     ghost use Rattle.sg_ledger.specs.Steps.{ledger_after};
-    ghost use Rattle.sg_ledger.specs.Tells.{AreOfPlan, IsSized, Tells, TellsSome, totals_placed};
+    ghost use Rattle.sg_check.specs.Judging.{AreOfPlan};
+    ghost use Rattle.sg_ledger.specs.Tells.{HasDigits, IsSized, Tells, TellsSome, totals_kept, totals_placed};
 
-    /// Tables for a plan, in which nothing is told yet. All memory but that of the totals is taken here.
+    /// Tables for a plan, in which nothing is told yet. Only this takes memory, as much as the plan alone says.
     pub fn make(alloc: Global, plan: &Plan) -> Result<Ledger, NoMemory>
         requires good { fault_of plan.now ≡ None }
         ensures { IfOk result (λ ledger. (lines : List Placed) → AreOfPlan lines → Tells plan.now ledger lines) }
@@ -58,7 +71,11 @@ impl Ledger {
         let codes = Codes::make(alloc, entries)?;
         let bits = Bits::make(alloc, entries, rows, CANDIDATES * plan.races.len())?;
         let pointers = Pointers::make(alloc, rows)?;
-        let paths = fill(alloc, None, entries)?;
+        let paths = Items::filled(alloc, None, entries)?;
+        let races = plan.races.len();
+        let audits = Audits::make(alloc, entries, races, INSTANCES * races)?;
+        let drawn = Drawn::make();
+        let totals = Totals::make(alloc)?;
         Ok(Ledger {
             sizes,
             commitments,
@@ -66,7 +83,10 @@ impl Ledger {
             bits,
             pointers,
             paths,
-            totals: Items::new(alloc),
+            audits,
+            drawn,
+            claim: None,
+            totals,
         })
     }
 
@@ -74,6 +94,7 @@ impl Ledger {
     pub fn judge(&self, plan: &Plan, at: Spot, line: &Line) -> Option<Kind>
         requires good { fault_of plan.now ≡ None }
         requires placed { IsPlacedIn plan.now (placed_at at (said line.now)) }
+        requires digits { HasDigits (placed_at at (said line.now)) }
         requires some { TellsSome plan.now self.now }
         ensures { (lines : List Placed) → Tells plan.now self.now lines → result ≡ first_bad plan.now lines (placed_at at (said line.now)) }
     {
@@ -83,33 +104,41 @@ impl Ledger {
             Told::Code(block, ballot, race, column, code) => self.judge_code(
                 plan, block, ballot, race, column, &code,
             ),
+            Told::Over(ballot, race) => self.judge_over(plan, ballot, race),
+            Told::Paper(ballot, race, codes, count) => self.judge_paper(
+                plan, ballot, race, &codes, count,
+            ),
             Told::Flags(..) => None,
             Told::Places(..) => None,
             Told::Total(race, candidate, count) => self.judge_total(plan, race, candidate, count),
+            Told::Seal(..) => None,
+            Told::DrawFull => None,
+            Told::DrawPublic(_) => None,
             Told::Row(race, instance, row, opening) => self.judge_row(
                 plan, race, instance, row, &opening,
             ),
+            Told::Dispute(..) => None,
             Told::Nothing => None,
         }
     }
 
-    /// Tells one more line, in which nothing is bad. Only the line of a total takes memory.
-    pub fn keep(&mut self, plan: &Plan, at: Spot, line: &Line) -> Result<(), NoMemory>
+    /// Tells one more line, in which nothing is bad. It takes no memory.
+    pub fn keep(&mut self, plan: &Plan, at: Spot, line: &Line)
         requires good { fault_of plan.now ≡ None }
         requires placed { IsPlacedIn plan.now (placed_at at (said line.now)) }
+        requires digits { HasDigits (placed_at at (said line.now)) }
         requires some { TellsSome plan.now self.old }
-        ensures ok { OnOk result ((lines : List Placed) → Tells plan.now self.old lines → first_bad plan.now lines (placed_at at (said line.now)) ≡ None → Tells plan.now self.new (lines ++ placed_at at (said line.now) ∷ [])) }
-        ensures err { OnErr result (self.new ≡ self.old) }
-        ensures memory { total_on (placed_at at (said line.now)) ≡ [] → IsOk result }
+        requires room { totals_kept self.old + length (total_on (placed_at at (said line.now))) ≤ most_totals }
+        ensures { (lines : List Placed) → Tells plan.now self.old lines → first_bad plan.now lines (placed_at at (said line.now)) ≡ None → Tells plan.now self.new (lines ++ placed_at at (said line.now) ∷ []) }
     {
-        self.write(plan, at, line)
+        self.write(plan, at, line);
     }
 
     /// The totals told, in the order of their lines.
     pub fn totals(self) -> Items<Total>
         ensures { (plan : PlanOf) (lines : List Placed) → Tells plan self lines → result ≡ totals_placed lines }
     {
-        self.totals
+        self.totals.into_items()
     }
 
     /// What a code in a block is bad in.
@@ -127,7 +156,7 @@ impl Ledger {
         requires sized { IsSized plan.now self.now }
         ensures { (lines : List Placed) → Tells plan.now self.now lines → result ≡ first_bad plan.now lines (CodeAt block ballot race column code.now) }
     {
-        let first = first_entry(plan, race, ballot, column);
+        let first = self.sizes.first_entry(plan, race, ballot);
         let at = self.sizes.entry_place(plan, race, first);
         let own = at + column as usize;
         let opening = self
@@ -138,7 +167,69 @@ impl Ledger {
         let against = self
             .codes
             .are_against(at, candidates, column as usize, code.code);
-        kind_of_code(opening, many, against)
+        let dispute = self.is_answer_wrong(plan, block, at, ballot, race, column, code);
+        kind_of_code(opening, many, against, dispute)
+    }
+
+    /// The code is the last of a dispute's block, and the answer to the claim is wrong.
+    fn is_answer_wrong(
+        &self,
+        plan: &Plan,
+        block: Block,
+        at: usize,
+        ballot: u32,
+        race: u32,
+        column: u32,
+        code: &CodeLine,
+    ) -> bool
+        requires good { fault_of plan.now ≡ None }
+        requires placed { IsPlacedIn plan.now (CodeAt block ballot race column code.now) }
+        requires sized { IsSized plan.now self.now }
+        requires at { at ≡ entry_place plan.now race (entry_at plan.now race ballot 0) }
+        ensures { (lines : List Placed) → Tells plan.now self.now lines → result ≡ bad_dispute plan.now lines (CodeAt block ballot race column code.now) }
+    {
+        if !is_dispute(block) {
+            return false;
+        }
+        let candidates = count_candidates(plan, race);
+        if column as usize + 1 != candidates {
+            return false;
+        }
+        let Some(claim) = self.claim else {
+            return false;
+        };
+        let marked = self.codes.is_posted(at, candidates, claim.code);
+        let shown = is_either(claim.shown, code.code == claim.code);
+        !is_right(claim.answer, marked, shown)
+    }
+
+    /// What the line that a race is over is bad in.
+    fn judge_over(&self, plan: &Plan, ballot: u32, race: u32) -> Option<Kind>
+        requires good { fault_of plan.now ≡ None }
+        requires placed { IsPlacedIn plan.now (OverAt ballot race) }
+        requires sized { IsSized plan.now self.now }
+        ensures { (lines : List Placed) → Tells plan.now self.now lines → result ≡ first_bad plan.now lines (OverAt ballot race) }
+    {
+        let first = self.sizes.first_entry(plan, race, ballot);
+        let at = self.sizes.entry_place(plan, race, first);
+        kind_of_rule(self.codes.has_mark(at))
+    }
+
+    /// What the codes of a paper are bad in: the first so many of them.
+    fn judge_paper(
+        &self,
+        plan: &Plan,
+        ballot: u32,
+        race: u32,
+        codes: &[u16; 16],
+        count: u32,
+    ) -> Option<Kind>
+        requires good { fault_of plan.now ≡ None }
+        requires placed { IsPlacedIn plan.now (PaperAt ballot race (take count codes.now)) }
+        ensures { (lines : List Placed) → Tells plan.now self.now lines → result ≡ first_bad plan.now lines (PaperAt ballot race (take count codes.now)) }
+    {
+        let candidates = count_candidates(plan, race);
+        kind_of_rule(has_repeat(&codes[..candidates]))
     }
 
     /// What a total is bad in.
@@ -174,7 +265,59 @@ impl Ledger {
         let bad_pointer = self.is_row_pointer_bad(plan, race, instance, row, opening);
         let bad_flag = self.is_row_flag_bad(plan, at, race, instance, row, opening);
         let bad_path = is_path_bad(&self.paths, &self.sizes, plan, race, opening);
-        kind_of_row(bad_opening, bad_pointer, bad_flag, bad_path)
+        let bad_side = self.drawn.is_side_bad(race, instance, row, opening);
+        let bad_print = self.is_row_print_bad(plan, race, instance, row, opening);
+        kind_of_row(
+            bad_opening,
+            bad_side,
+            bad_pointer,
+            bad_flag,
+            bad_path,
+            bad_print,
+        )
+    }
+
+    /// The row disagrees with a print audit.
+    fn is_row_print_bad(
+        &self,
+        plan: &Plan,
+        race: u32,
+        instance: u32,
+        row: u32,
+        opening: &RowOpening,
+    ) -> bool
+        requires good { fault_of plan.now ≡ None }
+        requires placed { IsPlacedIn plan.now (RowAt race instance row opening.now) }
+        requires sized { IsSized plan.now self.now }
+        ensures { (lines : List Placed) → Tells plan.now self.now lines → result ≡ bad_print plan.now lines (RowAt race instance row opening.now) }
+    {
+        let is_both = are_both(opening);
+        let audit = is_flag_wrong(
+            &self.audits.audited,
+            &self.sizes,
+            plan,
+            race,
+            is_both,
+            left_opening(opening),
+        );
+        let number = is_number_wrong(
+            row + 1 == self.sizes.entries(plan, race),
+            look(
+                &self.audits.boths,
+                INSTANCES * race as usize + instance as usize,
+            ),
+            is_both,
+            look(&self.audits.entries, race as usize),
+        );
+        let paper = is_paper_wrong(
+            &self.audits,
+            &self.codes.known,
+            &self.sizes,
+            plan,
+            race,
+            opening,
+        );
+        is_print_bad(self.drawn.is_public(), audit, number, paper)
     }
 
     /// A pointer that the row opens does not open its commitment.
@@ -270,13 +413,13 @@ impl Ledger {
     }
 
     /// Puts what the line tells into the tables.
-    fn write(&mut self, plan: &Plan, at: Spot, line: &Line) -> Result<(), NoMemory>
+    fn write(&mut self, plan: &Plan, at: Spot, line: &Line)
         requires good { fault_of plan.now ≡ None }
         requires placed { IsPlacedIn plan.now (placed_at at (said line.now)) }
+        requires digits { HasDigits (placed_at at (said line.now)) }
         requires sized { IsSized plan.now self.old }
-        ensures ok { OnOk result (self.new ≡ ledger_after plan.now self.old (placed_at at (said line.now))) }
-        ensures err { OnErr result (self.new ≡ self.old) }
-        ensures memory { total_on (placed_at at (said line.now)) ≡ [] → IsOk result }
+        requires room { totals_kept self.old + length (total_on (placed_at at (said line.now))) ≤ most_totals }
+        ensures { self.new ≡ ledger_after plan.now self.old (placed_at at (said line.now)) }
     {
         match tell(at, line) {
             Told::CodeCommit(race, entry, digest) => self.write_code_commit(
@@ -288,23 +431,26 @@ impl Ledger {
             Told::Code(block, ballot, race, column, code) => self.write_code(
                 plan, block, ballot, race, column, &code,
             ),
+            Told::Over(..) => (),
+            Told::Paper(ballot, race, codes, count) => self.write_paper(
+                plan, ballot, race, &codes, count,
+            ),
             Told::Flags(race, instance, from, bits) => self.write_flags(
                 plan, race, instance, from, bits,
             ),
             Told::Places(race, from, bits) => self.write_places(plan, race, from, bits),
-            Told::Total(race, candidate, count) => {
-                return self.totals.push(Total {
-                    race,
-                    candidate,
-                    count,
-                });
-            }
+            Told::Total(race, candidate, count) => self.write_total(plan, race, candidate, count),
+            Told::Seal(..) => (),
+            Told::DrawFull => self.write_full(plan),
+            Told::DrawPublic(digits) => self.write_public(plan, digits),
             Told::Row(race, instance, row, opening) => self.write_row(
                 plan, race, instance, row, &opening,
             ),
+            Told::Dispute(ballot, race, code, word) => self.write_claim(
+                plan, ballot, race, code, word,
+            ),
             Told::Nothing => (),
         }
-        Ok(())
     }
 
     /// Keeps the commitment of a code.
@@ -351,9 +497,25 @@ impl Ledger {
         requires sized { IsSized plan.now self.old }
         ensures { self.new ≡ ledger_after plan.now self.old (CodeAt block ballot race column code.now) }
     {
-        let first = first_entry(plan, race, ballot, column);
+        let first = self.sizes.first_entry(plan, race, ballot);
         let at = self.sizes.entry_place(plan, race, first);
+        let own = at + column as usize;
         self.codes.keep(block, at, column as usize, code.code);
+        self.audits.keep_code(block, own, race as usize);
+        self.claim = with_shown(self.claim, block, code.code);
+    }
+
+    /// Keeps the codes of a paper, the first so many of them.
+    fn write_paper(&mut self, plan: &Plan, ballot: u32, race: u32, codes: &[u16; 16], count: u32)
+        requires good { fault_of plan.now ≡ None }
+        requires placed { IsPlacedIn plan.now (PaperAt ballot race (take count codes.now)) }
+        requires sized { IsSized plan.now self.old }
+        ensures { self.new ≡ ledger_after plan.now self.old (PaperAt ballot race (take count codes.now)) }
+    {
+        let first = self.sizes.first_entry(plan, race, ballot);
+        let at = self.sizes.entry_place(plan, race, first);
+        let candidates = count_candidates(plan, race);
+        put_firsts(&mut self.audits.papers, at, &codes[..candidates]);
     }
 
     /// Keeps flags.
@@ -379,6 +541,44 @@ impl Ledger {
         let candidates = count_candidates(plan, race);
         self.bits
             .keep_places(at, first, candidates, from as usize, bits);
+    }
+
+    /// Keeps a total.
+    fn write_total(&mut self, plan: &Plan, race: u32, candidate: u32, count: u32)
+        requires { totals_kept self.old < most_totals }
+        ensures { self.new ≡ ledger_after plan.now self.old (TotalAt race candidate count) }
+    {
+        self.totals.push(Total {
+            race,
+            candidate,
+            count,
+        });
+    }
+
+    /// Keeps that both sides of each row are drawn.
+    fn write_full(&mut self, plan: &Plan)
+        ensures { self.new ≡ ledger_after plan.now self.old DrawnFull }
+    {
+        self.drawn.full = true;
+    }
+
+    /// Keeps the coins of public bytes, in hexadecimal digits.
+    fn write_public(&mut self, plan: &Plan, digits: &[u8])
+        requires { AreDigits digits.now }
+        ensures { self.new ≡ ledger_after plan.now self.old (DrawnPublic digits.now) }
+    {
+        self.drawn.keep_public(digits);
+    }
+
+    /// Keeps a claim, of which nothing is shown yet.
+    fn write_claim(&mut self, plan: &Plan, ballot: u32, race: u32, code: u16, word: ClaimWord)
+        ensures { self.new ≡ ledger_after plan.now self.old (Disputed ballot race code word) }
+    {
+        self.claim = Some(Claimed {
+            code,
+            answer: word,
+            shown: false,
+        });
     }
 
     /// Keeps the pointers that a row opens, and the path of its entry.
@@ -407,6 +607,9 @@ impl Ledger {
             right,
         );
         keep_path(&mut self.paths, &self.sizes, plan, race, opening);
+        let place = INSTANCES * race as usize + instance as usize;
+        count_both(&mut self.audits.boths, place, opening);
+        self.drawn.move_on(race, instance, row);
     }
 }
 
@@ -418,17 +621,34 @@ fn is_either(left: bool, right: bool) -> bool
 }
 
 /// The first kind in which a code is bad: it does not open its commitment, or there are too many marks, or a code is
-/// against it.
-fn kind_of_code(opening: bool, many: bool, against: bool) -> Option<Kind>
-    ensures { result ≡ code_kind opening (many || against) }
+/// against it, or the answer to a claim is wrong.
+fn kind_of_code(opening: bool, many: bool, against: bool, dispute: bool) -> Option<Kind>
+    ensures { result ≡ code_kind opening (many || against) dispute }
 {
     if opening {
         Some(Kind::Opening)
     } else if many || against {
         Some(Kind::Rule)
+    } else if dispute {
+        Some(Kind::Dispute)
     } else {
         None
     }
+}
+
+/// A rule is broken.
+fn kind_of_rule(rule: bool) -> Option<Kind>
+    ensures { result ≡ rule_kind rule }
+{
+    if rule { Some(Kind::Rule) } else { None }
+}
+
+/// A row disagrees with a print audit: where public bytes were drawn, in what it opens or in the number of such rows;
+/// or in the paper.
+fn is_print_bad(public: bool, audit: bool, number: bool, paper: bool) -> bool
+    ensures { result ≡ ((public && (audit || number)) || paper) }
+{
+    (public && (audit || number)) || paper
 }
 
 /// The total is not the number of votes counted.
@@ -443,17 +663,28 @@ fn kind_of_total(votes: u64, count: u32) -> Option<Kind>
 }
 
 /// The first kind in which a row is bad.
-fn kind_of_row(opening: bool, pointer: bool, flag: bool, path: bool) -> Option<Kind>
-    ensures { result ≡ row_kind opening pointer flag path }
+fn kind_of_row(
+    opening: bool,
+    side: bool,
+    pointer: bool,
+    flag: bool,
+    path: bool,
+    print: bool,
+) -> Option<Kind>
+    ensures { result ≡ row_kind opening side pointer flag path print }
 {
     if opening {
         Some(Kind::Opening)
+    } else if side {
+        Some(Kind::Side)
     } else if pointer {
         Some(Kind::Pointer)
     } else if flag {
         Some(Kind::Flag)
     } else if path {
         Some(Kind::Path)
+    } else if print {
+        Some(Kind::Print)
     } else {
         None
     }

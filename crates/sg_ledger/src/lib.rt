@@ -4,16 +4,21 @@
 //! Each table has a place for each coordinate of the plan, in all races and instances, and is never cleared.
 #![tactic(auto)]
 
+mod audits;
 mod bits;
+mod claims;
 mod codes;
+mod coins;
 mod commitments;
+mod drawn;
 mod ledger;
 mod paths;
 mod pointers;
+mod rows;
 mod sizes;
 mod tables;
 #[cfg(test)]
 mod tests;
-mod told;
+mod totals;
 
 pub use ledger::Ledger;

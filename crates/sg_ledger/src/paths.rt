@@ -6,7 +6,7 @@ ghost use Rattle.sg_ledger.specs.Tables.{leads_another};
 ghost use Rattle.sg_ledger.specs.Tells.{AreSizes, ArePlacedIn, TellsPaths};
 ghost use Rattle.sg_plan.specs.Ballots.{all_entries};
 ghost use Rattle.sg_plan.specs.Limits.{fault_of};
-ghost use Rattle.sg_record.specs.Placed.{Placed};
+ghost use Rattle.sg_grammar.specs.Placed.{Placed};
 
 use crate::sizes::{Sizes, count_candidates};
 use crate::tables::look;

@@ -7,7 +7,7 @@ ghost use Rattle.sg_plan.specs.Ballots.{entries_of, r_rows, row_place};
 ghost use Rattle.sg_plan.specs.Limits.{fault_of};
 
 use crate::sizes::Sizes;
-use crate::tables::{fill, look};
+use crate::tables::look;
 use sg_commit::Opening;
 use sg_plan::{Items, NoMemory, Plan};
 use std::alloc::Global;
@@ -26,8 +26,8 @@ impl Pointers {
         ensures lefts { IfOk result (λ made. made.lefts ≡ replicate rows false) }
         ensures rights { IfOk result (λ made. made.rights ≡ replicate rows false) }
     {
-        let lefts = fill(alloc, false, rows)?;
-        let rights = fill(alloc, false, rows)?;
+        let lefts = Items::filled(alloc, false, rows)?;
+        let rights = Items::filled(alloc, false, rows)?;
         Ok(Pointers { lefts, rights })
     }
 }

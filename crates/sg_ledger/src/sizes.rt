@@ -3,6 +3,7 @@ ghost use Rattle.std.specs.Prelude.{◌≡◌, ◌+◌, ◌<◌, ◌≤◌, IfOk
 ghost use Rattle.sg_plan.specs.Ballots.{all_entries, ballot_has, candidates_of, entries_of, entry_at, entry_place, r_rows, row_place, votes_of};
 ghost use Rattle.sg_plan.specs.Limits.{fault_of};
 
+use crate::rows::rows_of_races;
 use sg_plan::{Items, NoMemory, Plan};
 use std::alloc::Global;
 
@@ -15,6 +16,10 @@ pub struct Sizes {
     entries: Items<u32>,
     /// How many entries all races have.
     all: u32,
+    /// How many ballots the plan has.
+    ballots: u32,
+    /// The ballot rows of all ballots in each race.
+    rows: Items<u16>,
 }
 
 impl Sizes {
@@ -25,6 +30,7 @@ impl Sizes {
         requires good { fault_of plan.now ≡ None }
         ensures { IfOk result (λ sizes. AreSizes plan.now sizes) }
     {
+        let rows = rows_of_races(alloc, plan)?;
         let mut before = Items::new(alloc);
         let mut entries = Items::new(alloc);
         let mut all = 0;
@@ -38,6 +44,8 @@ impl Sizes {
             before,
             entries,
             all,
+            ballots: plan.ballots(),
+            rows,
         })
     }
 
@@ -65,6 +73,20 @@ impl Sizes {
         ensures { result ≡ entries_of plan.now race }
     {
         *self.entries.get(race as usize)
+    }
+
+    /// The first entry of the ballot in the race.
+    pub fn first_entry(&self, plan: &Plan, race: u32, ballot: u32) -> u32
+        requires good { fault_of plan.now ≡ None }
+        requires sizes { AreSizes plan.now self.now }
+        requires race { race < length plan.now.races }
+        requires has { ballot_has plan.now ballot race ≡ true }
+        ensures first { result ≡ entry_at plan.now race ballot 0 }
+        ensures within { result + candidates_of plan.now race ≤ entries_of plan.now race }
+    {
+        let at = race as usize * self.ballots as usize + (ballot as usize - 1);
+        let row = u32::from(*self.rows.get(at));
+        row * count_candidates(plan, race) as u32
     }
 
     /// Where the entry stands in a table of all entries.
@@ -108,19 +130,4 @@ pub fn count_votes(plan: &Plan, race: u32) -> u32
     ensures { result ≡ votes_of plan.now race }
 {
     plan.races.get(race as usize).votes
-}
-
-/// The first entry of the ballot in the race, which has the column.
-pub fn first_entry(plan: &Plan, race: u32, ballot: u32, column: u32) -> u32
-    requires good { fault_of plan.now ≡ None }
-    requires race { race < length plan.now.races }
-    requires has { ballot_has plan.now ballot race ≡ true }
-    requires column { column < candidates_of plan.now race }
-    ensures first { result ≡ entry_at plan.now race ballot 0 }
-    ensures within { result + candidates_of plan.now race ≤ entries_of plan.now race }
-{
-    let Some(entry) = plan.entry(race, ballot, column) else {
-        unreachable!()
-    };
-    entry - column
 }

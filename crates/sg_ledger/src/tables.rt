@@ -1,21 +1,8 @@
 //! Small steps on one flat table.
-ghost use Rattle.std.specs.Prelude.{◌≡◌, ◌+◌, ◌<◌, ◌≤◌, ◌^◌, IfOk, length, replicate, slice_index_or};
-ghost use Rattle.sg_ledger.specs.Tables.{most_marks, most_votes, with_bits, with_first, with_one_more, with_votes};
+ghost use Rattle.std.specs.Prelude.{◌≡◌, ◌+◌, ◌<◌, ◌≤◌, ◌^◌, length, slice_index_or};
+ghost use Rattle.sg_ledger.specs.Tables.{most_marks, most_votes, with_bits, with_first, with_firsts, with_one_more};
 
-use sg_commit::Digest;
-use sg_plan::{Items, NoMemory};
-use std::alloc::Global;
-
-/// So many times the value.
-pub fn fill<T: Copy + Drop>(alloc: Global, value: T, count: usize) -> Result<Items<T>, NoMemory>
-    ensures { IfOk result (λ items. items ≡ replicate count value) }
-{
-    let mut items = Items::new(alloc);
-    for _place in 0..count {
-        items.push(value)?;
-    }
-    Ok(items)
-}
+use sg_plan::Items;
 
 /// What stands at a place.
 pub fn look<T: Copy>(table: &Items<T>, at: usize) -> T
@@ -25,13 +12,24 @@ pub fn look<T: Copy>(table: &Items<T>, at: usize) -> T
     *table.get(at)
 }
 
-/// Puts the digest at the place, unless one stands there.
-pub fn put_first(table: &mut Items<Option<Digest>>, at: usize, digest: Digest)
+/// Puts the value at the place, unless one stands there.
+pub fn put_first<T: Copy + Drop>(table: &mut Items<Option<T>>, at: usize, value: T)
     requires { at < length table.old }
-    ensures { table.new ≡ with_first table.old at digest }
+    ensures { table.new ≡ with_first table.old at value }
 {
     if look(table, at).is_none() {
-        table.replace(at, Some(digest));
+        table.replace(at, Some(value));
+    }
+}
+
+/// Puts each code at a place, unless one stands there. The first is of the place `at`.
+pub fn put_firsts(table: &mut Items<Option<u16>>, at: usize, codes: &[u16])
+    requires within { at + length codes.now ≤ length table.old }
+    requires few { at + length codes.now < 2 ^ 32 }
+    ensures { table.new ≡ with_firsts table.old at codes.now }
+{
+    for (place, code) in codes.iter().enumerate() {
+        put_first(table, at + place, *code);
     }
 }
 

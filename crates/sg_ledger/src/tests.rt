@@ -1,9 +1,9 @@
-//! A small plan's ledger, of which one total is judged and kept.
+//! A small plan's ledger, in which a draw is kept, and one total is judged and kept.
 use crate::Ledger;
 use sg_check::Kind;
 use sg_forms::Line;
+use sg_grammar::Spot;
 use sg_plan::{Items, NoMemory, Plan, Race, Run, Style, Word};
-use sg_record::Spot;
 use std::alloc::Global;
 use std::test::Fail;
 
@@ -56,6 +56,7 @@ fn judges_and_keeps_a_total(rt: HostRuntime) -> Result<(), Fail> {
     let plan = plan_of(rt.alloc())?;
     plan.check()?;
     let mut ledger = Ledger::make(rt.alloc(), &plan)?;
+    ledger.keep(&plan, Spot::Draw, &Line::DrawFull);
     let at = Spot::Total {
         race: 0,
         candidate: 0,
@@ -72,7 +73,7 @@ fn judges_and_keeps_a_total(rt: HostRuntime) -> Result<(), Fail> {
     };
     assert_eq!(rt; ledger.judge(&plan, at, &one), Some(Kind::Total));
     assert_eq!(rt; ledger.judge(&plan, at, &none), None);
-    ledger.keep(&plan, at, &none)?;
+    ledger.keep(&plan, at, &none);
     assert_eq!(rt; ledger.totals().len(), 1);
     Ok(())
 }

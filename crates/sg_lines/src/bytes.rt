@@ -22,10 +22,11 @@ fn digit_value(digit: u8) -> u8
     }
 }
 
-/// Writes the bytes that the word spells, and answers whether it spells any. Where it does not, what it writes is of no use.
+/// Reads bytes from lower-case hexadecimal digits, two for each byte of `out`, the high four bits of a byte first.
 ///
-/// No byte ends the loop early: a test of each one would cost more than the loop.
-fn decode(word: &[u8], out: &mut [u8]) -> bool
+/// Answers whether the word is the digits of any bytes, and `out` is then those bytes. Where it is not, what is written
+/// is of no use. No byte ends the loop early: a test of each one would cost more than the loop.
+pub fn read_hex(word: &[u8], out: &mut [u8]) -> bool
     requires { length word.now ≡ 2 * length out.old }
     ensures bytes { IsBytes out.new }
     ensures found { IsTrue result → word.now ≡ encode_lower out.new }
@@ -52,7 +53,7 @@ pub fn read_key(word: &[u8]) -> Option<[u8; 16]>
         return None;
     }
     let mut key = [0; 16];
-    if decode(word, &mut key) {
+    if read_hex(word, &mut key) {
         Some(key)
     } else {
         None
@@ -70,7 +71,7 @@ pub fn read_digest(word: &[u8]) -> Option<[u8; 32]>
         return None;
     }
     let mut digest = [0; 32];
-    if decode(word, &mut digest) {
+    if read_hex(word, &mut digest) {
         Some(digest)
     } else {
         None

@@ -13,7 +13,7 @@ mod number;
 mod tests;
 
 pub use bits::is_bits;
-pub use bytes::{read_digest, read_key, write_hex};
+pub use bytes::{read_digest, read_hex, read_key, write_hex};
 pub use code::{read_code, write_code};
 pub use laws::{code_law, decimal_law, digest_law, hex_law, key_law};
 pub use number::{decimal_len, read_decimal, write_decimal};

@@ -1,28 +1,32 @@
 -- One more line behind lines that are fine.
-use Rattle.std.proofs.Common.{◌≡◌, ℕ, ◌+◌, ◌<◌, ◌≤◌, true, false, inl, List, [], ◌∷◌, ◌++◌, length, Option, Some, None, refl, sym, subst, ap, ◌∙◌, append_assoc, arith}
+use Rattle.std.proofs.Common.{◌≡◌, ℕ, ◌+◌, ◌≤◌, true, false, inl, List, [], ◌∷◌, ◌++◌, length, Option, Some, None, refl, sym, subst, ap, ◌∙◌, append_assoc, arith}
 use Rattle.std.specs.Prelude.{IsSome}
+use Rattle.std.specs.Option.{is_some, option_map}
 use Rattle.std.proofs.lemmas.List.{append-nil, length_push, map_push, take_all}
 use Rattle.std.proofs.lemmas.Option.{same_Some}
 use Rattle.sg_check.proofs.Judging.{bad_in-placed, bad_in-seal}
 use Rattle.sg_check.proofs.OneMore.{form_over, kind_over, still_fine}
+use Rattle.sg_check.specs.Judging.{AreOfPlan}
 use Rattle.sg_check.specs.Kinds.{bad_seal, bytes_of, first_bad, placed_of}
 use Rattle.sg_check.specs.Verdict.{IsFirstBad, least_broken}
-use Rattle.sg_check.specs.declared.verdict.Kind.{Kind}
-use Rattle.sg_check.specs.declared.verdict.Kind.TheVariants as kind
+use Rattle.sg_check.specs.declared.judged.Kind.{Kind}
+use Rattle.sg_check.specs.declared.judged.Kind.TheVariants as kind
 use Rattle.sg_commit.specs.Seals.{StandsFor as HasTaken}
 use Rattle.sg_commit.specs.declared.Sealer.{Sealer}
 use Rattle.sg_forms.specs.Said.{Said}
 use Rattle.sg_ledger.specs.declared.ledger.Ledger.{Ledger}
-use Rattle.sg_pass.proofs.Placing.{taken_there}
-use Rattle.sg_pass.specs.Taking.{IsKept, IsRefused, IsTaken, Stands, StandsSome, Takes}
+use Rattle.sg_ledger.specs.Tells.{Tells}
+use Rattle.sg_pass.proofs.Placing.{found_refused, found_taken, plan_taken, taken_there}
+use Rattle.sg_pass.specs.Taking.{Advances, IsRefused, IsTaken, Keeps, Stands}
 use Rattle.sg_plan.specs.declared.plan.Plan.{Plan}
-use Rattle.sg_record.proofs.Counting.{most_lines_stand, start-made, take_line-falls}
-use Rattle.sg_record.proofs.Walking.{take_bytes-not_read, take_bytes-read, take_line-behind, take_line-head, walk-push}
-use Rattle.sg_record.specs.Head.{Making, head_line}
-use Rattle.sg_record.specs.Left.{lines_left}
-use Rattle.sg_record.specs.Placed.{Placed}
-use Rattle.sg_record.specs.Spots.{placed_next}
-use Rattle.sg_record.specs.Walk.{Next, Posted, Taken, headed, read_next, start, take_bytes, take_line, took}
+use Rattle.sg_grammar.proofs.Counting.{most_lines_stand, start-made}
+use Rattle.sg_grammar.proofs.Walking.{take_bytes-not_read, take_bytes-read, take_line-behind, take_line-head, walk-push}
+use Rattle.sg_grammar.specs.Head.{Making, head_line}
+use Rattle.sg_grammar.specs.Made.{IsMade}
+use Rattle.sg_grammar.specs.Placed.{Placed}
+use Rattle.sg_grammar.specs.Placed.Placed.{OfPlan}
+use Rattle.sg_grammar.specs.Spots.{placed_next}
+use Rattle.sg_grammar.specs.Walk.{Next, Posted, Taken, headed, read_next, start, take_bytes, take_line, took}
 
 -- LINES WITH THEIR BYTES
 
@@ -84,29 +88,40 @@ still_stands expect new sealer sealer' ledger ledger' lines bytes said placed st
       fine = still_fine lines (record { posted = stands.posted; next = expect }) bytes (took placed new) stands.walks stands.fine takes taken.known
           (bad_in-placed new.plan stands.posted line good ∙ taken.good);
       sealed = subst (λ (all : List ℕ). HasTaken sealer' all) (sym (bytes_of-push stands.posted line)) (adds (bytes_of stands.posted) stands.sealed);
-      kept = subst (λ (all : List Placed). IsKept new ledger' all) (sym (placed_of-push stands.posted line)) taken.kept;
+      kept = subst (λ (all : List Placed). Keeps new.plan ledger' all) (sym (placed_of-push stands.posted line)) taken.kept;
     }
 
 -- WHAT WAS ANSWERED OF A LINE
 
--- a line that was found bad, its seal apart, is the first bad line
-pub kind_advances : (expect new : Next) (sealer : Sealer) (ledger ledger' : Option Ledger) (bytes : List ℕ) (said : Said) (placed : Placed) (found : Option Kind) (k : Kind)
-    → read_next expect bytes ≡ Some said → ((before : List ℕ) → HasTaken sealer before → false ≡ bad_seal before placed)
-    → ((before : List Placed) → IsKept expect ledger before → Takes found expect new ledger' said placed before) → found ≡ Some k
-    → (lines : List (List ℕ)) → Stands expect sealer ledger lines → IsFirstBad (lines ++ bytes ∷ []) (length lines + 1) k
-kind_advances expect new sealer ledger ledger' bytes said placed found k read good takes is lines stands =
-    kind_stops expect sealer ledger lines bytes said placed k stands read (sym (good (bytes_of stands.posted) stands.sealed))
-    (subst (λ (b : Option Kind). Takes b expect new ledger' said placed (placed_of stands.posted)) is (takes (placed_of stands.posted) stands.kept))
+-- a line of the plan leaves the lines fine
+pub plan_advances : (expect new : Next) (sealer sealer' : Sealer) (bytes : List ℕ) (said : Said)
+    → read_next expect bytes ≡ Some said → is_some (head_line expect.plan expect.head said) ≡ true → option_map (λ (x : Taken). x.next) (take_line expect said) ≡ Some new
+    → ((before : List ℕ) → HasTaken sealer before → HasTaken sealer' (before ++ bytes))
+    → (lines : List (List ℕ)) → Stands expect sealer None lines → Stands new sealer' None (lines ++ bytes ∷ [])
+plan_advances expect new sealer sealer' bytes said read named stepped adds lines stands =
+    still_stands expect new sealer sealer' None None lines bytes said (OfPlan said) stands read refl (plan_taken expect new said (placed_of stands.posted) named stepped stands.kept) adds
+
+-- a line that was found bad by the ledger is the first bad line
+pub kind_advances : (expect : Next) (plan : Plan) (sealer : Sealer) (ledger : Ledger) (bytes : List ℕ) (said : Said) (placed : Placed) (found : Option Kind) (k : Kind) → plan ≡ expect.plan
+    → head_line expect.plan expect.head said ≡ None → read_next expect bytes ≡ Some said → placed_next expect said ≡ Some placed
+    → ((before : List ℕ) → HasTaken sealer before → false ≡ bad_seal before placed)
+    → ((before : List Placed) → Tells plan ledger before → found ≡ first_bad plan before placed) → found ≡ Some k
+    → (lines : List (List ℕ)) → Stands expect sealer (Some ledger) lines → IsFirstBad (lines ++ bytes ∷ []) (length lines + 1) k
+kind_advances expect plan sealer ledger bytes said placed found k same named read place good judges is lines stands =
+    kind_stops expect sealer (Some ledger) lines bytes said placed k stands read (sym (good (bytes_of stands.posted) stands.sealed))
+    (found_refused expect plan ledger said placed found k same named place judges is (placed_of stands.posted) stands.kept)
 
 -- behind one that was found good the lines are fine
-pub line_advances : (expect new : Next) (sealer sealer' : Sealer) (ledger ledger' : Option Ledger) (bytes : List ℕ) (said : Said) (placed : Placed) (found : Option Kind)
-    → read_next expect bytes ≡ Some said → ((before : List ℕ) → HasTaken sealer before → false ≡ bad_seal before placed)
-    → ((before : List Placed) → IsKept expect ledger before → Takes found expect new ledger' said placed before) → found ≡ None
+pub line_advances : (expect new : Next) (plan : Plan) (sealer sealer' : Sealer) (ledger ledger' : Ledger) (bytes : List ℕ) (said : Said) (placed : Placed) (found : Option Kind) → plan ≡ expect.plan
+    → head_line expect.plan expect.head said ≡ None → read_next expect bytes ≡ Some said → placed_next expect said ≡ Some placed → option_map (λ (x : Taken). x.next) (take_line expect said) ≡ Some new
+    → ((before : List ℕ) → HasTaken sealer before → false ≡ bad_seal before placed)
+    → ((before : List Placed) → Tells plan ledger before → found ≡ first_bad plan before placed)
+    → ((before : List Placed) → Tells plan ledger before → Tells plan ledger' (before ++ placed ∷ [])) → found ≡ None
     → ((before : List ℕ) → HasTaken sealer before → HasTaken sealer' (before ++ bytes))
-    → (lines : List (List ℕ)) → Stands expect sealer ledger lines → Stands new sealer' ledger' (lines ++ bytes ∷ [])
-line_advances expect new sealer sealer' ledger ledger' bytes said placed found read good takes is adds lines stands =
-    still_stands expect new sealer sealer' ledger ledger' lines bytes said placed stands read (sym (good (bytes_of stands.posted) stands.sealed))
-    (subst (λ (b : Option Kind). Takes b expect new ledger' said placed (placed_of stands.posted)) is (takes (placed_of stands.posted) stands.kept)) adds
+    → (lines : List (List ℕ)) → Stands expect sealer (Some ledger) lines → Stands new sealer' (Some ledger') (lines ++ bytes ∷ [])
+line_advances expect new plan sealer sealer' ledger ledger' bytes said placed found same named read place stepped good judges keeps is adds lines stands =
+    still_stands expect new sealer sealer' (Some ledger) (Some ledger') lines bytes said placed stands read (sym (good (bytes_of stands.posted) stands.sealed))
+    (found_taken expect new plan ledger ledger' said placed found same named place stepped judges keeps is (placed_of stands.posted) stands.kept) adds
 
 -- a line that was found a bad seal is the first bad line
 pub seal_advances : (expect : Next) (sealer : Sealer) (ledger : Option Ledger) (bytes : List ℕ) (said : Said) (placed : Placed)
@@ -115,17 +130,31 @@ pub seal_advances : (expect : Next) (sealer : Sealer) (ledger : Option Ledger) (
 seal_advances expect sealer ledger bytes said placed read place bad lines stands =
     seal_stops expect sealer ledger lines bytes said placed stands read place (sym (bad (bytes_of stands.posted) stands.sealed))
 
+-- THE FIRST LINE BEHIND THE PLAN
+
+-- a ledger that tells the lines of the plan is kept as well as none
+pub opened_stands : (expect : Next) (sealer : Sealer) (plan : Plan) (ledger : Ledger) → plan ≡ expect.plan → ((before : List Placed) → AreOfPlan before → Tells plan ledger before)
+    → (lines : List (List ℕ)) → Stands expect sealer None lines → Stands expect sealer (Some ledger) lines
+opened_stands expect sealer plan ledger same tells lines stands = record {
+  posted = stands.posted;
+  walks = stands.walks;
+  fine = stands.fine;
+  sealed = stands.sealed;
+  kept = subst (λ (p : Plan). Tells p ledger (placed_of stands.posted)) same (tells (placed_of stands.posted) stands.kept);
+}
+
+-- what was found behind it, where there was none
+pub opened_advances : (expect new : Next) (sealer sealer' : Sealer) (plan : Plan) (ledger ledger' : Ledger) (bytes : List ℕ) (found : Option Kind) → plan ≡ expect.plan
+    → ((before : List Placed) → AreOfPlan before → Tells plan ledger before)
+    → ((lines : List (List ℕ)) → Stands expect sealer (Some ledger) lines → Advances found new sealer' (Some ledger') lines bytes)
+    → (lines : List (List ℕ)) → Stands expect sealer None lines → Advances found new sealer' (Some ledger') lines bytes
+opened_advances expect new sealer sealer' plan ledger ledger' bytes found same tells goes_on lines stands = goes_on lines (opened_stands expect sealer plan ledger same tells lines stands)
+
 -- HOW MANY LINES
 
--- a line that is taken leaves fewer lines to come
-pub fewer_left : (expect new : Next) (sealer : Sealer) (ledger ledger' : Option Ledger) (said : Said) (placed : Placed) (found : Option Kind) → StandsSome expect sealer ledger
-    → ((before : List Placed) → IsKept expect ledger before → Takes found expect new ledger' said placed before) → found ≡ None → lines_left new < lines_left expect
-fewer_left expect new sealer ledger ledger' said placed found some takes is =
-    let stands = some.1 in
-    let made = start-made some.0 (record { posted = stands.posted; next = expect }) stands.walks in
-    let taken : IsTaken expect new ledger' said placed (placed_of stands.posted) =
-    subst (λ (b : Option Kind). Takes b expect new ledger' said placed (placed_of stands.posted)) is (takes (placed_of stands.posted) stands.kept) in
-    take_line-falls expect said (took placed new) made taken.takes
+-- what holds of a plan in the making holds behind fine lines
+pub made_stands : (expect : Next) (sealer : Sealer) (ledger : Option Ledger) (lines : List (List ℕ)) → Stands expect sealer ledger lines → IsMade expect.plan expect.head
+made_stands expect sealer ledger lines stands = start-made lines (record { posted = stands.posted; next = expect }) stands.walks
 
 -- a record has few lines
 pub few_stand : (expect : Next) (sealer : Sealer) (ledger : Option Ledger) (lines : List (List ℕ)) → Stands expect sealer ledger lines → length lines ≤ 1200000

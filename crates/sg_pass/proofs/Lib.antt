@@ -2,6 +2,6 @@ mod Advancing
 mod Behind
 mod Ending
 mod Going
-mod Keeping
 mod Placing
+mod Reading
 mod Sealing

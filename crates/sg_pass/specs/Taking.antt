@@ -1,41 +1,36 @@
 -- One line, taken behind lines that are fine.
-use Rattle.std.specs.Prelude.{◌≡◌, ℕ, ◌+◌, ◌⊎◌, List, [], ◌∷◌, ◌++◌, length, Option, Some, None}
+use Rattle.std.specs.Prelude.{◌≡◌, ℕ, ◌+◌, ◌⊎◌, Bool, true, false, List, [], ◌∷◌, ◌++◌, length, Option, Some, None}
+use Rattle.sg_check.specs.Judging.{AreOfPlan}
 use Rattle.sg_check.specs.Kinds.{bytes_of, first_bad, placed_of}
 use Rattle.sg_check.specs.Verdict.{AreFine, IsFirstBad}
-use Rattle.sg_check.specs.declared.verdict.Kind.{Kind}
+use Rattle.sg_check.specs.declared.judged.Kind.{Kind}
 use Rattle.sg_commit.specs.Seals.{StandsFor as HasTaken}
 use Rattle.sg_commit.specs.declared.Sealer.{Sealer}
 use Rattle.sg_forms.specs.Said.{Said}
-use Rattle.sg_ledger.specs.Tells.{AreOfPlan, Tells}
+use Rattle.sg_ledger.specs.Tells.{Tells}
 use Rattle.sg_ledger.specs.declared.ledger.Ledger.{Ledger}
 use Rattle.sg_plan.specs.declared.plan.Plan.{Plan}
-use Rattle.sg_record.specs.Placed.{Placed}
-use Rattle.sg_record.specs.Walk.{Next, Posted, start, take_line, took, walk}
-use Rattle.sg_record.specs.declared.state.Head.{Head}
-use Rattle.sg_record.specs.declared.state.Head.TheVariants as head
+use Rattle.sg_grammar.specs.Head.{head_line}
+use Rattle.sg_grammar.specs.Placed.{Placed}
+use Rattle.sg_grammar.specs.Walk.{Next, Posted, read_next, start, take_line, took, walk}
+use Rattle.sg_grammar.specs.declared.state.Head.{Head}
+use Rattle.sg_grammar.specs.declared.state.Head.TheVariants as head
 
--- THE LEDGER
+-- BEHIND THE PLAN
+
+-- a line behind those of the plan stands
+abbrev pub is_behind : Head → Bool
+is_behind head.Whole = true
+is_behind stage = false
+
+-- the bytes are no line of the plan that may stand next
+abbrev pub IsNoPlanLine : Next → List ℕ → Type 0
+IsNoPlanLine expect bytes = (said : Said) → read_next expect bytes ≡ Some said → head_line expect.plan expect.head said ≡ None
 
 -- the ledger tells the lines; there is none while all of them are lines of the plan
 abbrev pub Keeps : Plan → Option Ledger → List Placed → Type 0
 Keeps plan None lines = AreOfPlan lines
 Keeps plan (Some ledger) lines = Tells plan ledger lines
-
-abbrev pub KeepsSome : Plan → Option Ledger → Type 0
-KeepsSome plan ledger = (lines : List Placed) × Keeps plan ledger lines
-
--- a ledger is there only behind the plan
-abbrev pub IsBehind : Option Ledger → Head → Type 0
-IsBehind None stage = Unit {0}
-IsBehind (Some ledger) stage = stage ≡ head.Whole
-
--- the lines are kept, and what may stand next is this
-pub record IsKept (expect : Next) (ledger : Option Ledger) (lines : List Placed) : Type 0 where
-  pub keeps : Keeps expect.plan ledger lines
-  pub behind : IsBehind ledger expect.head
-
-abbrev pub IsKeptSome : Next → Option Ledger → Type 0
-IsKeptSome expect ledger = (lines : List Placed) × IsKept expect ledger lines
 
 -- A LINE IN ITS PLACE
 
@@ -44,7 +39,7 @@ pub record IsTaken (old new : Next) (ledger : Option Ledger) (said : Said) (plac
   pub takes : take_line old said ≡ Some (took placed new)
   pub known : (new.plan ≡ old.plan) ⊎ AreOfPlan lines
   pub good : first_bad new.plan lines placed ≡ None
-  pub kept : IsKept new ledger (lines ++ placed ∷ [])
+  pub kept : Keeps new.plan ledger (lines ++ placed ∷ [])
 
 -- the line may stand in this place, and is bad there in this kind
 pub record IsRefused (old : Next) (said : Said) (placed : Placed) (lines : List Placed) (broken : Kind) : Type 0 where
@@ -52,10 +47,6 @@ pub record IsRefused (old : Next) (said : Said) (placed : Placed) (lines : List 
   pub takes : take_line old said ≡ Some (took placed next)
   pub plan_stays : next.plan ≡ old.plan
   pub bad : first_bad old.plan lines placed ≡ Some broken
-
-abbrev pub Takes : Option Kind → Next → Next → Option Ledger → Said → Placed → List Placed → Type 0
-Takes None old new ledger said placed lines = IsTaken old new ledger said placed lines
-Takes (Some broken) old new ledger said placed lines = IsRefused old said placed lines broken
 
 -- FINE LINES
 
@@ -65,7 +56,7 @@ pub record Stands (expect : Next) (sealer : Sealer) (ledger : Option Ledger) (li
   pub walks : walk start lines ≡ Some (record { posted = posted; next = expect })
   pub fine : AreFine lines
   pub sealed : HasTaken sealer (bytes_of posted)
-  pub kept : IsKept expect ledger (placed_of posted)
+  pub kept : Keeps expect.plan ledger (placed_of posted)
 
 abbrev pub StandsSome : Next → Sealer → Option Ledger → Type 0
 StandsSome expect sealer ledger = (lines : List (List ℕ)) × Stands expect sealer ledger lines

@@ -4,20 +4,32 @@ ghost use Rattle.sha2.specs.Sha256.{sha256};
 ghost use Rattle.sg_check.specs.Kinds.{bad_seal};
 ghost use Rattle.sg_commit.specs.Seals.{StandsFor as HasTaken};
 ghost use Rattle.sg_forms.specs.Said.{said};
-ghost use Rattle.sg_pass.specs.Seals.{digest_on, sealed_at};
-ghost use Rattle.sg_record.specs.Spots.{placed_at};
+ghost use Rattle.sg_grammar.specs.Spots.{placed_at};
 
+use sg_check::{Told, tell};
 use sg_commit::{Digest, Sealer};
-use sg_record::{Line, Spot};
+use sg_grammar::{Line, Spot};
 
 /// The line is a seal, and not the hash of the bytes before it.
 #[tactic(auto, using(crate::proofs::Sealing::seals))]
 pub(crate) fn is_bad_seal(sealer: &Sealer, at: Spot, line: &Line) -> bool
     ensures { (before : List ℕ) → HasTaken sealer.now before → result ≡ bad_seal before (placed_at at (said line.now)) }
 {
-    match seal_at(at, line) {
-        Some(digest) => is_other(sealer, &digest),
-        None => false,
+    match tell(at, line) {
+        Told::Seal(_, digest) => is_other(sealer, &digest),
+        Told::CodeCommit(..) => false,
+        Told::RowCommit(..) => false,
+        Told::Code(..) => false,
+        Told::Over(..) => false,
+        Told::Paper(..) => false,
+        Told::Flags(..) => false,
+        Told::Places(..) => false,
+        Told::Total(..) => false,
+        Told::DrawFull => false,
+        Told::DrawPublic(..) => false,
+        Told::Row(..) => false,
+        Told::Dispute(..) => false,
+        Told::Nothing => false,
     }
 }
 
@@ -36,24 +48,4 @@ fn is_same(one: &Digest, other: &Digest) -> bool
     ensures { result ≡ bytes_eq one.now.0 other.now.0 }
 {
     *one == *other
-}
-
-/// The digest on a line that stands at a seal's place.
-fn seal_at(at: Spot, line: &Line) -> Option<Digest>
-    ensures { result ≡ sealed_at at (said line.now) }
-{
-    match at {
-        Spot::Seal { .. } => digest_of(line),
-        _ => None,
-    }
-}
-
-/// The digest on a line that is a seal.
-fn digest_of(line: &Line) -> Option<Digest>
-    ensures { result ≡ digest_on (said line.now) }
-{
-    match line {
-        Line::Seal { digest, .. } => Some(*digest),
-        _ => None,
-    }
 }

@@ -1,5 +1,5 @@
 //! A list that contracts see as the list of its items.
-ghost use Rattle.std.specs.Prelude.{◌≡◌, ◌+◌, [], ◌∷◌, ◌++◌, ◌<◌, ◌≤◌, length, take, drop, slice_get, slice_set, insert, remove, Some, OnOk, OnErr};
+ghost use Rattle.std.specs.Prelude.{◌≡◌, ◌+◌, [], ◌∷◌, ◌++◌, ◌<◌, ◌≤◌, length, take, drop, replicate, slice_get, slice_set, insert, remove, Some, IfOk, OnOk, OnErr};
 
 use crate::memory::NoMemory;
 use std::alloc::Global;
@@ -8,7 +8,7 @@ use std::mem;
 
 /// A list that contracts see as the list of its items.
 ///
-/// It keeps its allocator. Only `push` and `insert` take memory.
+/// It keeps its allocator. Only `push`, `push_times`, `filled` and `insert` take memory.
 #[derive(Debug, Drop)]
 pub struct Items<T> {
     items: Vec<T>,
@@ -98,5 +98,29 @@ impl<T: Drop> Items<T> {
         ensures rest { self.new ≡ remove self.old at }
     {
         self.items.remove(at)
+    }
+}
+
+impl<T: Copy + Drop> Items<T> {
+    /// So many times the value, with room for no more.
+    pub fn filled(alloc: Global, value: T, count: usize) -> Result<Items<T>, NoMemory>
+        ensures { IfOk result (λ items. items ≡ replicate count value) }
+    {
+        let mut items = Vec::new(alloc);
+        items.try_reserve_exact(count)?;
+        items.resize(count, value)?;
+        Ok(Items { items })
+    }
+
+    /// Puts the value behind the last item, so many times.
+    pub fn push_times(&mut self, value: T, count: usize) -> Result<(), NoMemory>
+        ensures ok { OnOk result (self.new ≡ self.old ++ replicate count value) }
+        ensures err { OnErr result (self.new ≡ self.old) }
+    {
+        let Some(len) = self.items.len().checked_add(count) else {
+            return Err(NoMemory);
+        };
+        self.items.resize(len, value)?;
+        Ok(())
     }
 }

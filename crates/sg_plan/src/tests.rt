@@ -253,3 +253,13 @@ fn counts_marks(rt: HostRuntime) -> Result<(), Fail> {
     assert!(rt; word.bytes() == b"ba".as_slice());
     Ok(())
 }
+
+#[test]
+fn fills_lists(rt: HostRuntime) -> Result<(), Fail> {
+    let mut list = Items::filled(rt.alloc(), 7u32, 2)?;
+    list.push_times(8, 3)?;
+    assert!(rt; list.as_slice() == [7, 7, 8, 8, 8].as_slice());
+    list.push_times(9, 0)?;
+    assert!(rt; list.len() == 5);
+    Ok(())
+}

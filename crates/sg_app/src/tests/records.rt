@@ -270,7 +270,7 @@ pub const FIRST_CASES: [Case; 13] = [
                 text: b"seal 3 59299bf3ec72c70bef546765a1db5bda7db426f492e28ca09a21e1e9c9e4fb63",
             },
         ],
-        report: b"no 22 form\n",
+        report: b"no 22 side\n",
         status: 1,
     },
 ];

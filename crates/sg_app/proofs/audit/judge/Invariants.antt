@@ -1,11 +1,11 @@
 use Rattle.std.proofs.Common.{◌≤◌}
 use Rattle.sg_pass.specs.Pass.{left_in}
-use Rattle.sg_app.proofs.Judging.{IsFed}
+use Rattle.sg_app.proofs.Judging.{IsFedHeader}
 use Rattle.sg_app.proofs.audit.judge.Given as goal
 
 abbrev pub invariant-loop-pass : goal.invariant-loop-pass
 invariant-loop-pass g l =
-    IsFed l.pass l.lines (g.S.Source.left l.fn.input) (g.S.Source.left l.input)
+    IsFedHeader l.pass l.lines (g.S.Source.left l.fn.input) (g.S.Source.left l.input)
     × (g.S.Source.faults l.fn.input ≤ g.S.Source.faults l.input)
 
 abbrev pub decreases-loop-pass : goal.decreases-loop-pass

@@ -1,5 +1,5 @@
 use Rattle.std.proofs.Common.{arith, ◌+◌, subst, drop, List}
-use Rattle.sg_check.specs.declared.verdict.Total.{Total}
+use Rattle.sg_check.specs.declared.judged.Total.{Total}
 use Rattle.sg_app.proofs.Reporting.{HasWritten, front_written, one_written}
 use Rattle.sg_app.proofs.report.write_totals.Goals as goal
 

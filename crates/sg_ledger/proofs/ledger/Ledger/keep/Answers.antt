@@ -1,7 +1,7 @@
 use Rattle.sg_forms.specs.Said.{said}
-use Rattle.sg_ledger.proofs.Laws.{keep_tells}
-use Rattle.sg_record.specs.Spots.{placed_at}
+use Rattle.sg_ledger.proofs.Laws.{tells_after}
+use Rattle.sg_grammar.specs.Spots.{placed_at}
 use Rattle.sg_ledger.proofs.ledger.Ledger.keep.Goals as goal
 
-pub returns-clause-ok : goal.returns-clause-ok
-returns-clause-ok c = keep_tells c.args.plan.now c.args.self.now c.write.new.self (placed_at c.args.at (said c.args.line.now)) c.write.result c.requires.good c.requires.placed c.write.ensures.ok
+pub returns : goal.returns
+returns c = λ lines told fine. rw c.write.ensures (tells_after c.args.plan.now c.args.self.now lines (placed_at c.args.at (said c.args.line.now)) c.requires.good c.requires.placed told fine)

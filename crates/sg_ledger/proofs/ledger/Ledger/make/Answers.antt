@@ -1,4 +1,4 @@
-use Rattle.std.proofs.Common.{ℕ, ◌*◌, false, None, replicate, ap, ◌∙◌, arith}
+use Rattle.std.proofs.Common.{ℕ, ◌*◌, false, None, replicate, refl, ap, ◌∙◌, arith}
 use Rattle.sg_ledger.proofs.Made.{IsMade, made_tells}
 use Rattle.sg_ledger.specs.declared.ledger.Ledger.{Ledger}
 use Rattle.sg_plan.proofs.PlanLaws.{bounds}
@@ -18,7 +18,10 @@ returns c = λ lines are.
       bits = c.in_ok-bits.bits;
       pointers = c.in_ok-pointers.pointers;
       paths = c.in_ok-paths.paths;
-      totals = c.new.result;
+      audits = c.in_ok-audits.audits;
+      drawn = c.make-drawn.result;
+      claim = None;
+      totals = c.in_ok-totals.totals;
     } in
     let made : IsMade c.args.plan.now ledger = record {
       sizes = c.in_ok-sizes.ensures;
@@ -34,6 +37,13 @@ returns c = λ lines are.
       seen_lefts = c.in_ok-pointers.ensures.lefts ∙ ap (λ (n : ℕ). replicate n false) rows_are;
       seen_rights = c.in_ok-pointers.ensures.rights ∙ ap (λ (n : ℕ). replicate n false) rows_are;
       paths = c.in_ok-paths.ensures ∙ ap (λ (n : ℕ). replicate n None) entries_are;
-      totals = c.new.ensures;
+      audited = c.in_ok-audits.ensures.audited ∙ ap (λ (n : ℕ). replicate n false) entries_are;
+      papers = c.in_ok-audits.ensures.papers ∙ ap (λ (n : ℕ). replicate n None) entries_are;
+      audit_counts = c.in_ok-audits.ensures.entries ∙ ap (λ (n : ℕ). replicate n 0) c.len-races.ensures;
+      both_counts = c.in_ok-audits.ensures.boths ∙ ap (λ (n : ℕ). replicate (16 * n) 0) c.len-races.ensures;
+      full = c.make-drawn.ensures.full;
+      coins = c.make-drawn.ensures.coins;
+      claim = refl;
+      totals = c.in_ok-totals.ensures;
     } in
     made_tells c.args.plan.now ledger (bounds c.args.plan.now c.requires.good) made lines are

@@ -47,3 +47,25 @@ keep-requires-clause-marks c =
       c.requires.sized.marks,
       entry_place-end plan c.args.race (c.first_entry-first.result + candidates_of plan c.args.race) c.requires.placed.0 c.first_entry-first.ensures.within,
     )
+
+pub overflow_add-own : goal.overflow_add-own
+overflow_add-own c =
+    let plan = c.args.plan.now in
+    omega (
+      arith,
+      c.entry_place-at.ensures.place,
+      c.requires.placed.4,
+      (bounds plan c.requires.good).few_all_entries,
+      entry_place-end plan c.args.race (c.first_entry-first.result + candidates_of plan c.args.race) c.requires.placed.0 c.first_entry-first.ensures.within,
+    )
+
+pub keep_code-requires-clause-audited : goal.keep_code-requires-clause-audited
+keep_code-requires-clause-audited c =
+    let plan = c.args.plan.now in
+    omega (
+      arith,
+      c.entry_place-at.ensures.place,
+      c.requires.placed.4,
+      c.requires.sized.audited,
+      entry_place-end plan c.args.race (c.first_entry-first.result + candidates_of plan c.args.race) c.requires.placed.0 c.first_entry-first.ensures.within,
+    )

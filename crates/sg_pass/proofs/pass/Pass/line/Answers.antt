@@ -1,8 +1,11 @@
-use Rattle.std.proofs.Common.{◌+◌, ◌<◌, ◌^◌, sym, ◌∙◌, arith}
-use Rattle.sg_pass.proofs.Going.{broken_then, fine_then, judges-push, number_fits}
+use Rattle.std.proofs.Common.{◌+◌, ◌<◌, ◌^◌, List, [], ◌∷◌, ◌++◌, Option, Some, sym, subst, ◌∙◌, arith}
+use Rattle.sg_ledger.specs.declared.ledger.Ledger.{Ledger}
+use Rattle.sg_pass.proofs.Going.{judges-push, number_fits, says_behind-push}
 use Rattle.sg_pass.proofs.pass.Pass.line.Goals as goal
-use Rattle.sg_record.proofs.Claims.{is_none-None}
-use Rattle.sg_record.proofs.Walking.{none_there}
+use Rattle.sg_pass.specs.Pass.{Judges, SaysBehind}
+use Rattle.sg_pass.specs.declared.pass.Step.{Step}
+use Rattle.sg_grammar.proofs.Claims.{is_none-None}
+use Rattle.sg_grammar.proofs.Walking.{none_there}
 
 pub overflow_add-self : goal.overflow_add-self
 overflow_add-self c =
@@ -12,22 +15,17 @@ overflow_add-self c =
     (none_there c.args.self.now.broken (sym c.is_some.ensures ∙ c.if-is_some.false)) in
     omega (arith, fits)
 
-pub returns-in-Some-clause-adds : goal.returns-in-Some-clause-adds
-returns-in-Some-clause-adds c = λ still lines stands. record {
-  judges = judges-push c.args.self.now.broken c.in_ok-broken.broken c.args.self.now.expect c.advance.new.expect c.args.self.now.sealer c.advance.new.sealer c.args.self.now.ledger
-      c.advance.new.ledger c.args.self.now.number c.args.bytes.now (is_none-None c.args.self.now.broken still) c.in_ok-broken.ensures.goes_on lines stands.judges;
+pub returns-clause-adds : goal.returns-clause-adds
+returns-clause-adds c = λ still lines stands. record {
+  judges = judges-push c.args.self.now.broken c.advance-broken.result c.args.self.now.expect c.advance-broken.new.expect c.args.self.now.sealer c.advance-broken.new.sealer
+      (Some c.in-Some.ledger) (Some c.advance-broken.new.ledger) c.args.self.now.number c.args.line.now (is_none-None c.args.self.now.broken still) c.advance-broken.ensures.goes_on lines
+      (subst (λ (o : Option Ledger). Judges c.args.self.now.broken c.args.self.now.expect c.args.self.now.sealer o c.args.self.now.number lines) c.in-Some.is stands.judges)
+      (λ good. sym (c.advance-broken.ensures.whole good));
 }
 
-pub returns-in-Some-clause-bad : goal.returns-in-Some-clause-bad
-returns-in-Some-clause-bad c = λ still lines stands. (
-  λ over. broken_then c.args.self.now.broken c.in_ok-broken.broken c.args.self.now.expect c.advance.new.expect c.args.self.now.sealer c.advance.new.sealer c.args.self.now.ledger
-      c.advance.new.ledger c.args.self.now.number c.args.bytes.now (is_none-None c.args.self.now.broken still) c.in_ok-broken.ensures.goes_on lines stands.judges c.in-Some.field-0 c.in-Some.is,
-  λ more. absurd (let none : ⊥ = cc in none),
-)
-
-pub returns-in-None-clause-bad : goal.returns-in-None-clause-bad
-returns-in-None-clause-bad c = λ still lines stands. (
-  λ over. absurd (let none : ⊥ = cc in none),
-  λ more. fine_then c.args.self.now.broken c.in_ok-broken.broken c.args.self.now.expect c.advance.new.expect c.args.self.now.sealer c.advance.new.sealer c.args.self.now.ledger
-      c.advance.new.ledger c.args.self.now.number c.args.bytes.now (is_none-None c.args.self.now.broken still) c.in_ok-broken.ensures.goes_on lines stands.judges c.in-None.is,
-)
+pub returns-clause-says : goal.returns-clause-says
+returns-clause-says c = λ still lines stands.
+    subst (λ (s : Step). SaysBehind s (lines ++ c.args.line.now ∷ [])) (sym c.answer.ensures)
+    (says_behind-push c.args.self.now.broken c.advance-broken.result c.args.self.now.expect c.advance-broken.new.expect c.args.self.now.sealer c.advance-broken.new.sealer
+    (Some c.in-Some.ledger) (Some c.advance-broken.new.ledger) c.args.self.now.number c.args.line.now (is_none-None c.args.self.now.broken still) c.advance-broken.ensures.goes_on lines
+    (subst (λ (o : Option Ledger). Judges c.args.self.now.broken c.args.self.now.expect c.args.self.now.sealer o c.args.self.now.number lines) c.in-Some.is stands.judges))

@@ -1,0 +1,163 @@
+//! Reads a record line by line from memory, and writes it back where it is asked to, so that the work can be timed.
+//!
+//! The word is `copy` (the bytes are copied line by line), `read` (each line is read, and taken where it may stand) or
+//! `write` (each line that is read is written too, and must be the same bytes). The number of the lines is printed.
+#![tactic(auto)]
+
+ghost use Rattle.std.specs.Prelude.{◌≡◌, ◌≤◌, ◌⊎◌, length};
+ghost use Rattle.sg_forms.specs.Said.{said};
+ghost use Rattle.sg_forms.specs.Spelling.{IsInRange, longest_line};
+
+use sg_forms::write_line;
+use sg_grammar::{Expect, Line, read_line};
+use sg_plan::NoMemory;
+use std::alloc::Global;
+use std::env;
+use std::io::{self, Read};
+
+/// The most lines of a record.
+const MOST_LINES: u32 = 1_200_000;
+
+/// The most bytes of a line, its line feed included.
+const LONGEST_LINE: usize = 16_384;
+
+/// What is done with each line.
+#[derive(Clone, Copy, PartialEq, Eq)]
+enum Work {
+    Copy,
+    Read,
+    Write,
+}
+
+/// Why the record was not gone through.
+#[derive(Drop)]
+enum Fault {
+    /// A line may not stand where it does, or was written as other bytes.
+    Line,
+    /// Input or output failed, or memory was wanted.
+    Outside,
+}
+
+impl From<NoMemory> for Fault {
+    fn from(_: NoMemory) -> Fault {
+        Fault::Outside
+    }
+}
+
+impl From<io::Error> for Fault {
+    fn from(_: io::Error) -> Fault {
+        Fault::Outside
+    }
+}
+
+impl From<std::alloc::AllocError> for Fault {
+    fn from(_: std::alloc::AllocError) -> Fault {
+        Fault::Outside
+    }
+}
+
+/// The length of the first line, its line feed included.
+fn line_len(bytes: &[u8]) -> usize
+    ensures { result ≤ length bytes.now }
+{
+    match bytes.iter().position(|byte| *byte == b'\n') {
+        Some(feed) => feed + 1,
+        None => bytes.len(),
+    }
+}
+
+/// The line is written as these bytes.
+fn is_written(version: u32, line: &Line, bytes: &[u8], buffer: &mut [u8]) -> bool
+    requires version { (version ≡ 1) ⊎ (version ≡ 2) }
+    requires line { IsInRange version (said line.now) }
+    requires room { longest_line ≤ length buffer.old }
+    ensures { length buffer.new ≡ length buffer.old }
+{
+    let end = write_line(version, line, buffer);
+    buffer.get(..end) == Some(bytes)
+}
+
+/// Reads the line of these bytes, and takes it where it may stand next.
+fn take(expect: &mut Expect, bytes: &[u8], work: Work, buffer: &mut [u8]) -> Result<(), Fault>
+    requires room { longest_line ≤ length buffer.old }
+    ensures { length buffer.new ≡ length buffer.old }
+{
+    let Some(line) = read_line(expect, bytes) else {
+        return Err(Fault::Line);
+    };
+    let version = expect.plan().version;
+    if work == Work::Write && (version == 1 || version == 2) {
+        if !is_written(version, &line, bytes, buffer) {
+            return Err(Fault::Line);
+        }
+    }
+    if expect.is_of_plan(&line) {
+        expect.plan_step(&line)?;
+    } else {
+        expect.step(&line);
+    }
+    Ok(())
+}
+
+/// Takes each line of the record, and answers how many there are.
+fn take_all(alloc: Global, record: &[u8], work: Work, buffer: &mut [u8]) -> Result<u32, Fault>
+    requires room { longest_line ≤ length buffer.old }
+{
+    let mut expect = Expect::start(alloc);
+    let mut rest = record;
+    for number in 0..MOST_LINES {
+        if rest.is_empty() {
+            return Ok(number);
+        }
+        let (line, behind) = rest.split_at(line_len(rest));
+        take(&mut expect, line, work, buffer)?;
+        rest = behind;
+    }
+    Err(Fault::Line)
+}
+
+/// Copies each line of the record, and answers how many there are.
+fn copy_all(record: &[u8], buffer: &mut [u8]) -> Result<u32, Fault> {
+    let mut rest = record;
+    for number in 0..MOST_LINES {
+        if rest.is_empty() {
+            return Ok(number);
+        }
+        let (line, behind) = rest.split_at(line_len(rest));
+        let Some(place) = buffer.get_mut(..line.len()) else {
+            return Err(Fault::Line);
+        };
+        place.copy_from_slice(line);
+        rest = behind;
+    }
+    Err(Fault::Line)
+}
+
+/// Goes through the record on the input, and answers how many lines it has.
+fn go<R: Read>(alloc: Global, work: Work, input: &mut R) -> Result<u32, Fault> {
+    let mut record = Vec::new(alloc);
+    input.read_to_end(&mut record)?;
+    let mut buffer = vec![in alloc; 0; LONGEST_LINE]?;
+    match work {
+        Work::Copy => copy_all(&record, &mut buffer),
+        _ => take_all(alloc, &record, work, &mut buffer),
+    }
+}
+
+fn main(rt: HostRuntime) -> io::Result<()> {
+    let mut words = env::args(&rt)?;
+    let _program = words.next();
+    let Some(word) = words.next() else {
+        return println!(rt; "usage: bench_lines copy|read|write");
+    };
+    let work = match word.as_str() {
+        "copy" => Work::Copy,
+        "read" => Work::Read,
+        _ => Work::Write,
+    };
+    match go(rt.alloc(), work, &mut rt.stdin()) {
+        Ok(lines) => println!(rt; "lines {lines}"),
+        Err(Fault::Line) => println!(rt; "no"),
+        Err(Fault::Outside) => println!(rt; "want of input or of memory"),
+    }
+}

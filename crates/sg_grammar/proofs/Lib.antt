@@ -1,0 +1,14 @@
+pub mod Adding
+pub mod Blocks
+pub mod Claims
+pub mod Counting
+pub mod Each
+pub mod FirstLines
+pub mod FrontLaws
+pub mod Making
+pub mod PlanCounts
+pub mod Sections
+pub mod Standing
+pub mod Steps
+pub mod Totals
+pub mod Walking

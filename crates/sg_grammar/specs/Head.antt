@@ -1,0 +1,129 @@
+-- The lines of the plan: where each may stand, and what it adds to the plan (this project's rules for the record).
+use Rattle.std.specs.Prelude.{ℕ, ◌-◌, ◌==◌, nat_lt, nat_le, if◌then◌else◌, Bool, ◌&&◌, List, [], ◌∷◌, ◌++◌, length, Option, Some, None}
+use Rattle.sg_plan.specs.Ballots.{r_rows}
+use Rattle.sg_plan.specs.Limits.{is_version, race_head_keeps, candidate_keeps, style_keeps, run_keeps}
+use Rattle.sg_plan.specs.Names.{is_name_word, is_within}
+use Rattle.sg_plan.specs.declared.plan.Plan.{Plan}
+use Rattle.sg_plan.specs.declared.plan.Race.{Race as PlanRace}
+use Rattle.sg_forms.specs.Said.{Said}
+use Rattle.sg_forms.specs.Said.Said.{Version, Election, Instances, Race, Cand, Style, Ballots}
+use Rattle.sg_grammar.specs.declared.state.Head.{Head}
+use Rattle.sg_grammar.specs.declared.state.Head.TheVariants as head
+
+-- the plan so far, and which of its lines stand
+pub record Making : Type 0 where
+  pub plan : Plan
+  pub head : Head
+
+abbrev pub made : Plan → Head → Making
+made plan stage = record { plan = plan; head = stage }
+
+-- the value, where the test is passed
+abbrev pub if_then : {A : Type 0} → Bool → A → Option A
+if_then test value = (if test then Some value else None)
+
+-- the plan of no lines
+abbrev pub no_plan : Plan
+no_plan = record { version = 0; name = []; instances = 0; races = []; styles = []; runs = [] }
+
+-- THE LIMITS: how many instances, races and styles a record may have
+
+abbrev pub most_instances : ℕ
+most_instances = 16
+
+abbrev pub most_races : ℕ
+most_races = 32
+
+abbrev pub most_styles : ℕ
+most_styles = 32
+
+-- WHAT EACH LINE ADDS
+
+-- the candidates of the last race
+abbrev pub last_candidates : List PlanRace → List (List ℕ)
+last_candidates [] = []
+last_candidates (race ∷ []) = race.candidates
+last_candidates (race ∷ next ∷ races) = last_candidates (next ∷ races)
+
+-- the races, with one more candidate in the last one
+abbrev pub with_candidate : List PlanRace → List ℕ → List PlanRace
+with_candidate [] name = []
+with_candidate (race ∷ []) name = record race { candidates = race.candidates ++ name ∷ [] } ∷ []
+with_candidate (race ∷ next ∷ races) name = race ∷ with_candidate (next ∷ races) name
+
+abbrev pub with_version : Plan → ℕ → Plan
+with_version plan version = record plan { version = version }
+
+abbrev pub with_name : Plan → List ℕ → Plan
+with_name plan name = record plan { name = name }
+
+abbrev pub with_instances : Plan → ℕ → Plan
+with_instances plan instances = record plan { instances = instances }
+
+-- one more race, without candidates yet
+abbrev pub with_race : Plan → List ℕ → ℕ → Plan
+with_race plan name votes = record plan { races = plan.races ++ record { name = name; candidates = []; votes = votes } ∷ [] }
+
+-- one more candidate of the last race
+abbrev pub with_cand : Plan → List ℕ → Plan
+with_cand plan name = record plan { races = with_candidate plan.races name }
+
+abbrev pub with_style : Plan → List ℕ → List ℕ → Plan
+with_style plan name races = record plan { styles = plan.styles ++ record { name = name; races = races } ∷ [] }
+
+abbrev pub with_run : Plan → ℕ → ℕ → Plan
+with_run plan style count = record plan { runs = plan.runs ++ record { style = style; count = count } ∷ [] }
+
+-- WHERE EACH LINE MAY STAND
+
+abbrev pub version_line : Plan → Said → Option Making
+version_line plan (Version version) = if_then (is_version version) (made (with_version plan version) head.Election)
+version_line plan said = None
+
+abbrev pub election_line : Plan → Said → Option Making
+election_line plan (Election name) = if_then (is_name_word name) (made (with_name plan name) head.Instances)
+election_line plan said = None
+
+abbrev pub instances_line : Plan → Said → Option Making
+instances_line plan (Instances instances) = if_then (is_within 1 most_instances instances) (made (with_instances plan instances) head.Races)
+instances_line plan said = None
+
+-- a style, behind which a style or a run may come
+abbrev pub style_line : Plan → Said → Option Making
+style_line plan (Style name races) = if_then (nat_lt (length plan.styles) most_styles && style_keeps (length plan.races) plan.styles (record { name = name; races = races })) (made (with_style plan name races) head.Styles)
+style_line plan said = None
+
+-- a race, behind which its candidates are due; or the first style, where there is a race
+abbrev pub race_line : Plan → Said → Option Making
+race_line plan (Race name candidates votes) = if_then (nat_lt (length plan.races) most_races && race_head_keeps plan.races name candidates votes) (made (with_race plan name votes) (head.Candidates candidates))
+race_line plan (Style name races) = (if nat_lt 0 (length plan.races) then style_line plan (Style name races) else None)
+race_line plan said = None
+
+-- behind a candidate, so many of which were due
+abbrev pub behind_candidate : ℕ → Head
+behind_candidate left = (if left == 1 then head.Races else head.Candidates (left - 1))
+
+abbrev pub candidate_line : ℕ → Plan → Said → Option Making
+candidate_line left plan (Cand name) = if_then (candidate_keeps (last_candidates plan.races) name) (made (with_cand plan name) (behind_candidate left))
+candidate_line left plan said = None
+
+-- a run, with which there are at most 200,000 rows of table R
+abbrev pub run_line : Plan → Said → Option Making
+run_line plan (Ballots style count) = if_then (run_keeps (length plan.styles) plan.runs (record { style = style; count = count }) && nat_le (r_rows (with_run plan style count)) 200000) (made (with_run plan style count) head.Runs)
+run_line plan said = None
+
+-- a further style, or the first run
+abbrev pub later_style_line : Plan → Said → Option Making
+later_style_line plan (Style name races) = style_line plan (Style name races)
+later_style_line plan said = run_line plan said
+
+-- the plan with the line, where it may stand behind the plan's lines so far
+abbrev pub head_line : Plan → Head → Said → Option Making
+head_line plan head.Version said = version_line plan said
+head_line plan head.Election said = election_line plan said
+head_line plan head.Instances said = instances_line plan said
+head_line plan head.Races said = race_line plan said
+head_line plan (head.Candidates left) said = candidate_line left plan said
+head_line plan head.Styles said = later_style_line plan said
+head_line plan head.Runs said = run_line plan said
+head_line plan head.Whole said = None

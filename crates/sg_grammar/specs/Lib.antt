@@ -1,0 +1,11 @@
+pub mod Due
+pub mod Expecting
+pub mod Head
+pub mod Laws
+pub mod Left
+pub mod Made
+pub mod Placed
+pub mod Slots
+pub mod Spots
+pub mod Standing
+pub mod Walk

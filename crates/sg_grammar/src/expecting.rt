@@ -1,0 +1,156 @@
+ghost use Rattle.std.specs.Prelude.{◌≡◌, ◌<◌, false, is_some, length, IfSome, IsSome, None, OnErr, OnOk, Some, true};
+ghost use Rattle.std.specs.Option.{option_map};
+ghost use Rattle.sg_plan.specs.Ballots.{entries_of};
+ghost use Rattle.sg_plan.specs.Limits.{fault_of};
+ghost use Rattle.sg_forms.specs.Said.{said};
+ghost use Rattle.sg_grammar.specs.Head.{head_line};
+ghost use Rattle.sg_grammar.specs.Made.{HasSizes, IsMade, has_runs};
+ghost use Rattle.sg_grammar.specs.Spots.{IsPlacedIn, placed_at, placed_next};
+ghost use Rattle.sg_grammar.specs.Walk.{is_whole, start, take_line};
+
+use crate::body::stand_behind;
+use crate::counted::CountedPlan;
+use crate::head::may_stand_in_head;
+use crate::state::{Head, Part, Slot, Spot};
+use sg_forms::Line;
+use sg_plan::{NoMemory, Plan};
+use std::alloc::Global;
+use std::marker::Model;
+
+/// What may stand next in a record.
+///
+/// A caller asks by `spot` or `may` whether a line may stand, and then takes it by `plan_step`
+/// where `is_of_plan` says so, and else by `step`. Only `plan_step` takes memory.
+#[derive(Debug, Drop)]
+pub struct Expect {
+    alloc: Global,
+    plan: CountedPlan,
+    head: Head,
+    slot: Option<Slot>,
+    part: Part,
+}
+
+impl Model for Expect {
+    ghost use Rattle.sg_grammar.specs.Walk.{Next};
+
+    ghost Value = { Next };
+
+    ghost use Rattle.sg_grammar.specs.Expecting.{IsExpecting, next_at};
+
+    ghost view = { λ expect. next_at expect.plan expect.head expect.slot expect.part };
+
+    ghost invariant = { λ expect. IsExpecting expect.plan expect.head expect.slot expect.part };
+}
+
+impl Expect {
+    /// Before the first line. It takes no memory.
+    pub fn start(alloc: Global) -> Expect
+        ensures { result ≡ start }
+    {
+        Expect {
+            alloc,
+            plan: CountedPlan::new(alloc),
+            head: Head::Version,
+            slot: None,
+            part: Part::Ballots { last: 0 },
+        }
+    }
+
+    /// The line is one of the plan's, and may stand next.
+    pub fn is_of_plan(&self, line: &Line) -> bool
+        ensures { result ≡ is_some (head_line self.now.plan self.now.head (said line.now)) }
+    {
+        may_stand_in_head(&self.plan, self.head, line)
+    }
+
+    /// Where the line stands: `None` exactly where it may not stand next.
+    pub fn spot(&self, line: &Line) -> Option<Spot>
+        ensures placed { option_map (λ at. placed_at at (said line.now)) result ≡ placed_next self.now (said line.now) }
+        ensures within { IfSome result (λ at. IsPlacedIn self.now.plan (placed_at at (said line.now))) }
+    {
+        if may_stand_in_head(&self.plan, self.head, line) {
+            return Some(Spot::Plan);
+        }
+        match stand_behind(&self.plan, self.head, self.slot, self.part, line) {
+            Some(standing) => Some(standing.spot),
+            None => None,
+        }
+    }
+
+    /// The line may stand next.
+    pub fn may(&self, line: &Line) -> bool
+        ensures { result ≡ is_some (take_line self.now (said line.now)) }
+    {
+        match self.spot(line) {
+            Some(_) => true,
+            None => false,
+        }
+    }
+
+    /// Takes a line of the plan that may stand next. After `NoMemory` all is as before.
+    pub fn plan_step(&mut self, line: &Line) -> Result<(), NoMemory>
+        requires { IsSome (head_line self.old.plan self.old.head (said line.now)) }
+        ensures ok { OnOk result (option_map (λ taken. taken.next) (take_line self.old (said line.now)) ≡ Some self.new) }
+        ensures err { OnErr result (self.new ≡ self.old) }
+    {
+        let next = self.plan.add(self.alloc, self.head, line)?;
+        self.head = next;
+        self.slot = None;
+        self.part = Part::Ballots { last: 0 };
+        Ok(())
+    }
+
+    /// Takes a line that may stand next and is none of the plan's. It takes no memory.
+    pub fn step(&mut self, line: &Line)
+        requires may { IsSome (take_line self.old (said line.now)) }
+        requires behind { head_line self.old.plan self.old.head (said line.now) ≡ None }
+        ensures { option_map (λ taken. taken.next) (take_line self.old (said line.now)) ≡ Some self.new }
+    {
+        match stand_behind(&self.plan, self.head, self.slot, self.part, line) {
+            Some(standing) => {
+                self.head = Head::Whole;
+                self.slot = standing.slot;
+                self.part = standing.part;
+            }
+            None => unreachable!(),
+        }
+    }
+
+    /// All sections stand, and no line is due.
+    pub fn whole(&self) -> bool
+        ensures { result ≡ is_whole self.now }
+    {
+        matches!(
+            (self.head, self.slot, self.part),
+            (Head::Whole, None, Part::Disputes { .. })
+        )
+    }
+
+    /// A line of ballots stands, so that the plan keeps its limits.
+    pub fn has_plan(&self) -> bool
+        ensures { result ≡ has_runs self.now.head }
+    {
+        match self.head {
+            Head::Runs => true,
+            Head::Whole => true,
+            _ => false,
+        }
+    }
+
+    /// The plan, as far as its lines stand.
+    pub fn plan(&self) -> &Plan
+        ensures is { result.now ≡ self.now.plan }
+        ensures made { IsMade self.now.plan self.now.head }
+        ensures keeps { has_runs self.now.head ≡ true → fault_of self.now.plan ≡ None }
+    {
+        self.plan.plan()
+    }
+
+    /// How many entries the race has. It takes the same time for each plan.
+    pub fn entries(&self, race: u32) -> u32
+        requires { race < length self.now.plan.races }
+        ensures { result ≡ entries_of self.now.plan race }
+    {
+        self.plan.entries(race)
+    }
+}

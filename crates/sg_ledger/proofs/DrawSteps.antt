@@ -1,0 +1,140 @@
+-- What is kept of the draw and of the last claim tells one more line, where it told the lines before.
+use Rattle.std.proofs.Common.{◌≡◌, ℕ, ◌+◌, ◌<◌, ◌≤◌, inl, inr, Bool, false, not, ◌&&◌, ◌||◌, List, [], ◌∷◌, ◌++◌, length, All, Option, Some, None, is_some, Ok, refl, sym, ap, ap₂, ◌∙◌, arith}
+use Rattle.std.proofs.lemmas.Bool.{cases_lt}
+use Rattle.std.proofs.lemmas.List.{get_or_past}
+use Rattle.std.proofs.lemmas.List.Elements.{All-get_or}
+use Rattle.std.specs.Option.{option_map, option_map_or, option_or}
+use Rattle.hex.proofs.HexLemmas.{decode_of-encode_lower, decode_sized-encode_lower}
+use Rattle.hex.specs.Hex.{IsBytes, decode_sized}
+use Rattle.sg_check.specs.Facts.{Claim, bytes_of_digits, draws_digits, draws_full, first_given, is_both, is_full_draw, last_claim, public_bytes, shows_disputed}
+use Rattle.sg_check.specs.Kinds.{bad_side, is_on_side}
+use Rattle.sg_forms.specs.Spelling.{AreDigits}
+use Rattle.sg_forms.specs.declared.line.RowOpening.{RowOpening}
+use Rattle.sg_ledger.proofs.Lists.{any-push, any-skip, given-push, given-skip, or-true}
+use Rattle.sg_ledger.specs.Steps.{claim_after, coins_after, full_after, with_shown}
+use Rattle.sg_ledger.specs.Tells.{kept_of}
+use Rattle.sg_ledger.specs.declared.claims.Claimed.{Claimed}
+use Rattle.sg_lines.proofs.Hex.{length-encode_lower}
+use Rattle.sg_plan.specs.declared.plan.ClaimWord.{ClaimWord}
+use Rattle.sg_plan.specs.declared.plan.Plan.{Plan}
+use Rattle.sg_streams.specs.CoinSides.{coin_of, coin_seed}
+use Rattle.sg_grammar.specs.Placed.{Placed}
+use Rattle.sg_grammar.specs.Placed.Placed.{CodeAt, DrawnFull, DrawnPublic, RowAt, Disputed}
+
+-- PUBLIC BYTES
+
+bytes_everywhere : (bytes : List ℕ) → All (λ byte. byte < 256) bytes → IsBytes bytes
+bytes_everywhere bytes each i =
+    elim (cases_lt i (length bytes)) [
+      | inl below ↦ All-get_or (λ byte. byte < 256) bytes i 0 below each
+      | inr past ↦ rw (get_or_past bytes i 0 past) (omega arith)
+    ]
+
+-- the bytes that digits spell are half as many as the digits, and 4,096 at most; this is what decodes to them
+pub record AreSpelled (digits : List ℕ) : Type 0 where
+  pub count : length digits ≡ length (bytes_of_digits digits) + length (bytes_of_digits digits)
+  pub few : length (bytes_of_digits digits) ≤ 4096
+  pub decoded : (n : ℕ) → length (bytes_of_digits digits) ≡ n → decode_sized digits n ≡ Ok (bytes_of_digits digits)
+
+pub are_spelled : (digits : List ℕ) → AreDigits digits → AreSpelled digits
+are_spelled digits (bytes, is, each, some, few) =
+    let fits = bytes_everywhere bytes each in
+    let bytes_are : bytes_of_digits digits ≡ bytes = rw (is, decode_of-encode_lower bytes fits) refl in
+    record {
+      count = omega (arith, ap length bytes_are, ap length is, length-encode_lower bytes);
+      few = omega (arith, ap length bytes_are, few);
+      decoded = λ n many. rw (bytes_are) (rw is (decode_sized-encode_lower bytes n (ap length (sym bytes_are) ∙ many) fits));
+    }
+
+-- THE DRAW
+
+pub full_step : (full : Bool) (lines : List Placed) (line : Placed) → full ≡ is_full_draw lines → full_after full line ≡ is_full_draw (lines ++ line ∷ [])
+full_step full lines DrawnFull told = sym (any-push draws_full lines DrawnFull ∙ or-true (is_full_draw lines))
+full_step full lines line told = told ∙ sym (any-skip draws_full lines line refl)
+
+seed_or : (old : Option (List ℕ)) (digits : List ℕ)
+    → option_or (option_map coin_seed (option_map bytes_of_digits old)) (Some (coin_seed (bytes_of_digits digits))) ≡ option_map coin_seed (option_map bytes_of_digits (option_or old (Some digits)))
+seed_or None digits = refl
+seed_or (Some x) digits = refl
+
+pub coins_step : (coins : Option (List ℕ)) (lines : List Placed) (line : Placed) → coins ≡ option_map coin_seed (public_bytes lines)
+    → coins_after coins line ≡ option_map coin_seed (public_bytes (lines ++ line ∷ []))
+coins_step coins lines (DrawnPublic digits) told =
+    ap (λ (o : Option (List ℕ)). option_or o (Some (coin_seed (bytes_of_digits digits)))) told
+    ∙ (seed_or (first_given draws_digits lines) digits
+    ∙ ap (λ (o : Option (List ℕ)). option_map coin_seed (option_map bytes_of_digits o)) (sym (given-push draws_digits lines (DrawnPublic digits))))
+coins_step coins lines line told = told ∙ ap (λ (o : Option (List ℕ)). option_map coin_seed (option_map bytes_of_digits o)) (sym (given-skip draws_digits lines line refl))
+
+seed_test : (public : Option (List ℕ)) (test : List ℕ → Bool) → option_map_or test (option_map coin_seed public) false ≡ option_map_or (λ (bytes : List ℕ). test (coin_seed bytes)) public false
+seed_test None test = refl
+seed_test (Some bytes) test = refl
+
+-- a row's side is bad, as is kept of the draw
+pub side_judged : (plan : Plan) (full : Bool) (coins : Option (List ℕ)) (lines : List Placed) (race instance number : ℕ) (opening : RowOpening)
+    → full ≡ is_full_draw lines → coins ≡ option_map coin_seed (public_bytes lines)
+    → ((full && not (is_both opening)) || option_map_or (λ (seed : List ℕ). not (is_on_side (coin_of seed race instance number) opening)) coins false) ≡ bad_side plan lines (RowAt race instance number opening)
+side_judged plan full coins lines race instance number opening full_is coins_are =
+    ap₂ (λ (f : Bool) (c : Option (List ℕ)). (f && not (is_both opening)) || option_map_or (λ (seed : List ℕ). not (is_on_side (coin_of seed race instance number) opening)) c false) full_is coins_are
+    ∙ ap (λ (b : Bool). (is_full_draw lines && not (is_both opening)) || b) (seed_test (public_bytes lines) (λ seed. not (is_on_side (coin_of seed race instance number) opening)))
+
+pub public_judged : (coins : Option (List ℕ)) (public : Option (List ℕ)) → coins ≡ option_map coin_seed public → is_some coins ≡ is_some public
+public_judged coins None are = ap (λ (c : Option (List ℕ)). is_some c) are
+public_judged coins (Some bytes) are = ap (λ (c : Option (List ℕ)). is_some c) are
+
+-- THE CLAIM
+
+abbrev behind_more : Placed → Claim → Claim
+behind_more line claim = record { code = claim.code; answer = claim.answer; behind = claim.behind ++ line ∷ [] }
+
+-- the line is no claim
+abbrev IsNoClaim : Placed → Type 0
+IsNoClaim (Disputed ballot race code word) = ⊥
+IsNoClaim line = Unit {0}
+
+alone-none : (line : Placed) → IsNoClaim line → last_claim (line ∷ []) ≡ None
+alone-none (Disputed ballot race code word) quiet = absurd quiet
+alone-none line quiet = refl
+
+claim_behind : (later : Option Claim) (claim : Claim) (line : Placed)
+    → option_map_or Some (option_map (behind_more line) later) (Some (behind_more line claim)) ≡ option_map (behind_more line) (option_map_or Some later (Some claim))
+claim_behind None claim line = refl
+claim_behind (Some x) claim line = refl
+
+-- the last claim stays, with one more line behind it
+claim-push : (lines : List Placed) (line : Placed) → IsNoClaim line → last_claim (lines ++ line ∷ []) ≡ option_map (behind_more line) (last_claim lines)
+claim-push [] line quiet = alone-none line quiet
+claim-push (Disputed ballot race code word ∷ lines) line quiet =
+    ap (λ (o : Option Claim). option_map_or Some o (Some (record { code = code; answer = word; behind = lines ++ line ∷ [] }))) (claim-push lines line quiet)
+    ∙ claim_behind (last_claim lines) (record { code = code; answer = word; behind = lines }) line
+claim-push (x ∷ lines) line quiet = claim-push lines line quiet
+
+-- a new claim is the last one
+claim-new : (lines : List Placed) (ballot race code : ℕ) (word : ClaimWord) → last_claim (lines ++ Disputed ballot race code word ∷ []) ≡ Some (record { code = code; answer = word; behind = [] })
+claim-new [] ballot race code word = refl
+claim-new (Disputed b r c w ∷ lines) ballot race code word =
+    ap (λ (o : Option Claim). option_map_or Some o (Some (record { code = c; answer = w; behind = lines ++ Disputed ballot race code word ∷ [] }))) (claim-new lines ballot race code word)
+claim-new (x ∷ lines) ballot race code word = claim-new lines ballot race code word
+
+kept-more : (claim : Option Claim) (line : Placed) (now : Claimed → Claimed) → ((c : Claim) → now (kept_of c) ≡ kept_of (behind_more line c))
+    → option_map now (option_map kept_of claim) ≡ option_map kept_of (option_map (behind_more line) claim)
+kept-more None line now same = refl
+kept-more (Some c) line now same = ap Some (same c)
+
+kept-same : (claim : Option Claim) (line : Placed) → ((code : ℕ) → shows_disputed code line ≡ false)
+    → option_map kept_of claim ≡ option_map kept_of (option_map (behind_more line) claim)
+kept-same None line quiet = refl
+kept-same (Some c) line quiet = ap (λ (b : Bool). Some (record { code = c.code; answer = c.answer; shown = b })) (sym (any-skip (shows_disputed c.code) c.behind line (quiet c.code)))
+
+abbrev pub TellsClaim : Option Claimed → List Placed → Type 0
+TellsClaim claim lines = claim ≡ option_map kept_of (last_claim lines)
+
+pub claim_step : (claim : Option Claimed) (lines : List Placed) (line : Placed) → TellsClaim claim lines → TellsClaim (claim_after claim line) (lines ++ line ∷ [])
+claim_step claim lines (Disputed ballot race code word) told = ap (λ (o : Option Claim). option_map kept_of o) (sym (claim-new lines ballot race code word))
+claim_step claim lines (CodeAt block ballot race column code) told =
+    let line = CodeAt block ballot race column code in
+    ap (λ (o : Option Claimed). option_map (with_shown block code.code) o) told
+    ∙ (kept-more (last_claim lines) line (with_shown block code.code)
+    (λ c. ap (λ (b : Bool). record { code = c.code; answer = c.answer; shown = b }) (sym (any-push (shows_disputed c.code) c.behind line)))
+    ∙ ap (λ (o : Option Claim). option_map kept_of o) (sym (claim-push lines line tt)))
+claim_step claim lines line told =
+    told ∙ (kept-same (last_claim lines) line (λ code. refl) ∙ ap (λ (o : Option Claim). option_map kept_of o) (sym (claim-push lines line tt)))

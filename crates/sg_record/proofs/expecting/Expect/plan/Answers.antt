@@ -1,5 +1,0 @@
-use Rattle.sg_record.proofs.Walking.{plan_keeps}
-use Rattle.sg_record.proofs.expecting.Expect.plan.Goals as goal
-
-pub returns-clause-keeps : goal.returns-clause-keeps
-returns-clause-keeps c = rw (← c.self.view_is) (plan_keeps c.self.inside.plan c.self.inside.head c.self.invariant.made)

@@ -1,5 +1,0 @@
-use Rattle.sg_record.specs.Slots.{HasNoEntries}
-use Rattle.sg_record.proofs.slots.first_with_entries.Given as goal
-
-abbrev pub invariant-loop-race : goal.invariant-loop-race
-invariant-loop-race l = HasNoEntries l.plan l.from l.race
