@@ -1,0 +1,254 @@
+-- The lines of a formed record's text give its lists, and lines that are a whole record give those of a formed record.
+use Rattle.std.proofs.Common.{◌≡◌, ℕ, ◌⊎◌, true, false, inl, inr, List, [], ◌∷◌, ◌++◌, map, drop, Option, Some, None, refl, sym, subst, ap, ◌∙◌, arith}
+use Rattle.std.proofs.lemmas.List.{append-nil}
+use Rattle.std.proofs.lemmas.Option.{same_Some}
+use Rattle.std.specs.List.{flat_map}
+use Rattle.std.specs.Option.{option_map, option_map_or}
+use Rattle.std.specs.Prelude.{option_and_then}
+use Rattle.sg_commit.specs.declared.Digest.{Digest}
+use Rattle.sg_plan.specs.declared.plan.Plan.{Plan}
+use Rattle.sg_forms.proofs.LineLaws.{lines_are_read}
+use Rattle.sg_forms.specs.Reading.{line_of}
+use Rattle.sg_forms.specs.Said.{Said}
+use Rattle.sg_forms.specs.Said.Said.{Ballots, Version}
+use Rattle.sg_forms.specs.Spelling.{spelling}
+use Rattle.sg_grammar.proofs.Claims.{option_and_then-some, option_map-some}
+use Rattle.sg_grammar.specs.Due.{commits}
+use Rattle.sg_grammar.specs.Head.{head_line, no_plan}
+use Rattle.sg_grammar.specs.Placed.{Placed}
+use Rattle.sg_grammar.specs.Placed.Placed.{OfPlan}
+use Rattle.sg_grammar.specs.Spots.{placed_at, placed_next}
+use Rattle.sg_grammar.specs.Walk.{Next, Taken, Walked, after_run, behind, headed, in_head, is_whole, start, take_at, take_bytes, take_line, walk, walked_on}
+use Rattle.sg_grammar.specs.declared.state.Head.{Head}
+use Rattle.sg_grammar.specs.declared.state.Head.TheVariants as head
+use Rattle.sg_grammar.specs.declared.state.Part.{Part}
+use Rattle.sg_grammar.specs.declared.state.Part.TheVariants as part
+use Rattle.sg_grammar.specs.declared.state.Slot.{Slot}
+use Rattle.sg_grammar.specs.declared.state.Spot.{Spot}
+use Rattle.sg_record.proofs.BodyOut.{run_state}
+use Rattle.sg_record.proofs.BytesWalk.{AreIn-from_All, Stays, body-behind, first_line, take_line-stays}
+use Rattle.sg_record.proofs.Filling.{AreIn}
+use Rattle.sg_record.proofs.FormedLaw.{commit_lines-are, end_of, has_form, result_lines-are}
+use Rattle.sg_record.proofs.FormedParts.{IsFormed, commits_of, results_of}
+use Rattle.sg_record.proofs.GatheredBlocks.{blocks-gathers, disputes-gathers}
+use Rattle.sg_record.proofs.GatheredLines.{Gathers, bare, blank-bare, commits-put, committed, gathers-commits, gathers-results, results-put, resulted}
+use Rattle.sg_record.proofs.HeadOut.{plan-out}
+use Rattle.sg_record.proofs.SaidWalk.{Goes}
+use Rattle.sg_record.proofs.SectionLines.{commits-spells, lines_of_commits, lines_of_results, results-spells}
+use Rattle.sg_record.proofs.WholeLaw.{whole_are_formed}
+use Rattle.sg_record.specs.Formed.{is_formed}
+use Rattle.sg_record.specs.Gathering.{Gathered, added, blank, gather, gather_line, gathered_on, nothing_yet}
+use Rattle.sg_record.specs.Laws.{AreWhole, HasWords}
+use Rattle.sg_record.specs.Lines.{block_lines, commit_lines, dispute_lines, lines_in, opening_lines, plan_lines, result_lines, texts_in}
+use Rattle.sg_record.specs.declared.record.Record.{Record}
+
+-- THE LINES OF THE PLAN
+
+-- a line is one of the plan, or the plan is whole behind it
+abbrev IsOfPlan : Said → Taken → Type 0
+IsOfPlan said taken = (taken.placed ≡ OfPlan said) ⊎ (taken.next.head ≡ head.Whole)
+
+head-of_plan : (plan : Plan) (stage : Head) (said : Said) (t : Taken) → in_head plan stage said ≡ Some t → IsOfPlan said t
+head-of_plan plan stage said t e =
+    let from = option_map-some (headed said) (head_line plan stage said) t e in
+    inl (ap (λ (x : Taken). x.placed) (sym from.2))
+
+run-of_plan : (plan : Plan) (said : Said) (t : Taken) → after_run plan said ≡ Some t → IsOfPlan said t
+run-of_plan plan (Ballots style count) t e = head-of_plan plan head.Runs (Ballots style count) t e
+run-of_plan plan said t e = inr (body-behind plan (commits plan) (part.Ballots 0) said t e).1
+
+at-of_plan : (plan : Plan) (stage : Head) (due : List Slot) (may_begin : Part) (said : Said) (t : Taken) → take_at plan stage due may_begin said ≡ Some t → IsOfPlan said t
+at-of_plan plan head.Whole due may_begin said t e = inr (body-behind plan due may_begin said t e).1
+at-of_plan plan head.Runs due may_begin said t e = run-of_plan plan said t e
+at-of_plan plan stage due may_begin said t e = head-of_plan plan stage said t e
+
+line-of_plan : (next : Next) (said : Said) (t : Taken) → take_line next said ≡ Some t → IsOfPlan said t
+unfolding take_line
+line-of_plan next said t e = at-of_plan next.plan next.head next.due next.part said t e
+
+-- a whole plan stays whole
+line-whole : (next : Next) (said : Said) (t : Taken) → next.head ≡ head.Whole → take_line next said ≡ Some t → t.next.head ≡ head.Whole
+unfolding take_line
+line-whole next said t whole e =
+    (body-behind next.plan next.due next.part said t (ap (λ h. take_at next.plan h next.due next.part said) (sym whole) ∙ e)).1
+
+lines-whole : (next end : Next) (lines : List Said) → next.head ≡ head.Whole → Goes next lines end → end.head ≡ head.Whole
+lines-whole next end [] whole goes = ap (λ (n : Next). n.head) (sym goes) ∙ whole
+lines-whole next end (said ∷ lines) whole goes = lines-whole goes.0.next end lines (line-whole next said goes.0 whole goes.1) goes.2
+
+-- lines that lead to a plan which isn't whole leave the record without lines behind the plan
+plan-gathers : (next end : Next) (lines rest : List Said) (last : Next) (final : Record) → (end.head ≡ head.Whole → ⊥) → Goes next lines end
+    → Gathers end (blank end.plan) rest last final → Gathers next (blank next.plan) (lines ++ rest) last final
+plan-gathers next end [] rest last final open_end goes on = subst (λ (n : Next). Gathers n (blank n.plan) rest last final) (sym goes) on
+plan-gathers next end (said ∷ lines) rest last final open_end goes on =
+    let behind_it = plan-gathers goes.0.next end lines rest last final open_end goes.2 on in
+    elim (line-of_plan next said goes.0 goes.1) [
+      | inl of_plan ↦
+          let same : added goes.0.next.plan (blank next.plan) goes.0.placed said ≡ blank goes.0.next.plan = ap (λ p. added goes.0.next.plan (blank next.plan) p said) of_plan in
+          (goes.0, goes.1, subst (λ (r : Record). Gathers goes.0.next r (lines ++ rest) last final) (sym same) behind_it)
+      | inr whole ↦ absurd (open_end (lines-whole goes.0.next end lines whole goes.2))
+    ]
+
+-- ALL LINES OF A FORMED RECORD
+
+-- the record of its lines
+abbrev whole_of : Record → Digest → Digest → Digest → Record
+whole_of posted first second third =
+    record (resulted (record (committed posted.plan (commits_of posted first)) { ballots = [] ++ posted.ballots }) (results_of posted second third)) { disputes = [] ++ posted.disputes }
+
+whole_of-is : (posted : Record) (first second third : Digest) → posted.seals ≡ first ∷ second ∷ third ∷ [] → whole_of posted first second third ≡ posted
+whole_of-is posted first second third seals = ap (λ (l : List Digest). let it : Record = record posted { seals = l } in it) (sym seals)
+
+formed_gathers : (posted : Record) (first second third : Digest) → IsFormed posted first second third → Gathers start (blank no_plan) (lines_in posted) (end_of posted) (whole_of posted first second third)
+formed_gathers posted first second third is =
+    let plan : Plan = posted.plan in
+    let version : ℕ = posted.plan.version in
+    let end : Next = end_of posted in
+    let final : Record = whole_of posted first second third in
+    let disputes : List Said = flat_map dispute_lines posted.disputes in
+    let results : List Said = lines_of_results plan (results_of posted second third) in
+    let made : Record = record (committed plan (commits_of posted first)) { ballots = [] ++ posted.ballots } in
+    let on = disputes-gathers plan 0 posted.disputes (resulted made (results_of posted second third)) is.disputes (omega (arith, is.few)) in
+    let put_results = results-put version plan (results_of posted second third) made is.results in
+    let fills = (results-spells version plan).out (results_of posted second third) is.results in
+    let blocks = blocks-gathers plan 0 posted.ballots (committed plan (commits_of posted first)) (results ++ disputes) end final is.fine is.blocks
+    (λ last. gathers-results plan last made results disputes end final fills (subst (λ (r : Record). Gathers (behind plan [] (part.Disputes 0)) r disputes end final) (sym put_results) on)) in
+    let body = subst (λ (l : List Said). Gathers (behind plan [] (part.Ballots 0)) (committed plan (commits_of posted first)) (flat_map (block_lines plan) posted.ballots ++ l) end final)
+    (sym (result_lines-are posted first second third disputes is.seals)) blocks.1 in
+    let rest : List Said = flat_map (block_lines plan) posted.ballots ++ (result_lines posted ++ (opening_lines posted ++ disputes)) in
+    let put_commits = commits-put version plan (commits_of posted first) is.commits in
+    let commits = gathers-commits plan (bare plan) (lines_of_commits (commits_of posted first)) rest end final
+    ((commits-spells version plan).out (commits_of posted first) is.commits)
+    (subst (λ (r : Record). Gathers (behind plan [] (part.Ballots 0)) r rest end final) (sym put_commits) body) in
+    let lines = subst (λ (l : List Said). Gathers (run_state plan) (bare plan) (l ++ rest) end final) (sym (commit_lines-are posted first second third is.seals)) commits in
+    let to_runs : Goes start (plan_lines plan) (run_state plan) = subst (λ (l : List Said). Goes start l (run_state plan)) (append-nil (plan_lines plan)) (plan-out plan [] (run_state plan) is.fine refl) in
+    plan-gathers start (run_state plan) (plan_lines plan) (commit_lines posted ++ rest) end final (λ whole. cc) to_runs
+    (subst (λ (r : Record). Gathers (run_state plan) r (commit_lines posted ++ rest) end final) (sym (blank-bare plan)) lines)
+
+-- ONE LINE, AS BYTES
+
+-- a line that is read and taken
+gather_line-is : (so_far : Gathered) (bytes : List ℕ) (said : Said) (t : Taken) → line_of so_far.next.plan.version bytes ≡ Some said → take_line so_far.next said ≡ Some t
+    → gather_line so_far bytes ≡ Some (gathered_on so_far said t)
+gather_line-is so_far bytes said t read taken = rw (read, taken) refl
+
+-- a line in its place, as the program says it: with the state that it leads to
+pub gather_line-step : (so_far : Gathered) (bytes : List ℕ) (said : Said) (at : Spot) (next : Next) → line_of so_far.next.plan.version bytes ≡ Some said
+    → Some (placed_at at said) ≡ placed_next so_far.next said → option_map (λ taken. taken.next) (take_line so_far.next said) ≡ Some next
+    → gather_line so_far bytes ≡ Some (record { next = next; made = added next.plan so_far.made (placed_at at said) said })
+gather_line-step so_far bytes said at next read place step =
+    let from = option_map-some (λ (t : Taken). t.next) (take_line so_far.next said) next step in
+    let placed : placed_at at said ≡ from.0.placed = same_Some (placed_at at said) from.0.placed (place ∙ ap (λ o. option_map (λ (t : Taken). t.placed) o) from.1) in
+    gather_line-is so_far bytes said from.0 read from.1
+    ∙ (ap (λ (n : Next). Some (record { next = n; made = added n.plan so_far.made from.0.placed said })) from.2
+    ∙ ap (λ (p : Placed). Some (record { next = next; made = added next.plan so_far.made p said })) (sym placed))
+
+-- a line that may not stand
+pub gather_line-none : (so_far : Gathered) (bytes : List ℕ) → option_and_then (take_line so_far.next) (line_of so_far.next.plan.version bytes) ≡ None → gather_line so_far bytes ≡ None
+gather_line-none so_far bytes none = at_line (line_of so_far.next.plan.version bytes) none
+  where
+    at_taken : (said : Said) (o : Option Taken) → o ≡ None → option_map (gathered_on so_far said) o ≡ None
+    at_taken said None e = refl
+    at_taken said (Some t) e = cc
+
+    at_line : (o : Option Said) → option_and_then (take_line so_far.next) o ≡ None → option_and_then (λ said. option_map (gathered_on so_far said) (take_line so_far.next said)) o ≡ None
+    at_line None e = refl
+    at_line (Some said) e = at_taken said (take_line so_far.next said) e
+
+-- ALL LINES, AS BYTES
+
+-- with one more line
+pub gather-push : (so_far : Gathered) (lines : List (List ℕ)) (bytes : List ℕ) → gather so_far (lines ++ bytes ∷ []) ≡ option_and_then (λ more. gather_line more bytes) (gather so_far lines)
+unfolding gather
+gather-push so_far [] bytes = at_line (gather_line so_far bytes)
+  where
+    at_line : (o : Option Gathered) → option_and_then (λ more. gather more []) o ≡ o
+    at_line None = refl
+    at_line (Some more) = refl
+gather-push so_far (first ∷ lines) bytes = at_line (gather_line so_far first) (λ more. gather-push more lines bytes)
+  where
+    at_line : (o : Option Gathered) → ((more : Gathered) → gather more (lines ++ bytes ∷ []) ≡ option_and_then (λ m. gather_line m bytes) (gather more lines))
+        → option_and_then (λ more. gather more (lines ++ bytes ∷ [])) o ≡ option_and_then (λ m. gather_line m bytes) (option_and_then (λ more. gather more lines) o)
+    at_line None on = refl
+    at_line (Some more) on = on more
+
+-- where a line may not stand, no lines with it at their front are gathered
+pub gather-none : (so_far : Gathered) (front : List (List ℕ)) (bytes : List ℕ) (back : List (List ℕ)) (more : Gathered) → gather so_far front ≡ Some more → gather_line more bytes ≡ None
+    → gather so_far (front ++ (bytes ∷ back)) ≡ None
+unfolding gather
+gather-none so_far [] bytes back more is none =
+    let same : so_far ≡ more = same_Some so_far more is in
+    ap (λ (g : Gathered). option_and_then (λ m. gather m back) (gather_line g bytes)) same ∙ ap (λ o. option_and_then (λ m. gather m back) o) none
+gather-none so_far (first ∷ front) bytes back more is none =
+    let from = option_and_then-some (λ m. gather m front) (gather_line so_far first) more is in
+    ap (λ o. option_and_then (λ m. gather m (front ++ (bytes ∷ back))) o) from.1 ∙ gather-none from.0 front bytes back more from.2 none
+
+-- lines in range are gathered as they are taken
+said-gathers : (version : ℕ) (next : Next) (made : Record) (lines : List Said) (end : Next) (final : Record) → Stays version next → AreIn version lines → Gathers next made lines end final
+    → gather (record { next = next; made = made }) (map (spelling version) lines) ≡ Some (record { next = end; made = final })
+unfolding gather
+said-gathers version next made [] end final stays all goes =
+    ap (λ (n : Next). Some (record { next = n; made = made })) goes.0 ∙ ap (λ (r : Record). Some (record { next = end; made = r })) goes.1
+said-gathers version next made (said ∷ lines) end final stays all goes =
+    let so_far : Gathered = record { next = next; made = made } in
+    let read : line_of next.plan.version (spelling version said) ≡ Some said = ap (λ v. line_of v (spelling version said)) stays.0 ∙ lines_are_read version said all.0 in
+    let on = take_line-stays next said goes.0 stays.1 goes.1 in
+    ap (λ o. option_and_then (λ more. gather more (map (spelling version) lines)) o) (gather_line-is so_far (spelling version said) said goes.0 read goes.1)
+    ∙ said-gathers version goes.0.next (added goes.0.next.plan made goes.0.placed said) lines end final (on.0 ∙ stays.0, on.1) all.1 goes.2
+
+-- and from the start on
+start-gathers : (version : ℕ) (lines : List Said) (end : Next) (final : Record) → AreIn version (Version version ∷ lines) → Gathers start (blank no_plan) (Version version ∷ lines) end final
+    → gather nothing_yet (map (spelling version) (Version version ∷ lines)) ≡ Some (record { next = end; made = final })
+unfolding gather
+start-gathers version lines end final all goes =
+    let first = first_line (Version version) goes.0 goes.1 in
+    let same : first.version ≡ version = let both : Version version ≡ Version first.version = first.is in cc in
+    ap (λ o. option_and_then (λ more. gather more (map (spelling version) lines)) o)
+    (gather_line-is nothing_yet (spelling version (Version version)) (Version version) goes.0 (lines_are_read 0 (Version version) all.0) goes.1)
+    ∙ said-gathers version goes.0.next (added goes.0.next.plan (blank no_plan) goes.0.placed (Version version)) lines end final (first.stays.0 ∙ same, first.stays.1) all.1 goes.2
+
+-- THE LAWS
+
+-- the lines of a formed record give the record, and it is whole
+pub formed_gathered : (posted : Record) → HasWords posted → is_formed posted ≡ true → gather nothing_yet (texts_in posted) ≡ Some (record { next = end_of posted; made = posted })
+formed_gathered posted words formed =
+    let form = has_form posted words formed in
+    let goes = formed_gathers posted form.first form.second form.third form.is in
+    start-gathers posted.plan.version (drop 1 (lines_in posted)) (end_of posted) (whole_of posted form.first form.second form.third)
+    (AreIn-from_All posted.plan.version (lines_in posted) words) goes
+    ∙ ap (λ (r : Record). Some (record { next = end_of posted; made = r })) (whole_of-is posted form.first form.second form.third form.is.seals)
+
+-- one line, and a walk behind it
+walk-on : (next : Next) (bytes : List ℕ) (said : Said) (t : Taken) (lines : List (List ℕ)) (w : Walked) → line_of next.plan.version bytes ≡ Some said → take_line next said ≡ Some t
+    → walk t.next lines ≡ Some w → walk next (bytes ∷ lines) ≡ Some (walked_on bytes t w)
+unfolding walk take_bytes
+walk-on next bytes said t lines w read taken on = rw (read, taken, on) refl
+
+-- what is gathered is walked over
+gather-walks : (so_far more : Gathered) (lines : List (List ℕ)) → gather so_far lines ≡ Some more → (w : Walked) × (walk so_far.next lines ≡ Some w) × (w.next ≡ more.next)
+unfolding gather walk
+gather-walks so_far more [] e = (record { posted = []; next = so_far.next }, refl, ap (λ (g : Gathered). g.next) (same_Some so_far more e))
+gather-walks so_far more (bytes ∷ lines) e =
+    let first = option_and_then-some (λ m. gather m lines) (gather_line so_far bytes) more e in
+    let line = option_and_then-some (λ said. option_map (gathered_on so_far said) (take_line so_far.next said)) (line_of so_far.next.plan.version bytes) first.0 first.1 in
+    let taken = option_map-some (gathered_on so_far line.0) (take_line so_far.next line.0) first.0 line.2 in
+    let same : first.0.next ≡ taken.0.next = ap (λ (g : Gathered). g.next) (sym taken.2) in
+    let rest = gather-walks first.0 more lines first.2 in
+    let others : walk taken.0.next lines ≡ Some rest.0 = ap (λ (n : Next). walk n lines) (sym same) ∙ rest.1 in
+    (walked_on bytes taken.0 rest.0, walk-on so_far.next bytes line.0 taken.0 lines rest.0 line.1 taken.1 others, rest.2)
+
+-- what is gathered of a formed record
+pub record GatheredOf (lines : List (List ℕ)) (made : Record) : Type 0 where
+  pub words : HasWords made
+  pub formed : is_formed made ≡ true
+  pub is : lines ≡ texts_in made
+
+-- lines that are gathered, up to a whole record, give a formed record, and are its lines
+pub whole_gathered : (lines : List (List ℕ)) (so_far : Gathered) → gather nothing_yet lines ≡ Some so_far → is_whole so_far.next ≡ true → GatheredOf lines so_far.made
+whole_gathered lines so_far e whole =
+    let walks = gather-walks nothing_yet so_far lines e in
+    let are_whole : AreWhole lines = ap (λ (o : Option Walked). option_map_or (λ (w : Walked). is_whole w.next) o false) walks.1 ∙ (ap is_whole walks.2 ∙ whole) in
+    let found = whole_are_formed lines are_whole in
+    let both : Some so_far ≡ Some (record { next = end_of found.0; made = found.0 }) = sym e ∙ (ap (gather nothing_yet) found.3 ∙ formed_gathered found.0 found.1 found.2) in
+    let same : so_far.made ≡ found.0 = ap (λ (g : Gathered). g.made) (same_Some so_far (record { next = end_of found.0; made = found.0 }) both) in
+    subst (λ (r : Record). GatheredOf lines r) (sym same) (record { words = found.1; formed = found.2; is = found.3 })

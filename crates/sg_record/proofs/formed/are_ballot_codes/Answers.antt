@@ -1,0 +1,46 @@
+-- The codes of the ballot's races follow one another.
+use Rattle.std.proofs.Common.{◌≡◌, ◌∙◌, ◌+◌, ◌==◌, true, false, sym, ap, drop, length, arith}
+use Rattle.std.specs.List.{list_any}
+use Rattle.sg_grammar.proofs.Each.{each-none}
+use Rattle.sg_grammar.specs.Due.{ballot_codes, each}
+use Rattle.sg_grammar.specs.declared.state.Block.TheVariants as block
+use Rattle.sg_record.proofs.BlockTests.{codes_with, codes_without, due_done}
+use Rattle.sg_record.specs.Formed.{are_due}
+use Rattle.sg_record.specs.Lines.{races_of_ballot}
+use Rattle.sg_record.proofs.formed.are_ballot_codes.Goals as goal
+
+pub loop-race-preserved-then-not-has_race : goal.loop-race-preserved-then-not-has_race
+loop-race-preserved-then-not-has_race c =
+    let plan = c.args.plan.now in
+    let not_its : list_any (λ carried. carried == c.loop-race.race) (races_of_ballot plan c.args.ballot) ≡ false =
+    ap (λ races. list_any (λ carried. carried == c.loop-race.race) races) (sym c.races_of-races.ensures) ∙ sym c.has_race.ensures ∙ c.if-not-has_race.true in
+    let same = codes_without plan c.args.ballot c.loop-race.race (omega arith) not_its in
+    record { within = c.loop-race.invariant.within; due = ap (λ slots. are_due plan slots (drop c.loop-race.at c.args.codes.now)) (sym same) ∙ c.loop-race.invariant.due }
+
+pub returns-in-None : goal.returns-in-None
+returns-in-None c =
+    let plan = c.args.plan.now in
+    let its : list_any (λ carried. carried == c.loop-race.race) (races_of_ballot plan c.args.ballot) ≡ true =
+    ap (λ races. list_any (λ carried. carried == c.loop-race.race) races) (sym c.races_of-races.ensures) ∙ sym c.has_race.ensures ∙ c.if-not-has_race.false in
+    let same = codes_with plan c.args.ballot c.loop-race.race (omega arith) its in
+    let rest = each (ballot_codes plan c.args.ballot) (c.loop-race.race + 1) (length plan.races) in
+    sym (c.in-None.ensures.due block.Audited c.args.ballot rest) ∙ ap (λ slots. are_due plan slots (drop c.loop-race.at c.args.codes.now)) (sym same) ∙ c.loop-race.invariant.due
+
+pub loop-race-preserved : goal.loop-race-preserved
+loop-race-preserved c =
+    let plan = c.args.plan.now in
+    let its : list_any (λ carried. carried == c.loop-race.race) (races_of_ballot plan c.args.ballot) ≡ true =
+    ap (λ races. list_any (λ carried. carried == c.loop-race.race) races) (sym c.races_of-races.ensures) ∙ sym c.has_race.ensures ∙ c.if-not-has_race.false in
+    let same = codes_with plan c.args.ballot c.loop-race.race (omega arith) its in
+    let rest = each (ballot_codes plan c.args.ballot) (c.loop-race.race + 1) (length plan.races) in
+    record {
+      within = c.in-Some.ensures.within;
+      due = sym (c.in-Some.ensures.due block.Audited c.args.ballot rest) ∙ ap (λ slots. are_due plan slots (drop c.loop-race.at c.args.codes.now)) (sym same) ∙ c.loop-race.invariant.due;
+    }
+
+pub returns : goal.returns
+returns c =
+    let plan = c.args.plan.now in
+    let none = each-none (ballot_codes plan c.args.ballot) c.loop-race.race (length plan.races) (omega arith) in
+    ap (λ len. c.loop-race.at == len) c.len.ensures ∙ sym (due_done plan c.args.codes.now c.loop-race.at c.loop-race.invariant.within)
+    ∙ ap (λ slots. are_due plan slots (drop c.loop-race.at c.args.codes.now)) (sym none) ∙ c.loop-race.invariant.due

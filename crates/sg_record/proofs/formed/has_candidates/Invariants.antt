@@ -1,0 +1,8 @@
+use Rattle.std.proofs.Common.{◌≡◌, ◌==◌, drop, length}
+use Rattle.sg_plan.specs.Ballots.{candidates_of}
+use Rattle.sg_record.specs.Formed.{each_passes}
+use Rattle.sg_record.proofs.formed.has_candidates.Given as goal
+
+abbrev pub invariant-loop-race : goal.invariant-loop-race
+invariant-loop-race g l =
+    each_passes (λ race items. length items == candidates_of l.plan race) l.race (drop l.race l.lists) ≡ each_passes (λ race items. length items == candidates_of l.plan race) 0 l.lists

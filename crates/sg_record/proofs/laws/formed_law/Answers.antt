@@ -1,0 +1,5 @@
+use Rattle.sg_record.proofs.FormedLaw.{formed_are_whole}
+use Rattle.sg_record.proofs.laws.formed_law.Goals as goal
+
+pub returns : goal.returns
+returns c = formed_are_whole

@@ -1,0 +1,121 @@
+-- Which records have a text: their lists are as long as the plan says, and their codes, blocks and disputes stand in
+-- the order of the rules (this project's rules for the record).
+use Rattle.std.specs.Prelude.{ℕ, ◌+◌, ◌==◌, nat_lt, nat_le, Bool, true, false, ◌&&◌, List, [], ◌∷◌, length, is_none}
+use Rattle.std.specs.List.{list_all}
+use Rattle.sg_plan.specs.Ballots.{ballot_has, candidates_of, entries_of}
+use Rattle.sg_plan.specs.Codes.{codes_of}
+use Rattle.sg_plan.specs.Limits.{fault_of}
+use Rattle.sg_plan.specs.declared.plan.Draw.{Draw}
+use Rattle.sg_plan.specs.declared.plan.Draw.TheVariants as drawn
+use Rattle.sg_plan.specs.declared.plan.Plan.{Plan}
+use Rattle.sg_forms.specs.declared.line.CodeLine.{CodeLine}
+use Rattle.sg_grammar.specs.Due.{ballot_codes, each, race_codes}
+use Rattle.sg_grammar.specs.Walk.{in_order, is_column, is_later, is_race_left, most_disputes}
+use Rattle.sg_grammar.specs.declared.state.Block.TheVariants as block
+use Rattle.sg_grammar.specs.declared.state.Slot.{Slot}
+use Rattle.sg_grammar.specs.declared.state.Slot.TheVariants as slot
+use Rattle.sg_record.specs.Lines.{races_of_ballot}
+use Rattle.sg_record.specs.declared.record.BallotBlock.{BallotBlock}
+use Rattle.sg_record.specs.declared.record.BlockFate.{BlockFate}
+use Rattle.sg_record.specs.declared.record.BlockFate.TheVariants as fate
+use Rattle.sg_record.specs.declared.record.DisputeBlock.{DisputeBlock}
+use Rattle.sg_record.specs.declared.record.Record.{Record}
+
+-- LENGTHS
+
+-- the test holds of each item and its number, from `at` on
+abbrev pub each_passes : {A : Type 0} → (ℕ → A → Bool) → ℕ → List A → Bool
+each_passes test at [] = true
+each_passes test at (x ∷ xs) = test at x && each_passes test (at + 1) xs
+
+-- an item for each entry of each race
+abbrev pub has_entries : {A : Type 0} → Plan → List (List A) → Bool
+has_entries plan lists = length lists == length plan.races && each_passes (λ race items. length items == entries_of plan race) 0 lists
+
+-- an item for each row of each instance of each race
+abbrev pub has_rows : {A : Type 0} → Plan → List (List (List A)) → Bool
+has_rows plan lists =
+    length lists == length plan.races
+    && each_passes (λ race instances. length instances == plan.instances && list_all (λ items. length items == entries_of plan race) instances) 0 lists
+
+-- an item for each candidate of each race
+abbrev pub has_candidates : {A : Type 0} → Plan → List (List A) → Bool
+has_candidates plan lists = length lists == length plan.races && each_passes (λ race items. length items == candidates_of plan race) 0 lists
+
+-- CODES
+
+-- the number is a code of the plan's version
+abbrev pub is_code : Plan → ℕ → Bool
+is_code plan code = nat_lt code (codes_of plan.version)
+
+-- codes of the ballot from this race and column on: races don't fall, and in one race columns rise
+abbrev pub are_marks : Plan → ℕ → ℕ → ℕ → List CodeLine → Bool
+are_marks plan ballot race column [] = true
+are_marks plan ballot race column (code ∷ codes) =
+    ((is_column plan ballot code.race code.column && in_order race column code.race code.column) && is_code plan code.code)
+    && are_marks plan ballot code.race (code.column + 1) codes
+
+-- rising races of the ballot from this one on
+abbrev pub are_overs : Plan → ℕ → ℕ → List ℕ → Bool
+are_overs plan ballot race [] = true
+are_overs plan ballot race (over ∷ overs) = is_race_left plan ballot race over && are_overs plan ballot (over + 1) overs
+
+-- the code is of the column that is due
+abbrev pub is_due : Plan → Slot → CodeLine → Bool
+is_due plan (slot.Code kind ballot race column) code = (code.race == race && code.column == column) && is_code plan code.code
+is_due plan due code = false
+
+-- a code for each column that is due
+abbrev pub are_due : Plan → List Slot → List CodeLine → Bool
+are_due plan [] [] = true
+are_due plan [] (code ∷ codes) = false
+are_due plan (due ∷ slots) [] = false
+are_due plan (due ∷ slots) (code ∷ codes) = is_due plan due code && are_due plan slots codes
+
+-- BLOCKS
+
+-- a paper for each race, with a code for each candidate
+abbrev pub are_papers : Plan → List ℕ → List (List ℕ) → Bool
+are_papers plan [] [] = true
+are_papers plan [] (list ∷ papers) = false
+are_papers plan (race ∷ races) [] = false
+are_papers plan (race ∷ races) (list ∷ papers) = (length list == candidates_of plan race && list_all (is_code plan) list) && are_papers plan races papers
+
+abbrev pub is_fate : Plan → ℕ → BlockFate → Bool
+is_fate plan ballot (fate.Cast codes overs) = are_marks plan ballot 0 0 codes && are_overs plan ballot 0 overs
+is_fate plan ballot fate.Spoiled = true
+is_fate plan ballot (fate.Audited papers codes) =
+    are_papers plan (races_of_ballot plan ballot) papers && are_due plan (each (ballot_codes plan ballot) 0 (length plan.races)) codes
+is_fate plan ballot fate.Voided = plan.version == 2
+
+-- blocks of rising ballots behind this one
+abbrev pub are_blocks : Plan → ℕ → List BallotBlock → Bool
+are_blocks plan last [] = true
+are_blocks plan last (one ∷ blocks) = (is_later plan last one.ballot && is_fate plan one.ballot one.fate) && are_blocks plan one.ballot blocks
+
+-- a claim on a ballot in one of its races, and the ballot's codes there
+abbrev pub is_dispute : Plan → DisputeBlock → Bool
+is_dispute plan one =
+    ((nat_lt one.race (length plan.races) && ballot_has plan one.ballot one.race) && is_code plan one.code)
+    && are_due plan (race_codes plan block.Dispute one.ballot one.race) one.codes
+
+-- the public bytes are 1 to 4,096
+abbrev pub is_draw : Draw → Bool
+is_draw drawn.Full = true
+is_draw (drawn.Public bytes) = nat_le 1 (length bytes) && nat_le (length bytes) 4096
+
+-- THE WHOLE
+
+-- the record has a text
+unfoldable pub is_formed : Record → Bool
+is_formed posted =
+    (is_none (fault_of posted.plan) && length posted.seals == 3)
+    && (has_entries posted.plan posted.code_commits
+    && (has_rows posted.plan posted.row_commits
+    && (are_blocks posted.plan 0 posted.ballots
+    && (has_rows posted.plan posted.flags
+    && (has_entries posted.plan posted.places
+    && (has_candidates posted.plan posted.totals
+    && (is_draw posted.draw
+    && (has_rows posted.plan posted.rows
+    && (nat_le (length posted.disputes) most_disputes && list_all (is_dispute posted.plan) posted.disputes)))))))))

@@ -1,0 +1,29 @@
+-- The laws of records and their texts.
+use Rattle.std.specs.Prelude.{◌≡◌, ℕ, true, false, List, All}
+use Rattle.std.specs.Option.{option_map_or}
+use Rattle.sg_forms.specs.Spelling.{IsInRange}
+use Rattle.sg_grammar.specs.Walk.{Walked, start, is_whole, walk}
+use Rattle.sg_record.specs.Formed.{is_formed}
+use Rattle.sg_record.specs.Lines.{lines_in, text_of, texts_in}
+use Rattle.sg_record.specs.declared.record.Record.{Record}
+
+-- the lines are a whole record
+abbrev pub AreWhole : List (List ℕ) → Type 0
+AreWhole lines = option_map_or (λ (w : Walked). is_whole w.next) (walk start lines) false ≡ true
+
+-- each word is of its kind: what the types of the program ensure of numbers, keys and digests, and `is_formed` of the
+-- others
+abbrev pub HasWords : Record → Type 0
+HasWords posted = All (IsInRange posted.plan.version) (lines_in posted)
+
+-- the lines of each formed record's text are a whole record
+abbrev pub FormedAreWhole : Type 0
+FormedAreWhole = (posted : Record) → HasWords posted → is_formed posted ≡ true → AreWhole (texts_in posted)
+
+-- lines that are a whole record are those of a formed record's text
+abbrev pub WholeAreFormed : Type 0
+WholeAreFormed = (lines : List (List ℕ)) → AreWhole lines → (posted : Record) × HasWords posted × (is_formed posted ≡ true) × (lines ≡ texts_in posted)
+
+-- different formed records have different texts
+abbrev pub TextsDiffer : Type 0
+TextsDiffer = (a b : Record) → HasWords a → HasWords b → is_formed a ≡ true → is_formed b ≡ true → text_of a ≡ text_of b → a ≡ b

@@ -1,0 +1,5 @@
+pub mod Lines
+pub mod Formed
+pub mod Laws
+pub mod Gathering
+pub mod Writing

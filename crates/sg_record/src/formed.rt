@@ -1,0 +1,435 @@
+//! Which records have a text: each list is as long as the plan says, and codes, blocks and disputes stand in order.
+//!
+//! Nothing here takes memory. Each list is walked over once.
+ghost use Rattle.std.specs.Prelude.{◌≡◌, ℕ, ◌==◌, ◌<◌, ◌≤◌, None, IsTrue, IfSome, nat_lt, nat_le, if◌then◌else◌, ◌&&◌, ◌++◌, [], List, length, drop, false};
+ghost use Rattle.std.specs.List.{list_all, list_any};
+ghost use Rattle.std.specs.Option.{option_map_or};
+ghost use Rattle.sg_plan.specs.Ballots.{ballots_of, candidates_of, entries_of};
+ghost use Rattle.sg_plan.specs.Limits.{fault_of};
+ghost use Rattle.sg_grammar.specs.Due.{ballot_codes, each, race_codes};
+ghost use Rattle.sg_grammar.specs.Walk.{in_order, most_disputes};
+ghost use Rattle.sg_grammar.specs.declared.state.Block.{Block};
+ghost use Rattle.sg_grammar.specs.declared.state.Block.TheVariants as block;
+ghost use Rattle.sg_grammar.specs.declared.state.Slot.{Slot};
+ghost use Rattle.sg_record.specs.Formed.{are_blocks, are_due, are_marks, are_overs, are_papers, has_candidates, has_entries, has_rows, is_code, is_dispute, is_draw, is_fate, is_formed};
+ghost use Rattle.sg_record.specs.Lines.{races_of_ballot};
+
+use crate::record::{BallotBlock, BlockFate, DisputeBlock, Record};
+use sg_forms::CodeLine;
+use sg_plan::{Draw, Items, Paper, Plan};
+
+/// The most disputes.
+const MOST_DISPUTES: usize = 10_000;
+
+/// The most public bytes.
+const MOST_PUBLIC: usize = 4_096;
+
+/// Each race has a list with an item for each of its entries.
+#[tactic(auto, using(crate::proofs::Bounds::few_races))]
+fn has_entries<T>(plan: &Plan, lists: &Items<Items<T>>) -> bool
+    requires { fault_of plan.now ≡ None }
+    ensures { result ≡ has_entries plan.now lists.now }
+{
+    if lists.len() != plan.races.len() {
+        return false;
+    }
+    for race in 0..lists.len() {
+        if lists.get(race).len() != plan.entries(race as u32) as usize {
+            return false;
+        }
+    }
+    true
+}
+
+/// Each of the lists has so many items.
+fn have_items<T>(lists: &Items<Items<T>>, count: usize) -> bool
+    ensures { result ≡ list_all (λ items. length items == count) lists.now }
+{
+    lists.as_slice().iter().all(|items| items.len() == count)
+}
+
+/// The race has a list for each instance, with an item for each of its rows.
+fn has_race_rows<T>(plan: &Plan, race: u32, lists: &Items<Items<T>>) -> bool
+    requires limits { fault_of plan.now ≡ None }
+    requires race { race < length plan.now.races }
+    ensures { result ≡ (length lists.now == plan.now.instances && list_all (λ items. length items == entries_of plan.now race) lists.now) }
+{
+    if lists.len() != plan.instances as usize {
+        return false;
+    }
+    have_items(lists, plan.entries(race) as usize)
+}
+
+/// Each race has a list for each instance, with an item for each of its rows.
+#[tactic(auto, using(crate::proofs::Bounds::few_races))]
+fn has_rows<T>(plan: &Plan, lists: &Items<Items<Items<T>>>) -> bool
+    requires { fault_of plan.now ≡ None }
+    ensures { result ≡ has_rows plan.now lists.now }
+{
+    if lists.len() != plan.races.len() {
+        return false;
+    }
+    for race in 0..lists.len() {
+        if !has_race_rows(plan, race as u32, lists.get(race)) {
+            return false;
+        }
+    }
+    true
+}
+
+/// Each race has a list with an item for each of its candidates.
+fn has_candidates<T>(plan: &Plan, lists: &Items<Items<T>>) -> bool
+    ensures { result ≡ has_candidates plan.now lists.now }
+{
+    if lists.len() != plan.races.len() {
+        return false;
+    }
+    for race in 0..lists.len() {
+        if lists.get(race).len() != plan.races.get(race).candidates.len() {
+            return false;
+        }
+    }
+    true
+}
+
+/// How many candidates the race has: none where the plan has no such race.
+pub(crate) fn count_candidates(plan: &Plan, race: u32) -> usize
+    ensures { result ≡ candidates_of plan.now race }
+{
+    if race as usize >= plan.races.len() {
+        return 0;
+    }
+    plan.races.get(race as usize).candidates.len()
+}
+
+/// The races of a ballot of the plan.
+pub(crate) fn races_of(plan: &Plan, ballot: u32) -> &[u32]
+    requires first { 1 ≤ ballot }
+    requires last { ballot ≤ ballots_of plan.now }
+    ensures { result.now ≡ races_of_ballot plan.now ballot }
+{
+    let style = plan.style_of(ballot) as usize;
+    if style >= plan.styles.len() {
+        return &[];
+    }
+    plan.styles.get(style).races.as_slice()
+}
+
+/// The number is a code of the plan's version.
+fn is_code(plan: &Plan, code: u16) -> bool
+    ensures { result ≡ is_code plan.now code }
+{
+    match plan.version {
+        1 => code < 1_000,
+        2 => code < 32_768,
+        _ => false,
+    }
+}
+
+/// The race is one of these.
+pub(crate) fn has_race(races: &[u32], race: u32) -> bool
+    ensures { result ≡ list_any (λ carried. carried == race) races.now }
+{
+    races.iter().any(|carried| *carried == race)
+}
+
+/// The column is of one of the races.
+fn is_column(plan: &Plan, races: &[u32], race: u32, column: u32) -> bool
+    ensures test { result ≡ (list_any (λ carried. carried == race) races.now && nat_lt column (candidates_of plan.now race)) }
+    ensures below { IsTrue result → column < candidates_of plan.now race }
+{
+    if !has_race(races, race) {
+        return false;
+    }
+    (column as usize) < count_candidates(plan, race)
+}
+
+/// The column stands behind the last one: races don't fall, and in one race columns rise.
+fn is_in_order(race: u32, column: u32, next_race: u32, next_column: u32) -> bool
+    ensures { result ≡ in_order race column next_race next_column }
+{
+    if race < next_race {
+        return true;
+    }
+    race == next_race && column <= next_column
+}
+
+/// The code may stand among the marks of a cast ballot with these races, from this race and column on.
+fn is_mark(plan: &Plan, races: &[u32], race: u32, column: u32, code: &CodeLine) -> bool
+    ensures test { result ≡ (((list_any (λ carried. carried == code.now.race) races.now && nat_lt code.now.column (candidates_of plan.now code.now.race)) && in_order race column code.now.race code.now.column) && is_code plan.now code.now.code) }
+    ensures below { IsTrue result → code.now.column < candidates_of plan.now code.now.race }
+{
+    if !is_column(plan, races, code.race, code.column) {
+        return false;
+    }
+    if !is_in_order(race, column, code.race, code.column) {
+        return false;
+    }
+    is_code(plan, code.code)
+}
+
+/// The codes are marks of a cast ballot: in its races don't fall, and in one race columns rise.
+#[tactic(auto, using(crate::proofs::BlockTests::marks))]
+fn are_marks(plan: &Plan, ballot: u32, codes: &Items<CodeLine>) -> bool
+    requires limits { fault_of plan.now ≡ None }
+    requires first { 1 ≤ ballot }
+    requires last { ballot ≤ ballots_of plan.now }
+    ensures { result ≡ are_marks plan.now ballot 0 0 codes.now }
+{
+    let races = races_of(plan, ballot);
+    let mut race = 0;
+    let mut column = 0;
+    for at in 0..codes.len() {
+        let code = codes.get(at);
+        if !is_mark(plan, races, race, column, code) {
+            return false;
+        }
+        race = code.race;
+        column = code.column + 1;
+    }
+    true
+}
+
+/// The races are of the ballot, and rise.
+#[tactic(auto, using(crate::proofs::BlockTests::marks))]
+fn are_overs(plan: &Plan, ballot: u32, overs: &Items<u32>) -> bool
+    requires limits { fault_of plan.now ≡ None }
+    requires first { 1 ≤ ballot }
+    requires last { ballot ≤ ballots_of plan.now }
+    ensures { result ≡ are_overs plan.now ballot 0 overs.now }
+{
+    let races = races_of(plan, ballot);
+    let mut least = 0;
+    for at in 0..overs.len() {
+        let race = *overs.get(at);
+        if race as usize >= plan.races.len() {
+            return false;
+        }
+        if !has_race(races, race) {
+            return false;
+        }
+        if race < least {
+            return false;
+        }
+        least = race + 1;
+    }
+    true
+}
+
+/// Each number is a code of the plan's version.
+fn are_codes(plan: &Plan, list: &[u16]) -> bool
+    ensures { result ≡ list_all (is_code plan.now) list.now }
+{
+    list.iter().all(|code| is_code(plan, *code))
+}
+
+/// The list has a code for each candidate of the race.
+fn is_paper_of(plan: &Plan, race: u32, list: &Items<u16>) -> bool
+    ensures { result ≡ (length list.now == candidates_of plan.now race && list_all (is_code plan.now) list.now) }
+{
+    if list.len() != count_candidates(plan, race) {
+        return false;
+    }
+    are_codes(plan, list.as_slice())
+}
+
+/// A list for each race of the ballot, with a code for each candidate.
+fn are_papers(plan: &Plan, ballot: u32, papers: &Paper) -> bool
+    requires first { 1 ≤ ballot }
+    requires last { ballot ≤ ballots_of plan.now }
+    ensures { result ≡ are_papers plan.now (races_of_ballot plan.now ballot) papers.now }
+{
+    let races = races_of(plan, ballot);
+    for at in 0..papers.len() {
+        if at >= races.len() {
+            return false;
+        }
+        if !is_paper_of(plan, races[at], papers.get(at)) {
+            return false;
+        }
+    }
+    papers.len() == races.len()
+}
+
+/// The code is of this column of the race.
+fn is_code_at(plan: &Plan, race: u32, column: usize, code: &CodeLine) -> bool
+    ensures { result ≡ ((code.now.race == race && code.now.column == column) && is_code plan.now code.now.code) }
+{
+    if code.race != race {
+        return false;
+    }
+    if code.column as usize != column {
+        return false;
+    }
+    is_code(plan, code.code)
+}
+
+/// Where the codes of the race's columns end that stand from this place on. `None` where others stand there, or none.
+#[tactic(auto, using(crate::proofs::BlockTests::due))]
+fn end_of_codes(plan: &Plan, race: u32, codes: &Items<CodeLine>, from: usize) -> Option<usize>
+    requires { from ≤ length codes.now }
+    ensures due { (kind : Block) (ballot : ℕ) (rest : List Slot) → are_due plan.now (race_codes plan.now kind ballot race ++ rest) (drop from codes.now) ≡ option_map_or (λ end. are_due plan.now rest (drop end codes.now)) result false }
+    ensures within { IfSome result (λ end. end ≤ length codes.now) }
+{
+    let mut at = from;
+    for column in 0..count_candidates(plan, race) {
+        if at >= codes.len() {
+            return None;
+        }
+        if !is_code_at(plan, race, column, codes.get(at)) {
+            return None;
+        }
+        at += 1;
+    }
+    Some(at)
+}
+
+/// A code for each column of the race, and no other.
+#[tactic(auto, using(crate::proofs::BlockTests::due))]
+fn are_race_codes(plan: &Plan, race: u32, codes: &Items<CodeLine>) -> bool
+    ensures { (kind : Block) (ballot : ℕ) → result ≡ are_due plan.now (race_codes plan.now kind ballot race) codes.now }
+{
+    match end_of_codes(plan, race, codes, 0) {
+        Some(end) => end == codes.len(),
+        None => false,
+    }
+}
+
+/// A code for each column of each race of the ballot, and no other.
+#[tactic(auto, using(crate::proofs::BlockTests::due))]
+fn are_ballot_codes(plan: &Plan, ballot: u32, codes: &Items<CodeLine>) -> bool
+    requires limits { fault_of plan.now ≡ None }
+    requires first { 1 ≤ ballot }
+    requires last { ballot ≤ ballots_of plan.now }
+    ensures { result ≡ are_due plan.now (each (ballot_codes plan.now ballot) 0 (length plan.now.races)) codes.now }
+{
+    let races = races_of(plan, ballot);
+    let mut at = 0;
+    for race in 0..plan.races.len() {
+        if !has_race(races, race as u32) {
+            continue;
+        }
+        match end_of_codes(plan, race as u32, codes, at) {
+            Some(end) => at = end,
+            None => return false,
+        }
+    }
+    at == codes.len()
+}
+
+/// The ballot's block may say this of it.
+fn is_fate(plan: &Plan, ballot: u32, fate: &BlockFate) -> bool
+    requires limits { fault_of plan.now ≡ None }
+    requires first { 1 ≤ ballot }
+    requires last { ballot ≤ ballots_of plan.now }
+    ensures { result ≡ is_fate plan.now ballot fate.now }
+{
+    match fate {
+        BlockFate::Cast(codes, overs) => {
+            are_marks(plan, ballot, codes) && are_overs(plan, ballot, overs)
+        }
+        BlockFate::Spoiled => true,
+        BlockFate::Audited(papers, codes) => {
+            are_papers(plan, ballot, papers) && are_ballot_codes(plan, ballot, codes)
+        }
+        BlockFate::Voided => plan.version == 2,
+    }
+}
+
+/// The blocks are of rising ballots, and each is as its fate wants it.
+fn are_blocks(plan: &Plan, blocks: &Items<BallotBlock>) -> bool
+    requires { fault_of plan.now ≡ None }
+    ensures { result ≡ are_blocks plan.now 0 blocks.now }
+{
+    let ballots = plan.ballots();
+    let mut last = 0;
+    for at in 0..blocks.len() {
+        let block = blocks.get(at);
+        if block.ballot <= last {
+            return false;
+        }
+        if block.ballot > ballots {
+            return false;
+        }
+        if !is_fate(plan, block.ballot, &block.fate) {
+            return false;
+        }
+        last = block.ballot;
+    }
+    true
+}
+
+/// A claim on a ballot in one of its races, and the ballot's codes there.
+fn is_dispute(plan: &Plan, one: &DisputeBlock) -> bool
+    ensures { result ≡ is_dispute plan.now one.now }
+{
+    if one.race as usize >= plan.races.len() {
+        return false;
+    }
+    if !plan.carries(one.ballot, one.race) {
+        return false;
+    }
+    if !is_code(plan, one.code) {
+        return false;
+    }
+    are_race_codes(plan, one.race, &one.codes)
+}
+
+/// Each dispute is as it should be.
+fn are_all_disputes(plan: &Plan, disputes: &[DisputeBlock]) -> bool
+    ensures { result ≡ list_all (is_dispute plan.now) disputes.now }
+{
+    disputes.iter().all(|one| is_dispute(plan, one))
+}
+
+/// At most 10,000 disputes, each as it should be.
+fn are_disputes(plan: &Plan, disputes: &Items<DisputeBlock>) -> bool
+    ensures { result ≡ (nat_le (length disputes.now) most_disputes && list_all (is_dispute plan.now) disputes.now) }
+{
+    if disputes.len() > MOST_DISPUTES {
+        return false;
+    }
+    are_all_disputes(plan, disputes.as_slice())
+}
+
+/// The public bytes are 1 to 4,096.
+fn is_draw(draw: &Draw) -> bool
+    ensures { result ≡ is_draw draw.now }
+{
+    match draw {
+        Draw::Full => true,
+        Draw::Public(bytes) => (1..=MOST_PUBLIC).contains(&bytes.len()),
+    }
+}
+
+impl Record {
+    /// Whether the record has a text: its plan keeps its limits, its lists are as long as the plan says, and its codes,
+    /// blocks and disputes stand in the order of the rules.
+    ///
+    /// Takes no memory. Its time is that of one walk over all lists, and for each block that of the plan's runs.
+    #[tactic(auto, unfolding(crate::specs::Formed::is_formed))]
+    pub fn is_formed(&self) -> bool
+        ensures { result ≡ is_formed self.now }
+    {
+        match self.plan.check() {
+            Err(_) => false,
+            Ok(()) => has_lists(self),
+        }
+    }
+}
+
+/// The lists of a record are as its plan, which has no fault, wants them.
+fn has_lists(posted: &Record) -> bool
+    requires { fault_of posted.now.plan ≡ None }
+    ensures { result ≡ (has_entries posted.now.plan posted.now.code_commits && (has_rows posted.now.plan posted.now.row_commits && (are_blocks posted.now.plan 0 posted.now.ballots && (has_rows posted.now.plan posted.now.flags && (has_entries posted.now.plan posted.now.places && (has_candidates posted.now.plan posted.now.totals && (is_draw posted.now.draw && (has_rows posted.now.plan posted.now.rows && (nat_le (length posted.now.disputes) most_disputes && list_all (is_dispute posted.now.plan) posted.now.disputes))))))))) }
+{
+    has_entries(&posted.plan, &posted.code_commits)
+        && has_rows(&posted.plan, &posted.row_commits)
+        && are_blocks(&posted.plan, &posted.ballots)
+        && has_rows(&posted.plan, &posted.flags)
+        && has_entries(&posted.plan, &posted.places)
+        && has_candidates(&posted.plan, &posted.totals)
+        && is_draw(&posted.draw)
+        && has_rows(&posted.plan, &posted.rows)
+        && are_disputes(&posted.plan, &posted.disputes)
+}

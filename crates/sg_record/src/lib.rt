@@ -1,0 +1,22 @@
+//! A public record as a whole: its lists, its one text, and how it is written.
+#![tactic(auto)]
+
+mod blocks;
+mod bytes;
+mod commits;
+mod formed;
+mod head;
+mod laws;
+mod lines;
+mod openings;
+mod record;
+mod results;
+mod write;
+
+pub use laws::{formed_law, text_law, whole_law};
+pub use record::{BallotBlock, BlockFate, DisputeBlock, Record, RowCommit};
+pub use sg_forms::{CodeLine, Line, RowOpening};
+pub use write::{Wrote, write_record};
+
+#[cfg(test)]
+mod tests;
