@@ -1,7 +1,7 @@
 #!/usr/bin/env python3
-"""Writes a stream of records of offices that alter their tables, with their reports.
+"""Writes a stream of records of offices that alter their tables, and of the smallest record changed, with their reports.
 
-    altered.py STREAM REPORTS
+    altered.py STREAM REPORTS        (in this folder)
 
 STREAM gets each record behind a line with its name and the number of its bytes, and REPORTS what an audit says of it.
 `crates/audit_vectors` audits such streams.
@@ -116,6 +116,40 @@ def off_coin():
     return b"\n".join(lines), "no %d side\n" % (number + 1)
 
 
+def audited_on_one_side():
+    """A row of an audited entry is opened on its coin's side alone."""
+    race, asked, rows = a_race(5), None, []
+    for byte in range(256):
+        asked = Asked("%02x" % byte, 1)
+        public = made.hashlib.sha256(b"SC2COIN" + bytes.fromhex(asked.draw)).digest()
+        sides = made.coins(public, 0, 0, race.entries)
+        rows = [row for row, left in enumerate(race.lefts[0]) if left < CANDIDATES and not sides[row]]
+        if rows:
+            break
+    row = rows[0]
+    lines = text_of(race, asked).split(b"\n")
+    number = row_line(b"\n".join(lines), 0, row) - 1
+    lines[number] = b"left %s %d" % (race.left_keys[0][row].hex().encode(), race.lefts[0][row])
+    return b"\n".join(lines), "no %d print\n" % (number + 1)
+
+
+def of_the_smallest():
+    """Changes to the smallest record, and what they are reported as."""
+    lines = open("../examples/first/first.record", "rb").read().splitlines(keepends=True)
+    whole = b"".join(lines)
+    yes = "yes\ntotal 0 0 1\ntotal 0 1 0\n"
+    claim = b"dispute 1 0 100 posted\n"
+    code = lines[14]
+    yield "ballot-behind-last-seal", whole + b"cast 1\n", "no 25 form\n"
+    yield "dispute-cut", whole + claim + code, "no 27 form\n"
+    yield "dispute-begun", whole + claim, "no 26 form\n"
+    yield "before-dispute", whole, yes
+    yield "second-line-too-long", lines[0] + b"e" * 16384 + b"\n" + b"".join(lines[2:]), "no 2 form\n"
+    yield "ballots-past-20000", b"".join(lines[:7]) + b"ballots 0 20001\n" + b"".join(lines[8:]), "no 8 form\n"
+    for cut in range(1, 24):
+        yield "cut-behind-%d" % cut, b"".join(lines[:cut]), "no %d form\n" % (cut + 1)
+
+
 def main():
     stream, reports = open(sys.argv[1], "wb"), open(sys.argv[2], "w")
     records = {
@@ -126,7 +160,10 @@ def main():
         "places-exchanged-in-one": places_exchanged([2], "path"),
         "places-exchanged-in-all": places_exchanged([0, 1, 2], "print"),
         "off-coin": off_coin(),
+        "audited-on-one-side": audited_on_one_side(),
     }
+    for name, text, report in of_the_smallest():
+        records["smallest-" + name] = text, report
     for name, (text, report) in records.items():
         stream.write(b"%s %d\n" % (name.encode(), len(text)) + text)
         reports.write("%s %d\n%s" % (name, 0 if report.startswith("yes") else 1, report))
