@@ -117,7 +117,40 @@ fn is_no(report: &[u8], line: u32, kind: &[u8]) -> bool {
     is_no && number == Some(line as usize) && words.next() == Some(kind)
 }
 
-/// Audits one record, and writes its name, the status and the report; and where the plain verdict is another, this too.
+/// Where the line of this number ends, from 1: behind its line feed.
+fn line_end(record: &[u8], line: u32) -> Option<u32> {
+    let mut feeds = 0u32;
+    for (at, byte) in record.iter().enumerate() {
+        if *byte == b'\n' {
+            feeds = feeds.saturating_add(1);
+            if feeds == line {
+                return u32::try_from(at.saturating_add(1)).ok();
+            }
+        }
+    }
+    None
+}
+
+/// The report is the same where the bytes come one by one, and the input fails right behind the bad line.
+fn is_settled(
+    alloc: Global,
+    words: &Items<Word>,
+    record: &[u8],
+    line: u32,
+    report: &[u8],
+) -> Result<bool, Fault> {
+    let Some(end) = line_end(record, line) else {
+        return Ok(true);
+    };
+    let fails = Vec::from_slice(alloc, &[end])?;
+    let mut input = Bytes::new(Vec::from_slice(alloc, record)?, 1, fails);
+    let mut page = Page::new(alloc, REPORT, Vec::new(alloc), 0)?;
+    let status = run(alloc, words, &mut input, &mut page);
+    Ok(status == 1 && page.written() == report)
+}
+
+/// Audits one record, and writes its name, the status and the report; and where the plain verdict is another, or a fault
+/// behind the bad line changes the report, this too.
 fn tell<W: Write>(
     alloc: Global,
     words: &Items<Word>,
@@ -131,8 +164,14 @@ fn tell<W: Write>(
     out.write_all(name)?;
     out.write_all(if status == 0 { b" 0\n" } else { b" 1\n" })?;
     out.write_all(page.written())?;
-    if !is_report_of(&verdict(alloc, record)?, page.written()) {
+    let judged = verdict(alloc, record)?;
+    if !is_report_of(&judged, page.written()) {
         out.write_all(b"the plain verdict is another\n")?;
+    }
+    if let Judged::No { line, .. } = judged {
+        if !is_settled(alloc, words, record, line, page.written())? {
+            out.write_all(b"a fault behind the bad line changes the report\n")?;
+        }
     }
     Ok(())
 }
