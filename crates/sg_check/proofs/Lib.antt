@@ -1,4 +1,3 @@
-pub mod CutLines
 pub mod FineLines
 pub mod Finding
 pub mod Judging

@@ -1,9 +1,9 @@
 -- How far the plain verdict has read.
-use Rattle.std.proofs.Common.{◌≡◌, ℕ, ◌+◌, ◌<◌, ◌≤◌, true, false, List, [], ◌∷◌, ◌++◌, length, take, drop, slice_range, Option, Some, None, refl, sym, subst, ap, ◌∙◌, append_assoc, append-nil, arith}
+use Rattle.std.proofs.Common.{◌≡◌, ℕ, ◌+◌, ◌-◌, ◌<◌, ◌≤◌, true, false, List, [], ◌∷◌, ◌++◌, length, take, drop, slice_range, Option, Some, None, refl, sym, subst, ap, ◌∙◌, append_assoc, append-nil, arith}
 use Rattle.std.specs.Option.{option_map_or}
 use Rattle.std.specs.Prelude.{IfOk, Result, Ok, Err}
+use Rattle.std.proofs.Math.Seq.{take-add}
 use Rattle.std.proofs.lemmas.List.{drop_all, length_push}
-use Rattle.sg_check.proofs.CutLines.{front_more}
 use Rattle.sg_check.proofs.OneMore.{fine-empty, verdict-more}
 use Rattle.sg_check.proofs.Verdicts.{cut_end, good_end}
 use Rattle.sg_check.specs.Kinds.{placed_of}
@@ -19,6 +19,12 @@ use Rattle.sg_grammar.proofs.Counting.{most_lines_stand}
 use Rattle.sg_grammar.proofs.Walking.{walk-empty}
 use Rattle.sg_grammar.specs.Walk.{Next, Posted, Walked, is_whole, start}
 use Rattle.sg_outside.specs.TextLines.{lines_of}
+
+-- the bytes before a range, and the range, are those before its end
+front_more : (bytes : List ℕ) (start end : ℕ) → start ≤ end → take start bytes ++ slice_range bytes start end ≡ take end bytes
+front_more bytes start end low =
+    let place : start + (end - start) ≡ end = omega arith in
+    sym (take-add start (end - start) bytes) ∙ ap (λ (k : ℕ). take k bytes) place
 
 -- what holds of a value holds of what follows from it
 pub if_ok_then : {A E : Type 0} (P Q : A → Type 0) (answer : Result A E) → ((x : A) → P x → Q x) → IfOk answer P → IfOk answer Q

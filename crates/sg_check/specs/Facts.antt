@@ -3,12 +3,11 @@
 use Rattle.std.specs.Prelude.{ℕ, ◌+◌, ◌-◌, ◌%◌, ◌==◌, nat_le, if◌then◌else◌, Bool, false, true, ◌&&◌, List, [], ◌∷◌, slice_get, Option, Some, None, is_some, count_by, sum_by}
 use Rattle.std.specs.List.{list_any}
 use Rattle.std.specs.Option.{option_map, option_map_or}
-use Rattle.std.specs.Result.{result_unwrap_or}
 use Rattle.sg_commit.specs.declared.Digest.{Digest}
 use Rattle.sg_commit.specs.declared.Opening.{Opening}
+use Rattle.sg_forms.specs.Reading.{public_bytes as bytes_of_digits}
 use Rattle.sg_forms.specs.declared.line.RowOpening.{RowOpening}
 use Rattle.sg_forms.specs.declared.line.RowOpening.TheVariants as row
-use Rattle.sg_lines.specs.Words.{decode_of}
 use Rattle.sg_plan.specs.Ballots.{ballot_row, candidates_of, entry_at}
 use Rattle.sg_plan.specs.declared.plan.ClaimWord.{ClaimWord}
 use Rattle.sg_plan.specs.declared.plan.Plan.{Plan}
@@ -211,10 +210,6 @@ is_full_draw lines = list_any draws_full lines
 abbrev pub draws_digits : Placed → Option (List ℕ)
 draws_digits (DrawnPublic digits) = Some digits
 draws_digits line = None
-
--- the bytes that hexadecimal digits spell
-abbrev pub bytes_of_digits : List ℕ → List ℕ
-bytes_of_digits digits = result_unwrap_or (decode_of digits) []
 
 -- the public bytes, where they were drawn
 abbrev pub public_bytes : List Placed → Option (List ℕ)

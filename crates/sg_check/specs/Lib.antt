@@ -4,5 +4,4 @@ pub mod Kinds
 pub mod Laws
 pub mod Notes
 pub mod Plain
-pub mod Told
 pub mod Verdict

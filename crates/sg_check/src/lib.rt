@@ -11,7 +11,6 @@ mod openings;
 mod plain;
 #[cfg(test)]
 mod tests;
-mod told;
 
 pub use judged::{Judged, Kind, Total};
 pub use laws::{
@@ -20,4 +19,3 @@ pub use laws::{
     some_verdict_law,
 };
 pub use plain::verdict;
-pub use told::{Told, tell};

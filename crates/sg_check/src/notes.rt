@@ -1,13 +1,13 @@
 //! Lines in their places, as the plain verdict keeps them.
 ghost use Rattle.std.specs.Prelude.{◌≡◌};
-ghost use Rattle.sg_check.specs.Notes.{noted, told_line};
+ghost use Rattle.sg_check.specs.Notes.{noted};
 ghost use Rattle.sg_forms.specs.Said.{said};
 ghost use Rattle.sg_grammar.specs.Spots.{placed_at};
+ghost use Rattle.sg_grammar.specs.Told.{told_line};
 
-use crate::told::{Told, tell};
 use sg_commit::Digest;
 use sg_forms::{CodeLine, Line, RowOpening};
-use sg_grammar::{Block, Spot};
+use sg_grammar::{Block, Spot, Told, tell};
 use sg_plan::ClaimWord;
 
 /// A line in its place: its coordinates, and their values.

@@ -1,7 +1,7 @@
 //! Whether what is opened opens its commitment, and whose coin says which side.
 ghost use Rattle.std.specs.Prelude.{◌≡◌, ◌<◌, ◌^◌, IfOk};
-ghost use Rattle.sg_check.specs.Facts.{bytes_of_digits};
 ghost use Rattle.sg_check.specs.Kinds.{bad_pointer_opening, code_opening, is_off_coin, is_on_side, opens_digest};
+ghost use Rattle.sg_forms.specs.Reading.{public_bytes as bytes_of_digits};
 ghost use Rattle.sg_streams.specs.CoinSides.{coin_seed};
 
 use hex::FromHexError;

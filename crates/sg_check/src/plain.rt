@@ -2,7 +2,7 @@
 //!
 //! Each line is judged by going through the lines before it, so the time grows with the square of their number. The
 //! same verdict in one pass is that of another crate; this one says what it should be.
-ghost use Rattle.std.specs.Prelude.{◌≡◌, ◌+◌, ◌<◌, ◌≤◌, ℕ, List, [], ◌∷◌, ◌++◌, IfOk, Some, length, drop, slice_range};
+ghost use Rattle.std.specs.Prelude.{◌≡◌, ℕ, List, IfOk, Some};
 ghost use Rattle.sg_check.specs.Notes.{lines_noted, noted};
 ghost use Rattle.sg_check.specs.Plain.{Advances, HasRead, IsBehind, Stands, Takes, totals_placed};
 ghost use Rattle.sg_check.specs.Verdict.{IsVerdict};
@@ -14,6 +14,7 @@ use crate::judged::{Judged, Kind, Total};
 use crate::kinds::{bad_seal, first_bad};
 use crate::notes::{Note, note_line};
 use sg_grammar::{Expect, Line, read_line};
+use sg_outside::line_end;
 use sg_plan::{Items, NoMemory};
 use std::alloc::Global;
 
@@ -50,21 +51,6 @@ pub fn verdict(alloc: Global, bytes: &[u8]) -> Result<Judged, NoMemory>
         line: number + 1,
         kind: Kind::Form,
     })
-}
-
-/// Where the line that begins at `start` ends: behind the next line feed, or where the bytes end.
-fn line_end(bytes: &[u8], start: usize) -> usize
-    requires { start < length bytes.now }
-    ensures more { start < result }
-    ensures within { result ≤ length bytes.now }
-    ensures line { lines_of (drop start bytes.now) ≡ slice_range bytes.now start result ∷ lines_of (drop result bytes.now) }
-{
-    for at in start..bytes.len() {
-        if bytes[at] == b'\n' {
-            return at + 1;
-        }
-    }
-    bytes.len()
 }
 
 /// Takes the next line behind lines that are fine, and answers what it is bad in.

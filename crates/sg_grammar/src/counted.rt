@@ -1,5 +1,5 @@
 ghost use Rattle.std.specs.Prelude.{◌≡◌, ◌==◌, ◌+◌, ◌-◌, ◌^◌, ◌<◌, ◌≤◌, ◌++◌, ◌∷◌, [], if◌then◌else◌, length, replicate, slice_get, false, IfNone, IfOk, IfSome, IsSome, None, OnErr, OnOk, Some};
-ghost use Rattle.sg_plan.specs.Ballots.{ballot_has, ballots_of, candidates_of, entries_of, style_has, style_of_ballot};
+ghost use Rattle.sg_plan.specs.Ballots.{ballot_has, ballots_of, candidates_of, entries_of, style_of_ballot};
 ghost use Rattle.sg_forms.specs.Said.{said};
 ghost use Rattle.sg_forms.specs.Said.Said.{Ballots};
 ghost use Rattle.sg_grammar.specs.Head.{head_line, made, no_plan, with_run};
@@ -12,22 +12,6 @@ use sg_forms::Line;
 use sg_plan::{Items, NoMemory, Plan, Run, Word};
 use std::alloc::Global;
 use std::marker::Model;
-
-/// The style has the race.
-fn carries_race(plan: &Plan, style: u32, race: u32) -> bool
-    ensures { result ≡ style_has plan.now race style }
-{
-    let style = style as usize;
-    if style >= plan.styles.len() {
-        return false;
-    }
-    plan.styles
-        .get(style)
-        .races
-        .as_slice()
-        .iter()
-        .any(|carried| *carried == race)
-}
 
 /// How many candidates the race has.
 fn candidates_in(plan: &Plan, race: u32) -> u32
@@ -47,7 +31,7 @@ fn more_entries(plan: &Plan, before: u32, race: u32, run: Run) -> u32
     ensures { result ≡ entries_of (with_run plan.now run.style run.count) race }
 {
     let candidates = candidates_in(plan, race);
-    if carries_race(plan, run.style, race) {
+    if plan.style_carries(run.style, race) {
         before + run.count * candidates
     } else {
         before
@@ -163,6 +147,13 @@ impl CountedPlan {
         &self.plan
     }
 
+    /// The plan itself, without what is counted of it.
+    pub(crate) fn into_plan(self) -> Plan
+        ensures { result ≡ self }
+    {
+        self.plan
+    }
+
     /// Takes a line of the plan that may stand, and answers which of them stand then.
     pub(crate) fn add(&mut self, alloc: Global, head: Head, line: &Line) -> Result<Head, NoMemory>
         requires made { IsMade self.old head }
@@ -251,7 +242,7 @@ impl CountedPlan {
         ensures { result ≡ ballot_has self.now ballot race }
     {
         match self.style_of(ballot) {
-            Some(style) => carries_race(&self.plan, style, race),
+            Some(style) => self.plan.style_carries(style, race),
             None => false,
         }
     }

@@ -146,6 +146,13 @@ impl Expect {
         self.plan.plan()
     }
 
+    /// The plan, as far as its lines stand, for a caller who takes no more lines.
+    pub fn into_plan(self) -> Plan
+        ensures { result ≡ self.plan }
+    {
+        self.plan.into_plan()
+    }
+
     /// How many entries the race has. It takes the same time for each plan.
     pub fn entries(&self, race: u32) -> u32
         requires { race < length self.now.plan.races }

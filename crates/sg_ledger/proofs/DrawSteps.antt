@@ -1,50 +1,19 @@
 -- What is kept of the draw and of the last claim tells one more line, where it told the lines before.
-use Rattle.std.proofs.Common.{◌≡◌, ℕ, ◌+◌, ◌<◌, ◌≤◌, inl, inr, Bool, false, not, ◌&&◌, ◌||◌, List, [], ◌∷◌, ◌++◌, length, All, Option, Some, None, is_some, Ok, refl, sym, ap, ap₂, ◌∙◌, arith}
-use Rattle.std.proofs.lemmas.Bool.{cases_lt}
-use Rattle.std.proofs.lemmas.List.{get_or_past}
-use Rattle.std.proofs.lemmas.List.Elements.{All-get_or}
+use Rattle.std.proofs.Common.{◌≡◌, ℕ, Bool, false, not, ◌&&◌, ◌||◌, List, [], ◌∷◌, ◌++◌, Option, Some, None, is_some, refl, sym, ap, ap₂, ◌∙◌}
 use Rattle.std.specs.Option.{option_map, option_map_or, option_or}
-use Rattle.hex.proofs.HexLemmas.{decode_of-encode_lower, decode_sized-encode_lower}
-use Rattle.hex.specs.Hex.{IsBytes, decode_sized}
-use Rattle.sg_check.specs.Facts.{Claim, bytes_of_digits, draws_digits, draws_full, first_given, is_both, is_full_draw, last_claim, public_bytes, shows_disputed}
+use Rattle.sg_check.specs.Facts.{Claim, draws_digits, draws_full, first_given, is_both, is_full_draw, last_claim, public_bytes, shows_disputed}
 use Rattle.sg_check.specs.Kinds.{bad_side, is_on_side}
-use Rattle.sg_forms.specs.Spelling.{AreDigits}
+use Rattle.sg_forms.specs.Reading.{public_bytes as bytes_of_digits}
 use Rattle.sg_forms.specs.declared.line.RowOpening.{RowOpening}
 use Rattle.sg_ledger.proofs.Lists.{any-push, any-skip, given-push, given-skip, or-true}
 use Rattle.sg_ledger.specs.Steps.{claim_after, coins_after, full_after, with_shown}
 use Rattle.sg_ledger.specs.Tells.{kept_of}
 use Rattle.sg_ledger.specs.declared.claims.Claimed.{Claimed}
-use Rattle.sg_lines.proofs.Hex.{length-encode_lower}
 use Rattle.sg_plan.specs.declared.plan.ClaimWord.{ClaimWord}
 use Rattle.sg_plan.specs.declared.plan.Plan.{Plan}
 use Rattle.sg_streams.specs.CoinSides.{coin_of, coin_seed}
 use Rattle.sg_grammar.specs.Placed.{Placed}
 use Rattle.sg_grammar.specs.Placed.Placed.{CodeAt, DrawnFull, DrawnPublic, RowAt, Disputed}
-
--- PUBLIC BYTES
-
-bytes_everywhere : (bytes : List ℕ) → All (λ byte. byte < 256) bytes → IsBytes bytes
-bytes_everywhere bytes each i =
-    elim (cases_lt i (length bytes)) [
-      | inl below ↦ All-get_or (λ byte. byte < 256) bytes i 0 below each
-      | inr past ↦ rw (get_or_past bytes i 0 past) (omega arith)
-    ]
-
--- the bytes that digits spell are half as many as the digits, and 4,096 at most; this is what decodes to them
-pub record AreSpelled (digits : List ℕ) : Type 0 where
-  pub count : length digits ≡ length (bytes_of_digits digits) + length (bytes_of_digits digits)
-  pub few : length (bytes_of_digits digits) ≤ 4096
-  pub decoded : (n : ℕ) → length (bytes_of_digits digits) ≡ n → decode_sized digits n ≡ Ok (bytes_of_digits digits)
-
-pub are_spelled : (digits : List ℕ) → AreDigits digits → AreSpelled digits
-are_spelled digits (bytes, is, each, some, few) =
-    let fits = bytes_everywhere bytes each in
-    let bytes_are : bytes_of_digits digits ≡ bytes = rw (is, decode_of-encode_lower bytes fits) refl in
-    record {
-      count = omega (arith, ap length bytes_are, ap length is, length-encode_lower bytes);
-      few = omega (arith, ap length bytes_are, few);
-      decoded = λ n many. rw (bytes_are) (rw is (decode_sized-encode_lower bytes n (ap length (sym bytes_are) ∙ many) fits));
-    }
 
 -- THE DRAW
 

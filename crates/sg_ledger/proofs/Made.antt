@@ -4,7 +4,8 @@ use Rattle.std.proofs.lemmas.Bool.{cases_lt}
 use Rattle.std.proofs.lemmas.List.{get_or-replicate, get_or_append_left, get_or_at, length-append, length-replicate}
 use Rattle.std.proofs.lemmas.Option.{get_or_from_slice_get, slice_get-get_or}
 use Rattle.std.specs.Option.{option_map}
-use Rattle.sg_check.specs.Facts.{Claim, audits_entry, audits_race, bytes_of_digits, commits_code, commits_left, commits_right, draws_digits, draws_full, flags_row, last_claim, marks_ballot, marks_entry, opens_both, opens_left, opens_right, sets_place, shows_paper, votes_for, votes_on}
+use Rattle.sg_forms.specs.Reading.{public_bytes as bytes_of_digits}
+use Rattle.sg_check.specs.Facts.{Claim, audits_entry, audits_race, commits_code, commits_left, commits_right, draws_digits, draws_full, flags_row, last_claim, marks_ballot, marks_entry, opens_both, opens_left, opens_right, sets_place, shows_paper, votes_for, votes_on}
 use Rattle.sg_ledger.proofs.Lists.{of_plan-any, of_plan-given, of_plan-placed, of_plan-sum, of_plan-totals}
 use Rattle.sg_ledger.specs.Tables.{most_marks, most_votes}
 use Rattle.sg_check.specs.Judging.{AreOfPlan, IsOfPlan}

@@ -1,10 +1,11 @@
 -- What one more line in its place makes of each table, over plain lists.
 use Rattle.std.specs.Prelude.{ℕ, nat_lt, ◌==◌, if◌then◌else◌, Bool, true, false, ◌&&◌, ◌||◌, List, ◌++◌, slice_set, Option, Some}
 use Rattle.std.specs.Option.{option_map, option_map_or, option_or}
-use Rattle.sg_check.specs.Facts.{bytes_of_digits, is_audit, is_both, is_cast, is_dispute, left_of, right_of}
+use Rattle.sg_check.specs.Facts.{is_audit, is_both, is_cast, is_dispute, left_of, right_of}
 use Rattle.sg_check.specs.Verdict.{total_on}
 use Rattle.sg_commit.specs.declared.Digest.{Digest}
 use Rattle.sg_commit.specs.declared.Opening.{Opening}
+use Rattle.sg_forms.specs.Reading.{public_bytes as bytes_of_digits}
 use Rattle.sg_forms.specs.declared.line.RowOpening.{RowOpening}
 use Rattle.sg_forms.specs.declared.line.RowOpening.TheVariants as row
 use Rattle.sg_ledger.specs.Tables.{most_marks, with_bits, with_first, with_firsts, with_one_more, with_votes}

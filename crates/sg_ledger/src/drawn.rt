@@ -1,14 +1,15 @@
 //! What was drawn: which sides of the rows are opened.
 ghost use Rattle.std.specs.Prelude.{◌≡◌, ◌+◌, ◌<◌, ◌≤◌, ◌^◌, ◌&&◌, ◌||◌, if◌then◌else◌, Some, is_some, not, false, length, take};
 ghost use Rattle.std.specs.Option.{option_map_or, option_or};
-ghost use Rattle.sg_check.specs.Facts.{bytes_of_digits, is_both};
+ghost use Rattle.sg_check.specs.Facts.{is_both};
 ghost use Rattle.sg_check.specs.Kinds.{is_on_side};
+ghost use Rattle.sg_forms.specs.Reading.{public_bytes as bytes_of_digits};
 ghost use Rattle.sg_forms.specs.Spelling.{AreDigits};
 ghost use Rattle.sg_streams.specs.CoinSides.{coin_of, coin_seed};
 
 use crate::audits::are_both;
 use crate::coins::Walk;
-use sg_forms::RowOpening;
+use sg_forms::{RowOpening, draw_bytes};
 use sg_plan::Side;
 use sg_streams::{Seed, coin_key};
 
@@ -104,27 +105,4 @@ fn seed_of(digits: &[u8]) -> Seed
     let mut bytes = [0; MOST];
     let count = draw_bytes(digits, &mut bytes);
     coin_key(&bytes[..count])
-}
-
-/// Writes the bytes that the digits spell into the front of `out`, and answers how many they are.
-fn draw_bytes(digits: &[u8], out: &mut [u8]) -> usize
-    requires digits { AreDigits digits.now }
-    requires room { length out.old ≡ 4096 }
-    ensures count { result ≤ 4096 }
-    ensures len { length out.new ≡ length out.old }
-    ensures bytes { take result out.new ≡ bytes_of_digits digits.now }
-{
-    let count = digits.len() / 2;
-    decode(digits, &mut out[..count]);
-    count
-}
-
-/// Writes the bytes that the digits spell, where there is room for just those.
-fn decode(digits: &[u8], out: &mut [u8])
-    requires digits { AreDigits digits.now }
-    requires room { length digits.now ≡ length out.old + length out.old }
-    ensures { out.new ≡ bytes_of_digits digits.now }
-{
-    let decoded = hex::decode_to_slice(digits, out);
-    prove!(decoded.is_ok());
 }

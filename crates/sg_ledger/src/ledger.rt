@@ -24,10 +24,10 @@ use crate::pointers::{Pointers, is_pointer_bad, keep_pointer};
 use crate::sizes::{Sizes, count_candidates, count_votes};
 use crate::tables::{look, put_first, put_firsts, set_bits};
 use crate::totals::Totals;
-use sg_check::{Kind, Told, Total, tell};
+use sg_check::{Kind, Total};
 use sg_commit::Digest;
 use sg_forms::{CodeLine, Line, RowOpening};
-use sg_grammar::{Block, Spot};
+use sg_grammar::{Block, Spot, Told, tell};
 use sg_plan::{ClaimWord, Items, NoMemory, Plan};
 use std::alloc::Global;
 

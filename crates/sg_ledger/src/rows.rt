@@ -29,7 +29,7 @@ fn push_race(rows: &mut Items<u16>, plan: &Plan, race: u32) -> Result<(), NoMemo
     let mut row = 0;
     for at in 0..plan.runs.len() {
         let run = plan.runs.get(at);
-        let has = carries_race(plan, run.style, race);
+        let has = plan.style_carries(run.style, race);
         push_run(rows, row, run.count, has)?;
         row += count_of(run.count, has);
     }
@@ -64,20 +64,4 @@ fn count_of(count: u32, has: bool) -> u32
     ensures { result ≡ (if has then count else 0) }
 {
     if has { count } else { 0 }
-}
-
-/// The style has the race.
-fn carries_race(plan: &Plan, style: u32, race: u32) -> bool
-    ensures { result ≡ style_has plan.now race style }
-{
-    let style = style as usize;
-    if style >= plan.styles.len() {
-        return false;
-    }
-    plan.styles
-        .get(style)
-        .races
-        .as_slice()
-        .iter()
-        .any(|carried| *carried == race)
 }

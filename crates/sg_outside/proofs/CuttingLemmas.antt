@@ -1,14 +1,15 @@
 -- How lines are found in a buffer.
-use Rattle.std.proofs.Common.{◌≡◌, ℕ, zero, suc, ◌+◌, ◌-◌, ◌<◌, ◌≤◌, List, [], ◌∷◌, ◌++◌, length, take, drop, sym, ap, subst, ◌∙◌, arith, take-add, take-take, slice_range}
-use Rattle.std.proofs.lemmas.List.{drop-drop}
+use Rattle.std.proofs.Common.{◌≡◌, ℕ, zero, suc, ◌+◌, ◌-◌, ◌<◌, ◌≤◌, List, [], ◌∷◌, ◌++◌, length, take, drop, sym, ap, subst, ◌∙◌, append-nil, arith, take-add, take-take, slice_range}
+use Rattle.std.proofs.lemmas.List.{drop-drop, drop_all, length-drop, take_all}
+use Rattle.std.proofs.lemmas.List.Folds.{drop_split}
 use Rattle.std.specs.Io.KnownBytes.{Consumes, prepend_known}
 use Rattle.std.specs.Prelude.{Option}
 use Rattle.std.proofs.lemmas.Bool.{eqb-true, eq-eqb}
 use Rattle.memchr.specs.Find.{Nowhere, Passes, is_byte}
-use Rattle.sg_outside.specs.TextLines.{HasNoFeed, IsLine}
+use Rattle.sg_outside.specs.TextLines.{HasNoFeed, IsLine, lines_of}
 use Rattle.sg_outside.specs.Buffer.{HasRead}
 use Rattle.sg_outside.proofs.StreamLemmas.{Consumes-front, Consumes-held, Consumes-trans}
-use Rattle.sg_outside.proofs.LineLemmas.{HasNoFeed-append, IsLine-append}
+use Rattle.sg_outside.proofs.LineLemmas.{HasNoFeed-append, IsLine-append, lines_of-line, lines_of-part}
 
 -- where a search meets no line feed there is none
 pub HasNoFeed-nowhere : (xs : List ℕ) → Nowhere (Passes (is_byte 10) xs) 0 (length xs) → HasNoFeed xs
@@ -84,3 +85,29 @@ IsLine-read old new end count len b c read within before line =
     let parts : slice_range new 0 (end + len) ≡ take end old ++ slice_range new end (end + len) =
     sym (range-append new 0 end (end + len) (omega arith) (omega arith)) ∙ ap (λ l. l ++ slice_range new end (end + len)) front in
     subst IsLine (sym parts) (IsLine-append (take end old) (slice_range new end (end + len)) before (subst IsLine (range_in new end len count within) line))
+
+-- LINES OF BYTES THAT ARE THERE
+
+-- a range up to the end
+range_rest : (xs : List ℕ) (start : ℕ) → slice_range xs start (length xs) ≡ drop start xs
+range_rest xs start = take_all (length xs - start) (drop start xs) (omega (arith, length-drop start xs))
+
+-- a line that is cut from bytes is their first
+pub line_first : (bytes : List ℕ) (start count : ℕ) → IsLine (take count (slice_range bytes start (length bytes)))
+    → lines_of (drop start bytes) ≡ slice_range bytes start (start + count) ∷ lines_of (drop (start + count) bytes)
+line_first bytes start count line =
+    let text : List ℕ = slice_range bytes start (start + count) in
+    let whole : drop start bytes ≡ text ++ drop (start + count) bytes = drop_split bytes start (start + count) (omega arith) in
+    let size : count ≡ (start + count) - start = omega arith in
+    let first : IsLine (take count (drop start bytes)) = subst (λ (l : List ℕ). IsLine (take count l)) (range_rest bytes start) line in
+    ap lines_of whole ∙ lines_of-line text (drop (start + count) bytes) (subst (λ (k : ℕ). IsLine (take k (drop start bytes))) size first)
+
+-- bytes without a line feed are a line
+pub line_rest : (bytes : List ℕ) (start : ℕ) → start < length bytes → HasNoFeed (slice_range bytes start (length bytes))
+    → lines_of (drop start bytes) ≡ slice_range bytes start (length bytes) ∷ lines_of (drop (length bytes) bytes)
+line_rest bytes start some none =
+    let text : List ℕ = slice_range bytes start (length bytes) in
+    let nothing : drop (length bytes) bytes ≡ [] = drop_all (length bytes) bytes (omega arith) in
+    let whole : drop start bytes ≡ text = drop_split bytes start (length bytes) (omega arith) ∙ (ap (λ (l : List ℕ). text ++ l) nothing ∙ append-nil text) in
+    let long : 0 < length text = omega (arith, length-drop start bytes, ap (λ (l : List ℕ). length l) whole) in
+    ap lines_of whole ∙ (lines_of-part text none long ∙ ap (λ (l : List ℕ). text ∷ lines_of l) (sym nothing))

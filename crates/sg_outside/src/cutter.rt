@@ -1,9 +1,9 @@
 //! Lines cut from a source.
 
-ghost use Rattle.std.specs.Prelude.{◌≡◌, ◌+◌, ◌-◌, ◌<◌, ◌≤◌, true, false, [], IfOk, OnErr, MatchOption, Contains, length, take, slice_range};
+ghost use Rattle.std.specs.Prelude.{◌≡◌, ◌+◌, ◌-◌, ◌<◌, ◌≤◌, ◌∷◌, true, false, [], IfOk, OnErr, MatchOption, Contains, length, take, drop, slice_range};
 ghost use Rattle.std.specs.Io.KnownBytes.{Consumes, Keeps, prepend_known};
 ghost use Rattle.sg_outside.specs.Faults.{HasCause, Rose};
-ghost use Rattle.sg_outside.specs.TextLines.{HasNoFeed, IsLine};
+ghost use Rattle.sg_outside.specs.TextLines.{HasNoFeed, IsLine, lines_of};
 ghost use Rattle.sg_outside.specs.Cutting.{Finds, is_last, to_come};
 ghost use Rattle.sg_outside.specs.Buffer.{HasRead, IsWithin, found_in};
 
@@ -233,4 +233,18 @@ fn line_len(bytes: &[u8]) -> Option<usize>
 {
     let at = memchr(b'\n', bytes)?;
     Some(at + 1)
+}
+
+/// Where the line that begins at `start` ends: behind the next line feed, or where the bytes end. It takes the time of
+/// that line.
+pub fn line_end(bytes: &[u8], start: usize) -> usize
+    requires { start < length bytes.now }
+    ensures more { start < result }
+    ensures within { result ≤ length bytes.now }
+    ensures line { lines_of (drop start bytes.now) ≡ slice_range bytes.now start result ∷ lines_of (drop result bytes.now) }
+{
+    match line_len(&bytes[start..]) {
+        Some(count) => start + count,
+        None => bytes.len(),
+    }
 }

@@ -12,7 +12,7 @@ mod streams;
 #[cfg(test)]
 mod tests;
 
-pub use crate::cutter::{Got, Lines};
+pub use crate::cutter::{Got, Lines, line_end};
 pub use crate::faults::{Failed, NoMemory};
 pub use crate::memory::{Bytes, Page};
 pub use crate::streams::{Sink, Source};

@@ -6,9 +6,8 @@ ghost use Rattle.sg_commit.specs.Seals.{StandsFor as HasTaken};
 ghost use Rattle.sg_forms.specs.Said.{said};
 ghost use Rattle.sg_grammar.specs.Spots.{placed_at};
 
-use sg_check::{Told, tell};
 use sg_commit::{Digest, Sealer};
-use sg_grammar::{Line, Spot};
+use sg_grammar::{Line, Spot, Told, tell};
 
 /// The line is a seal, and not the hash of the bytes before it.
 #[tactic(auto, using(crate::proofs::Sealing::seals))]

@@ -1,11 +1,11 @@
 //! The numbering of ballots, entries and places, which follows from the plan alone.
 ghost use Rattle.std.specs.Prelude.{◌≡◌, ◌%◌, ◌<◌, ◌≤◌, true, length, None, Some};
-ghost use Rattle.sg_plan.specs.Ballots.{IsBallotOf, ballot_has, ballot_row, ballots_of, candidates_of, entries_of, entry_in, is_over, rows_of, style_of_ballot};
+ghost use Rattle.sg_plan.specs.Ballots.{IsBallotOf, ballot_has, ballot_row, ballots_of, candidates_of, entries_of, entry_in, is_over, rows_of, style_has, style_of_ballot};
 ghost use Rattle.sg_plan.specs.Limits.{fault_of};
 
 use crate::ballots::{
-    carries_race, count_ballots, count_candidates, count_entries, count_rows, count_rows_before,
-    place_of_row, style_at,
+    count_ballots, count_candidates, count_entries, count_rows, count_rows_before, place_of_row,
+    style_at,
 };
 use crate::items::Items;
 use crate::plan::{Mark, Plan};
@@ -31,6 +31,22 @@ impl Plan {
         }
     }
 
+    /// The style has the race. A style that the plan does not have has none.
+    pub fn style_carries(&self, style: u32, race: u32) -> bool
+        ensures { result ≡ style_has self.now race style }
+    {
+        let style = style as usize;
+        if style >= self.styles.len() {
+            return false;
+        }
+        self.styles
+            .get(style)
+            .races
+            .as_slice()
+            .iter()
+            .any(|carried| *carried == race)
+    }
+
     /// The ballot is in the plan, and its style has the race.
     pub fn carries(&self, ballot: u32, race: u32) -> bool
         ensures { result ≡ ballot_has self.now ballot race }
@@ -39,7 +55,7 @@ impl Plan {
             return false;
         }
         match style_at(&self.runs, ballot - 1) {
-            Some(style) => carries_race(self, style, race),
+            Some(style) => self.style_carries(style, race),
             None => false,
         }
     }

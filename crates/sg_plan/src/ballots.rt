@@ -6,22 +6,6 @@ ghost use Rattle.sg_plan.specs.Ballots.{all_entries, ballot_styles, candidates_o
 use crate::items::Items;
 use crate::plan::{Plan, Run};
 
-/// The style has the race.
-pub fn carries_race(plan: &Plan, style: u32, race: u32) -> bool
-    ensures { result ≡ style_has plan.now race style }
-{
-    let style = style as usize;
-    if style >= plan.styles.len() {
-        return false;
-    }
-    plan.styles
-        .get(style)
-        .races
-        .as_slice()
-        .iter()
-        .any(|carried| *carried == race)
-}
-
 /// How many candidates the race has.
 pub fn count_candidates(plan: &Plan, race: u32) -> usize
     requires { race < length plan.now.races }
@@ -76,7 +60,7 @@ pub fn count_rows_before(plan: &Plan, race: u32, ballots: u32) -> u32
 fn rows_of_run(plan: &Plan, race: u32, style: u32, count: u32) -> u32
     ensures { result ≡ (if style_has plan.now race style then count else 0) }
 {
-    if carries_race(plan, style, race) {
+    if plan.style_carries(style, race) {
         count
     } else {
         0

@@ -13,6 +13,6 @@ loop-at-preserved c =
     let kept = c.loop-at.invariant in
     let all = c.args.rows.now ++ rows_before has 0 (ballot_styles plan.runs) in
     record {
-      few = rw (c.count_of-row.ensures, c.carries_race-has.ensures) ((ballots-step has plan.runs at c.loop-at.row run (length (ballot_styles plan.runs)) c.get-run.ensures.rest kept.few).1);
-      rest = rw (c.in_ok-push_run.ensures, c.count_of-row.ensures, c.carries_race-has.ensures) (rows-step has plan.runs at c.loop-at.row run c.loop-at.rows all c.get-run.ensures.rest kept.rest);
+      few = rw (c.count_of-row.ensures, c.style_carries-has.ensures) ((ballots-step has plan.runs at c.loop-at.row run (length (ballot_styles plan.runs)) c.get-run.ensures.rest kept.few).1);
+      rest = rw (c.in_ok-push_run.ensures, c.count_of-row.ensures, c.style_carries-has.ensures) (rows-step has plan.runs at c.loop-at.row run c.loop-at.rows all c.get-run.ensures.rest kept.rest);
     }

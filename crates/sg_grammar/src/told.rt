@@ -1,14 +1,14 @@
 //! What a line of a record says where it stands.
 ghost use Rattle.sg_forms.specs.Said.{said};
-ghost use Rattle.sg_check.specs.Told.{IsToldBy};
 ghost use Rattle.sg_grammar.specs.Spots.{placed_at};
+ghost use Rattle.sg_grammar.specs.Told.{IsToldBy};
 
+use crate::state::{Block, Spot};
 use sg_commit::Digest;
 use sg_forms::{CodeLine, Line, RowOpening};
-use sg_grammar::{Block, Spot};
 use sg_plan::ClaimWord;
 
-/// What a line in its place says of what is judged: its coordinates, and their values.
+/// What a line behind the plan says in its place: its coordinates, and their values.
 #[derive(Clone, Copy, Debug)]
 pub enum Told<'a> {
     /// Of a race and an entry, the commitment of its code.
@@ -37,11 +37,11 @@ pub enum Told<'a> {
     Row(u32, u32, u32, RowOpening),
     /// Of a ballot and a race, the code that is claimed and the office's answer.
     Dispute(u32, u32, u16, ClaimWord),
-    /// Nothing that is judged, or that is wanted to judge another line.
+    /// Nothing but where it stands: it is a line of the plan, or the first line of a ballot's block.
     Nothing,
 }
 
-/// What the line tells where it stands.
+/// What the line tells where it stands. It takes no memory.
 pub fn tell<'a>(at: Spot, line: &Line<'a>) -> Told<'a>
     ensures { IsToldBy (placed_at at (said line.now)) result }
 {
