@@ -1,6 +1,6 @@
 -- A list of lists that grows in its place, and a list whose last item is changed: taken out, changed and put back.
-use Rattle.std.proofs.Common.{◌≡◌, ◌≢◌, ℕ, zero, suc, ◌+◌, ◌-◌, List, [], ◌∷◌, ◌++◌, length, get_or, slice_get, slice_set, Some, refl, sym, ap, ◌∙◌, arith}
-use Rattle.std.proofs.lemmas.List.{set-set}
+use Rattle.std.proofs.Common.{◌≡◌, ◌≢◌, ℕ, zero, suc, ◌+◌, ◌-◌, ◌≤◌, List, [], ◌∷◌, ◌++◌, length, get_or, replicate, slice_get, slice_set, Some, refl, sym, ap, ◌∙◌, arith}
+use Rattle.std.proofs.lemmas.List.{replicate-append-replicate, set-set, set_past}
 use Rattle.std.proofs.lemmas.Option.{get_or_from_slice_get}
 use Rattle.sg_forms.specs.declared.line.CodeLine.{CodeLine}
 use Rattle.sg_record.specs.Gathering.{append_at, append_in, dispute_with, last_with, with_code, with_over, with_paper}
@@ -23,6 +23,17 @@ race_put_back lists out back race instance list grown items was taken grew put =
     let here : get_or lists race [] ≡ list = get_or_from_slice_get lists race list [] was in
     let whole : grown ≡ append_at (get_or lists race []) instance items = grew ∙ ap (λ l. append_at l instance items) (sym here) in
     put ∙ (ap (λ l. slice_set l race grown) taken ∙ (set-set lists race [] grown ∙ ap (slice_set lists race) whole))
+
+-- one more of the same
+pub one_more : {A : Type 0} (x : A) (count : ℕ) (items grown : List A) → items ≡ replicate count x → grown ≡ items ++ x ∷ [] → grown ≡ replicate (count + 1) x
+one_more x count items grown are grew = grew ∙ (ap (λ l. l ++ x ∷ []) are ∙ replicate-append-replicate count 1 x)
+
+-- a place that a list does not have takes nothing
+pub no_list : {A : Type 0} (lists : List (List A)) (at : ℕ) (items : List A) → length lists ≤ at → lists ≡ append_at lists at items
+no_list lists at items past = sym (set_past lists at (get_or lists at [] ++ items) past)
+
+pub no_table : {A : Type 0} (lists : List (List (List A))) (race instance : ℕ) (items : List A) → length lists ≤ race → lists ≡ append_in lists race instance items
+no_table lists race instance items past = sym (set_past lists race (append_at (get_or lists race []) instance items) past)
 
 -- the number of the last item
 last_at : (count size : ℕ) → count ≡ size → count ≢ 0 → (count - 1) + 1 ≡ size
@@ -94,6 +105,6 @@ pub dispute-none : (code : CodeLine) (blocks : List DisputeBlock) → length blo
 dispute-none code [] none = refl
 dispute-none code (one ∷ blocks) none = absurd (omega (arith, none))
 
-pub ruleset appending = (put_back, race_put_back)
+pub ruleset appending = (one_more, put_back, race_put_back, no_list, no_table)
 
-pub ruleset changing = (code_put_back, over_put_back, paper_put_back, last-none, dispute_put_back, dispute-none)
+pub ruleset changing = (last-none, dispute-none)

@@ -1,5 +1,6 @@
 -- A walk over bytes is one over the lines that they spell.
-use Rattle.std.proofs.Common.{◌≡◌, ℕ, ◌+◌, ◌-◌, Bool, true, false, ◌&&◌, ◌==◌, nat_le, nat_lt, cond, List, [], ◌∷◌, All, length, map, Some, refl, sym, subst, ap, ◌∙◌}
+use Rattle.std.proofs.Common.{◌≡◌, ℕ, ◌+◌, ◌-◌, ◌*◌, Bool, true, false, ◌&&◌, ◌==◌, nat_le, nat_lt, cond, List, [], ◌∷◌, All, length, map, Some, refl, sym, subst, ap, ◌∙◌}
+use Rattle.std.proofs.lemmas.Option.{same_Some}
 use Rattle.std.proofs.lemmas.List.Elements.{All-cons, All-head, All-nil, All-tail}
 use Rattle.sg_plan.specs.Ballots.{ballot_has, r_rows}
 use Rattle.sg_plan.specs.Limits.{candidate_keeps, is_version, race_head_keeps, run_keeps, style_keeps}
@@ -8,22 +9,25 @@ use Rattle.sg_plan.specs.declared.plan.Plan.{Plan}
 use Rattle.sg_forms.proofs.LineLaws.{lines_are_read, lines_are_spelled}
 use Rattle.sg_forms.specs.Reading.{line_of}
 use Rattle.sg_forms.specs.Said.{Said}
-use Rattle.sg_forms.specs.Said.Said.{Audited, Ballots, Cand, Cast, Code, Dispute, Election, Instances, Over, Race, Spoiled, Style, Version, Voided}
+use Rattle.sg_forms.specs.Said.Said.{Audited, Ballots, Cand, Cast, Code, CodeCommit, Dispute, DrawFull, DrawPublic, Election, Flags, Instances, Over, Paper, Places, Race, Row, RowCommit, Seal, Spoiled, Style, Total, Version, Voided}
 use Rattle.sg_forms.specs.Spelling.{IsInRange, spelling}
 use Rattle.sg_grammar.proofs.Claims.{if_some, if_then-claim, option_map-some}
 use Rattle.sg_grammar.proofs.FirstLines.{take_bytes-line, walk-first, walk-none}
 use Rattle.sg_grammar.specs.Due.{audit, commits, race_codes, results}
 use Rattle.sg_grammar.specs.Head.{Making, behind_candidate, head_line, last_candidates, made, most_instances, most_races, most_styles, no_plan, run_line, style_line, with_cand, with_instances, with_name, with_race, with_run, with_style, with_version}
-use Rattle.sg_grammar.specs.Placed.Placed.{Begun, CodeAt, Disputed, OverAt}
-use Rattle.sg_grammar.specs.Walk.{Next, Taken, Walked, after_block, after_dispute, after_run, behind, body_line, first_of, headed, in_cast, in_head, in_order, is_column, is_later, is_race_left, most_disputes, place, start, take_at, take_bytes, take_line, taking, took, walk, walked_on}
+use Rattle.sg_grammar.specs.Placed.{Placed}
+use Rattle.sg_grammar.specs.Placed.Placed.{Begun, CodeAt, CodeCommitAt, Disputed, DrawnFull, DrawnPublic, FlagsAt, OfPlan, OverAt, PaperAt, PlacesAt, RowAt, RowCommitAt, SealAt, TotalAt}
+use Rattle.sg_grammar.specs.Walk.{Next, Taken, Walked, after_block, after_dispute, after_run, behind, body_line, first_of, headed, in_cast, in_code, in_code_commit, in_draw, in_flags, in_head, in_order, in_paper, in_places, in_row, in_row_commit, in_seal, in_total, is_column, is_later, is_race_left, most_disputes, place, start, take_at, take_bytes, take_line, taking, took, walk, walked_on}
+use Rattle.sg_grammar.specs.declared.state.Block.{Block}
 use Rattle.sg_grammar.specs.declared.state.Block.TheVariants as block
 use Rattle.sg_grammar.specs.declared.state.Head.{Head}
 use Rattle.sg_grammar.specs.declared.state.Head.TheVariants as head
 use Rattle.sg_grammar.specs.declared.state.Part.{Part}
 use Rattle.sg_grammar.specs.declared.state.Part.TheVariants as part
 use Rattle.sg_grammar.specs.declared.state.Slot.{Slot}
+use Rattle.sg_grammar.specs.declared.state.Slot.TheVariants as slot
 use Rattle.sg_record.proofs.Filling.{AreIn}
-use Rattle.sg_record.proofs.SaidWalk.{Goes, slot-goes}
+use Rattle.sg_record.proofs.SaidWalk.{Goes}
 
 -- THE VERSION STAYS
 
@@ -39,38 +43,102 @@ Stays version next = (next.plan.version ≡ version) × (is_first next.head ≡ 
 abbrev pub Stay : Plan → Taken → Type 0
 Stay plan taken = Stays plan.version taken.next
 
+-- the line is none of the plan
+abbrev pub IsBody : Placed → Type 0
+IsBody (OfPlan said) = ⊥
+IsBody line = Unit {0}
+
 -- behind a line behind the plan the plan is as before, and whole
 abbrev pub IsBehind : Plan → Taken → Type 0
-IsBehind plan taken = (taken.next.plan ≡ plan) × (taken.next.head ≡ head.Whole)
+IsBehind plan taken = (taken.next.plan ≡ plan) × (taken.next.head ≡ head.Whole) × IsBody taken.placed
+
+code_commit-body : (race entry : ℕ) (said : Said) (line : Placed) → in_code_commit race entry said ≡ Some line → IsBody line
+code_commit-body race entry (CodeCommit named digest) line e = if_then-claim IsBody (named == race) (CodeCommitAt race entry digest) line (λ ok. tt) e
+code_commit-body race entry said line e = cc
+
+row_commit-body : (race instance at : ℕ) (said : Said) (line : Placed) → in_row_commit race instance at said ≡ Some line → IsBody line
+row_commit-body race instance at (RowCommit named of left right) line e =
+    if_then-claim IsBody (named == race && of == instance) (RowCommitAt race instance at left right) line (λ ok. tt) e
+row_commit-body race instance at said line e = cc
+
+seal-body : (number : ℕ) (said : Said) (line : Placed) → in_seal number said ≡ Some line → IsBody line
+seal-body number (Seal named digest) line e = if_then-claim IsBody (named == number) (SealAt number digest) line (λ ok. tt) e
+seal-body number said line e = cc
+
+paper-body : (ballot race count : ℕ) (said : Said) (line : Placed) → in_paper ballot race count said ≡ Some line → IsBody line
+paper-body ballot race count (Paper named list) line e = if_then-claim IsBody (named == race && length list == count) (PaperAt ballot race list) line (λ ok. tt) e
+paper-body ballot race count said line e = cc
+
+code-body : (kind : Block) (ballot race column : ℕ) (said : Said) (line : Placed) → in_code kind ballot race column said ≡ Some line → IsBody line
+code-body kind ballot race column (Code code) line e =
+    if_then-claim IsBody (code.race == race && code.column == column) (CodeAt kind ballot race column code) line (λ ok. tt) e
+code-body kind ballot race column said line e = cc
+
+flags-body : (race instance number count : ℕ) (said : Said) (line : Placed) → in_flags race instance number count said ≡ Some line → IsBody line
+flags-body race instance number count (Flags named of bits) line e =
+    if_then-claim IsBody ((named == race && of == instance) && length bits == count) (FlagsAt race instance (64 * number) bits) line (λ ok. tt) e
+flags-body race instance number count said line e = cc
+
+places-body : (race number count : ℕ) (said : Said) (line : Placed) → in_places race number count said ≡ Some line → IsBody line
+places-body race number count (Places named bits) line e =
+    if_then-claim IsBody (named == race && length bits == count) (PlacesAt race (64 * number) bits) line (λ ok. tt) e
+places-body race number count said line e = cc
+
+total-body : (race candidate : ℕ) (said : Said) (line : Placed) → in_total race candidate said ≡ Some line → IsBody line
+total-body race candidate (Total named of count) line e = if_then-claim IsBody (named == race && of == candidate) (TotalAt race candidate count) line (λ ok. tt) e
+total-body race candidate said line e = cc
+
+draw-body : (said : Said) (line : Placed) → in_draw said ≡ Some line → IsBody line
+draw-body DrawFull line e = subst IsBody (same_Some DrawnFull line e) tt
+draw-body (DrawPublic digits) line e = subst IsBody (same_Some (DrawnPublic digits) line e) tt
+draw-body said line e = cc
+
+row-body : (race instance at : ℕ) (said : Said) (line : Placed) → in_row race instance at said ≡ Some line → IsBody line
+row-body race instance at (Row opening) line e = subst IsBody (same_Some (RowAt race instance at opening) line e) tt
+row-body race instance at said line e = cc
+
+slot-body : (first : Slot) (said : Said) (line : Placed) → place first said ≡ Some line → IsBody line
+slot-body (slot.CodeCommit race entry) said line e = code_commit-body race entry said line e
+slot-body (slot.RowCommit race instance at) said line e = row_commit-body race instance at said line e
+slot-body (slot.Seal number) said line e = seal-body number said line e
+slot-body (slot.Paper ballot race count) said line e = paper-body ballot race count said line e
+slot-body (slot.Code kind ballot race column) said line e = code-body kind ballot race column said line e
+slot-body (slot.Flags race instance number count) said line e = flags-body race instance number count said line e
+slot-body (slot.Places race number count) said line e = places-body race number count said line e
+slot-body (slot.Total race candidate) said line e = total-body race candidate said line e
+slot-body slot.Draw said line e = draw-body said line e
+slot-body (slot.Row race instance at) said line e = row-body race instance at said line e
 
 slot-behind : (plan : Plan) (first : Slot) (due : List Slot) (may_begin : Part) (said : Said) (t : Taken) → taking plan due may_begin (place first said) ≡ Some t → IsBehind plan t
-slot-behind plan first due may_begin said t e = subst (λ (next : Next). (next.plan ≡ plan) × (next.head ≡ head.Whole)) (slot-goes plan first due may_begin said t e).1 (refl, refl)
+slot-behind plan first due may_begin said t e =
+    let from = option_map-some (λ line. took line (behind plan due may_begin)) (place first said) t e in
+    subst (IsBehind plan) from.2 (refl, refl, slot-body first said from.0 from.1)
 
 first_of-behind : (plan : Plan) (slots : List Slot) (said : Said) (t : Taken) → first_of plan slots said ≡ Some t → IsBehind plan t
 first_of-behind plan [] said t e = cc
 first_of-behind plan (first ∷ due) said t e = slot-behind plan first due (part.Disputes 0) said t e
 
 after_block-behind : (plan : Plan) (last : ℕ) (said : Said) (t : Taken) → after_block plan last said ≡ Some t → IsBehind plan t
-after_block-behind plan last (Cast ballot) t e = if_then-claim (IsBehind plan) (is_later plan last ballot) (took (Begun ballot) (behind plan [] (part.Cast ballot 0 0))) t (λ ok. (refl, refl)) e
-after_block-behind plan last (Spoiled ballot) t e = if_then-claim (IsBehind plan) (is_later plan last ballot) (took (Begun ballot) (behind plan [] (part.Ballots ballot))) t (λ ok. (refl, refl)) e
+after_block-behind plan last (Cast ballot) t e = if_then-claim (IsBehind plan) (is_later plan last ballot) (took (Begun ballot) (behind plan [] (part.Cast ballot 0 0))) t (λ ok. (refl, refl, tt)) e
+after_block-behind plan last (Spoiled ballot) t e = if_then-claim (IsBehind plan) (is_later plan last ballot) (took (Begun ballot) (behind plan [] (part.Ballots ballot))) t (λ ok. (refl, refl, tt)) e
 after_block-behind plan last (Audited ballot) t e =
-    if_then-claim (IsBehind plan) (is_later plan last ballot) (took (Begun ballot) (behind plan (audit plan ballot) (part.Ballots ballot))) t (λ ok. (refl, refl)) e
+    if_then-claim (IsBehind plan) (is_later plan last ballot) (took (Begun ballot) (behind plan (audit plan ballot) (part.Ballots ballot))) t (λ ok. (refl, refl, tt)) e
 after_block-behind plan last (Voided ballot) t e =
-    if_then-claim (IsBehind plan) (plan.version == 2 && is_later plan last ballot) (took (Begun ballot) (behind plan [] (part.Ballots ballot))) t (λ ok. (refl, refl)) e
+    if_then-claim (IsBehind plan) (plan.version == 2 && is_later plan last ballot) (took (Begun ballot) (behind plan [] (part.Ballots ballot))) t (λ ok. (refl, refl, tt)) e
 after_block-behind plan last said t e = first_of-behind plan (results plan) said t e
 
 in_cast-behind : (plan : Plan) (ballot race column : ℕ) (said : Said) (t : Taken) → in_cast plan ballot race column said ≡ Some t → IsBehind plan t
 in_cast-behind plan ballot race column (Code code) t e =
     if_then-claim (IsBehind plan) (is_column plan ballot code.race code.column && in_order race column code.race code.column)
-    (took (CodeAt block.Cast ballot code.race code.column code) (behind plan [] (part.Cast ballot code.race (code.column + 1)))) t (λ ok. (refl, refl)) e
+    (took (CodeAt block.Cast ballot code.race code.column code) (behind plan [] (part.Cast ballot code.race (code.column + 1)))) t (λ ok. (refl, refl, tt)) e
 in_cast-behind plan ballot race column (Over next) t e =
-    if_then-claim (IsBehind plan) (is_race_left plan ballot race next) (took (OverAt ballot next) (behind plan [] (part.Cast ballot (next + 1) 0))) t (λ ok. (refl, refl)) e
+    if_then-claim (IsBehind plan) (is_race_left plan ballot race next) (took (OverAt ballot next) (behind plan [] (part.Cast ballot (next + 1) 0))) t (λ ok. (refl, refl, tt)) e
 in_cast-behind plan ballot race column said t e = after_block-behind plan ballot said t e
 
 after_dispute-behind : (plan : Plan) (count : ℕ) (said : Said) (t : Taken) → after_dispute plan count said ≡ Some t → IsBehind plan t
 after_dispute-behind plan count (Dispute ballot race code word) t e =
     if_then-claim (IsBehind plan) (nat_lt count most_disputes && (nat_lt race (length plan.races) && ballot_has plan ballot race))
-    (took (Disputed ballot race code word) (behind plan (race_codes plan block.Dispute ballot race) (part.Disputes (count + 1)))) t (λ ok. (refl, refl)) e
+    (took (Disputed ballot race code word) (behind plan (race_codes plan block.Dispute ballot race) (part.Disputes (count + 1)))) t (λ ok. (refl, refl, tt)) e
 after_dispute-behind plan count said t e = cc
 
 pub body-behind : (plan : Plan) (due : List Slot) (may_begin : Part) (said : Said) (t : Taken) → body_line plan due may_begin said ≡ Some t → IsBehind plan t

@@ -18,6 +18,7 @@ pub mod GatherLaw
 pub mod GatheredBlocks
 pub mod GatheredLines
 pub mod GatheredLists
+pub mod Growing
 pub mod HeadBack
 pub mod HeadOut
 pub mod Limits
@@ -28,4 +29,5 @@ pub mod SaidWalk
 pub mod SectionLines
 pub mod SlotLines
 pub mod TextLaw
+pub mod Told
 pub mod WholeLaw

@@ -1,5 +1,5 @@
 -- What a plan without a fault says of the words of its lines.
-use Rattle.std.proofs.Common.{◌≡◌, ℕ, ◌+◌, ◌-◌, ◌<◌, ◌≤◌, ◌&&◌, nat_lt, nat_le, true, inl, inr, Option, None, Some, All, List, [], ◌∷◌, get_or, length, arith}
+use Rattle.std.proofs.Common.{◌≡◌, ℕ, ◌+◌, ◌-◌, ◌≤◌, ◌&&◌, nat_lt, nat_le, true, inl, inr, Option, None, Some, All, List, [], ◌∷◌, get_or, length, arith}
 use Rattle.sg_plan.proofs.LimitLaws.{keeps_limits, passes_tests}
 use Rattle.sg_plan.proofs.LimitTests.{true-rises}
 use Rattle.std.proofs.lemmas.Bool.{and_parts, leb-true, ltb-true}

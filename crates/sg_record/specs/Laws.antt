@@ -16,6 +16,12 @@ AreWhole lines = option_map_or (λ (w : Walked). is_whole w.next) (walk start li
 abbrev pub HasWords : Record → Type 0
 HasWords posted = All (IsInRange posted.plan.version) (lines_in posted)
 
+-- the bytes are the text of this record, which has one
+pub record IsTextOf (bytes : List ℕ) (posted : Record) : Type 0 where
+  pub words : HasWords posted
+  pub formed : is_formed posted ≡ true
+  pub text : bytes ≡ text_of posted
+
 -- the lines of each formed record's text are a whole record
 abbrev pub FormedAreWhole : Type 0
 FormedAreWhole = (posted : Record) → HasWords posted → is_formed posted ≡ true → AreWhole (texts_in posted)

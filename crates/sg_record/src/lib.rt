@@ -1,4 +1,4 @@
-//! A public record as a whole: its lists, its one text, and how it is written.
+//! A public record as a whole: its lists, its one text, and how it is read and written.
 #![tactic(auto)]
 
 mod blocks;
@@ -6,14 +6,19 @@ mod bytes;
 mod commits;
 mod formed;
 mod head;
+mod last;
 mod laws;
 mod lines;
+mod lists;
+mod nested;
 mod openings;
+mod read;
 mod record;
 mod results;
 mod write;
 
 pub use laws::{formed_law, text_law, whole_law};
+pub use read::read_record;
 pub use record::{BallotBlock, BlockFate, DisputeBlock, Record, RowCommit};
 pub use sg_forms::{CodeLine, Line, RowOpening};
 pub use write::{Wrote, write_record};

@@ -2,7 +2,7 @@
 
 use crate::{
     BallotBlock, BlockFate, CodeLine, DisputeBlock, Record, RowCommit, RowOpening, Wrote,
-    write_record,
+    read_record, write_record,
 };
 use sg_commit::{Digest, Key, Opening};
 use sg_outside::Page;
@@ -405,5 +405,30 @@ fn tells_form(rt: HostRuntime) -> Result<(), Fail> {
     posted.plan.version = 2;
     posted.totals = by_race(alloc, 7, 0, [2, 3])?;
     assert!(rt; !posted.is_formed());
+    Ok(())
+}
+
+/// The bytes are read as a record, whose text is these bytes.
+fn is_read(alloc: Global, text: &[u8]) -> Result<bool, Fail> {
+    let Some(posted) = read_record(alloc, text)? else {
+        return Ok(false);
+    };
+    if !posted.is_formed() {
+        return Ok(false);
+    }
+    let mut page = Page::new(alloc, 30_000, Vec::new(alloc), 0)?;
+    let wrote = write_record(alloc, &posted, &mut page);
+    Ok(wrote == Wrote::Written && page.written() == text)
+}
+
+#[test]
+fn reads_what_it_writes(rt: HostRuntime) -> Result<(), Fail> {
+    let alloc = rt.alloc();
+    for lines in [ALL_FATES.as_slice(), MANY_BITS.as_slice()] {
+        let text = text_of(alloc, lines)?;
+        assert!(rt; is_read(alloc, &text)?);
+        assert!(rt; !is_read(alloc, &text[..text.len().saturating_sub(1)])?);
+    }
+    assert!(rt; read_record(alloc, b"")?.is_none());
     Ok(())
 }

@@ -1,5 +1,5 @@
 -- The first line, and then the races.
-use Rattle.std.proofs.Common.{◌∷◌, [], ◌++◌}
+use Rattle.std.proofs.Common.{◌∷◌, []}
 use Rattle.std.proofs.lemmas.Bool.{and_parts}
 use Rattle.sg_record.proofs.Marks.{marks, overs_rise}
 use Rattle.sg_record.proofs.Putting.{puts_stop, puts_then}

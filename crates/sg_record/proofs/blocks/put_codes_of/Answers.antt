@@ -1,5 +1,5 @@
 -- The codes of the race come first, and then those of later races.
-use Rattle.std.proofs.Common.{◌≡◌, ◌+◌, ◌∙◌, ◌∷◌, [], sym, ap, map, drop, arith}
+use Rattle.std.proofs.Common.{◌+◌, ◌∙◌, ◌∷◌, [], sym, ap, map, drop, arith}
 use Rattle.std.proofs.lemmas.List.{drop_all}
 use Rattle.sg_forms.specs.Said.Said.{Code}
 use Rattle.sg_record.proofs.Marks.{first_code, first_not_falling, later_codes, none_of, of_race_here, of_race_other}

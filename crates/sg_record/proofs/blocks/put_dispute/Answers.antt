@@ -1,5 +1,5 @@
 -- The claim, and then the codes.
-use Rattle.std.proofs.Common.{◌∷◌, [], map, ◌++◌}
+use Rattle.std.proofs.Common.{◌∷◌, [], map}
 use Rattle.sg_record.proofs.Putting.{puts_stop, puts_then}
 use Rattle.sg_forms.specs.Said.Said.{Code, Dispute}
 use Rattle.sg_record.proofs.blocks.put_dispute.Goals as goal

@@ -1,5 +1,5 @@
 -- The race, and then its candidates.
-use Rattle.std.proofs.Common.{◌∷◌, [], map, length, ◌++◌}
+use Rattle.std.proofs.Common.{◌∷◌, [], map, length}
 use Rattle.sg_record.proofs.Putting.{puts_stop, puts_then}
 use Rattle.sg_forms.specs.Said.Said.{Cand, Race}
 use Rattle.sg_record.proofs.head.put_race.Goals as goal

@@ -1,5 +1,5 @@
 -- The parts follow one another.
-use Rattle.std.proofs.Common.{length, ◌++◌}
+use Rattle.std.proofs.Common.{length}
 use Rattle.sg_record.proofs.Putting.{puts_stop, puts_then}
 use Rattle.sg_grammar.specs.Due.{each}
 use Rattle.sg_record.specs.Lines.{race_result_lines, seal_line}

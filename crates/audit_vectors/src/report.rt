@@ -1,0 +1,44 @@
+//! Reports, and what they say of a record.
+use sg_check::{Judged, Kind};
+
+/// The number that the digits spell.
+pub(crate) fn number_of(digits: &[u8]) -> Option<usize> {
+    let text = std::str::from_utf8(digits).ok()?;
+    text.parse::<usize>().ok()
+}
+
+/// The word for a kind in a report.
+fn kind_word(kind: Kind) -> &'static [u8] {
+    match kind {
+        Kind::Form => b"form",
+        Kind::Seal => b"seal",
+        Kind::Opening => b"opening",
+        Kind::Side => b"side",
+        Kind::Pointer => b"pointer",
+        Kind::Flag => b"flag",
+        Kind::Path => b"path",
+        Kind::Total => b"total",
+        Kind::Print => b"print",
+        Kind::Rule => b"rule",
+        Kind::Dispute => b"dispute",
+    }
+}
+
+/// The report says what the plain verdict does: yes, or the same line and kind.
+pub(crate) fn is_report_of(judged: &Judged, report: &[u8]) -> bool {
+    match judged {
+        Judged::Yes(_) => report.starts_with(b"yes\n"),
+        Judged::No { line, kind } => is_no(report, *line, kind_word(*kind)),
+    }
+}
+
+/// The report is `no LINE KIND`.
+fn is_no(report: &[u8], line: u32, kind: &[u8]) -> bool {
+    let mut words = report.split(|byte| *byte == b' ' || *byte == b'\n');
+    let is_no = words.next() == Some(b"no".as_slice());
+    let number = match words.next() {
+        Some(digits) => number_of(digits),
+        None => None,
+    };
+    is_no && number == Some(line as usize) && words.next() == Some(kind)
+}

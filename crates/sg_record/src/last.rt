@@ -1,0 +1,160 @@
+//! The last block of a record, while its lines come.
+//!
+//! A line that the last block has no room for adds nothing to it.
+ghost use Rattle.std.specs.Prelude.{◌≡◌, IfOk, OnOk};
+ghost use Rattle.sg_forms.specs.Said.{said};
+ghost use Rattle.sg_record.specs.Gathering.{begun, dispute_with, last_with, with_code, with_over, with_paper};
+
+use crate::record::{BallotBlock, BlockFate, DisputeBlock};
+use sg_forms::{CodeLine, Line};
+use sg_plan::{ClaimWord, Items, NoMemory};
+use std::alloc::Global;
+
+/// What the first line of a ballot's block says of it.
+pub(crate) fn begin_fate(alloc: Global, line: &Line) -> BlockFate
+    ensures { result ≡ begun (said line.now) }
+{
+    match *line {
+        Line::Spoiled(_) => BlockFate::Spoiled,
+        Line::Audited(_) => BlockFate::Audited(Items::new(alloc), Items::new(alloc)),
+        Line::Voided(_) => BlockFate::Voided,
+        _ => BlockFate::Cast(Items::new(alloc), Items::new(alloc)),
+    }
+}
+
+/// Puts a code behind those of a cast or an audited ballot.
+fn push_code(fate: &mut BlockFate, code: CodeLine) -> Result<(), NoMemory>
+    ensures { OnOk result (fate.new ≡ with_code code fate.old) }
+{
+    match fate {
+        BlockFate::Cast(codes, _) => codes.push(code),
+        BlockFate::Audited(_, codes) => codes.push(code),
+        BlockFate::Spoiled => Ok(()),
+        BlockFate::Voided => Ok(()),
+    }
+}
+
+/// Puts a race behind those that are over on a cast ballot.
+fn push_over(fate: &mut BlockFate, race: u32) -> Result<(), NoMemory>
+    ensures { OnOk result (fate.new ≡ with_over race fate.old) }
+{
+    match fate {
+        BlockFate::Cast(_, overs) => overs.push(race),
+        BlockFate::Audited(..) => Ok(()),
+        BlockFate::Spoiled => Ok(()),
+        BlockFate::Voided => Ok(()),
+    }
+}
+
+/// A list of the codes.
+fn list_of(alloc: Global, codes: &[u16]) -> Result<Items<u16>, NoMemory>
+    ensures { IfOk result (λ list. list ≡ codes.now) }
+{
+    let mut list = Items::new(alloc);
+    for at in 0..codes.len() {
+        list.push(codes[at])?;
+    }
+    Ok(list)
+}
+
+/// Puts a race's codes behind those read from the paper of an audited ballot.
+fn push_paper(alloc: Global, fate: &mut BlockFate, codes: &[u16]) -> Result<(), NoMemory>
+    ensures { OnOk result (fate.new ≡ with_paper codes.now fate.old) }
+{
+    match fate {
+        BlockFate::Audited(papers, _) => papers.push(list_of(alloc, codes)?),
+        BlockFate::Cast(..) => Ok(()),
+        BlockFate::Spoiled => Ok(()),
+        BlockFate::Voided => Ok(()),
+    }
+}
+
+/// A block that stands where the last one is taken out.
+fn no_block() -> BallotBlock {
+    BallotBlock {
+        ballot: 0,
+        fate: BlockFate::Spoiled,
+    }
+}
+
+/// Puts a code behind those of the last block.
+#[tactic(auto, using(crate::proofs::Appending::changing))]
+pub(crate) fn push_last_code(
+    blocks: &mut Items<BallotBlock>,
+    code: CodeLine,
+) -> Result<(), NoMemory>
+    ensures { OnOk result (blocks.new ≡ last_with (with_code code) blocks.old) }
+{
+    let count = blocks.len();
+    if count == 0 {
+        return Ok(());
+    }
+    let mut block = blocks.replace(count - 1, no_block());
+    push_code(&mut block.fate, code)?;
+    blocks.replace(count - 1, block);
+    Ok(())
+}
+
+/// Puts a race behind those that are over in the last block.
+#[tactic(auto, using(crate::proofs::Appending::changing))]
+pub(crate) fn push_last_over(blocks: &mut Items<BallotBlock>, race: u32) -> Result<(), NoMemory>
+    ensures { OnOk result (blocks.new ≡ last_with (with_over race) blocks.old) }
+{
+    let count = blocks.len();
+    if count == 0 {
+        return Ok(());
+    }
+    let mut block = blocks.replace(count - 1, no_block());
+    push_over(&mut block.fate, race)?;
+    blocks.replace(count - 1, block);
+    Ok(())
+}
+
+/// Puts a race's codes behind those read from the paper in the last block.
+#[tactic(auto, using(crate::proofs::Appending::changing))]
+pub(crate) fn push_last_paper(
+    alloc: Global,
+    blocks: &mut Items<BallotBlock>,
+    codes: &[u16],
+) -> Result<(), NoMemory>
+    ensures { OnOk result (blocks.new ≡ last_with (with_paper codes.now) blocks.old) }
+{
+    let count = blocks.len();
+    if count == 0 {
+        return Ok(());
+    }
+    let mut block = blocks.replace(count - 1, no_block());
+    push_paper(alloc, &mut block.fate, codes)?;
+    blocks.replace(count - 1, block);
+    Ok(())
+}
+
+/// A dispute that stands where the last one is taken out.
+fn no_dispute(alloc: Global) -> DisputeBlock {
+    DisputeBlock {
+        ballot: 0,
+        race: 0,
+        code: 0,
+        word: ClaimWord::Absent,
+        codes: Items::new(alloc),
+    }
+}
+
+/// Puts a code behind those of the last dispute.
+#[tactic(auto, using(crate::proofs::Appending::changing))]
+pub(crate) fn push_dispute_code(
+    alloc: Global,
+    blocks: &mut Items<DisputeBlock>,
+    code: CodeLine,
+) -> Result<(), NoMemory>
+    ensures { OnOk result (blocks.new ≡ dispute_with code blocks.old) }
+{
+    let count = blocks.len();
+    if count == 0 {
+        return Ok(());
+    }
+    let mut block = blocks.replace(count - 1, no_dispute(alloc));
+    block.codes.push(code)?;
+    blocks.replace(count - 1, block);
+    Ok(())
+}

@@ -1,0 +1,204 @@
+//! The lists of a record, put together from its lines.
+ghost use Rattle.std.specs.Prelude.{◌≡◌, ℕ, IfOk, OnOk, take};
+ghost use Rattle.sg_forms.specs.Reading.{public_bytes};
+ghost use Rattle.sg_forms.specs.Said.{Said, said};
+ghost use Rattle.sg_grammar.specs.Placed.Placed.{Begun, CodeAt, Disputed};
+ghost use Rattle.sg_grammar.specs.Spots.{placed_at};
+ghost use Rattle.sg_grammar.specs.Told.{told_line};
+ghost use Rattle.sg_record.specs.Gathering.{blank, sealed};
+ghost use Rattle.sg_record.specs.Growing.{Adds, with_plan};
+
+use crate::last::{begin_fate, push_dispute_code, push_last_code, push_last_over, push_last_paper};
+use crate::nested::{empty_lists, empty_tables, push_at, push_bits_at, push_bits_in, push_in};
+use crate::record::{BallotBlock, DisputeBlock, Record, RowCommit};
+use hex::FromHexError;
+use sg_commit::Digest;
+use sg_forms::{CodeLine, Line, RowOpening};
+use sg_grammar::{Block, Spot, Told, tell};
+use sg_plan::{ClaimWord, Draw, Items, NoMemory, Plan, Word};
+use std::alloc::Global;
+
+/// The lists of a record while its lines come. Its plan stands apart, where its lines are taken.
+#[derive(Debug, Drop)]
+pub(crate) struct Lists {
+    code_commits: Items<Items<Digest>>,
+    row_commits: Items<Items<Items<RowCommit>>>,
+    seals: [Digest; 3],
+    ballots: Items<BallotBlock>,
+    flags: Items<Items<Items<bool>>>,
+    places: Items<Items<bool>>,
+    totals: Items<Items<u32>>,
+    draw: Draw,
+    rows: Items<Items<Items<RowOpening>>>,
+    disputes: Items<DisputeBlock>,
+}
+
+impl Lists {
+    /// The lists of no line behind the plan.
+    pub(crate) fn blank(alloc: Global, plan: &Plan) -> Result<Lists, NoMemory>
+        ensures { IfOk result (λ lists. with_plan plan.now lists ≡ blank plan.now) }
+    {
+        let races = plan.races.len();
+        let instances = plan.instances as usize;
+        Ok(Lists {
+            code_commits: empty_lists(alloc, races)?,
+            row_commits: empty_tables(alloc, races, instances)?,
+            seals: [Digest([0; 32]); 3],
+            ballots: Items::new(alloc),
+            flags: empty_tables(alloc, races, instances)?,
+            places: empty_lists(alloc, races)?,
+            totals: empty_lists(alloc, races)?,
+            draw: Draw::Full,
+            rows: empty_tables(alloc, races, instances)?,
+            disputes: Items::new(alloc),
+        })
+    }
+
+    /// The record of these lists and this plan. It takes no memory.
+    pub(crate) fn into_record(self, plan: Plan) -> Record
+        ensures { result ≡ with_plan plan self }
+    {
+        let seals = self.seals;
+        Record {
+            plan,
+            code_commits: self.code_commits,
+            row_commits: self.row_commits,
+            seals,
+            ballots: self.ballots,
+            flags: self.flags,
+            places: self.places,
+            totals: self.totals,
+            draw: self.draw,
+            rows: self.rows,
+            disputes: self.disputes,
+        }
+    }
+
+    /// Adds a line behind the plan, in its place.
+    pub(crate) fn add(&mut self, alloc: Global, at: Spot, line: &Line) -> Result<(), NoMemory>
+        ensures { OnOk result (Adds self.old self.new (placed_at at (said line.now)) (said line.now)) }
+    {
+        match at {
+            Spot::Begun { ballot } => self.begin(alloc, ballot, line),
+            _ => self.add_told(alloc, tell(at, line)),
+        }
+    }
+
+    /// Begins the block of a ballot.
+    fn begin(&mut self, alloc: Global, ballot: u32, line: &Line) -> Result<(), NoMemory>
+        ensures { OnOk result (Adds self.old self.new (Begun ballot) (said line.now)) }
+    {
+        let fate = begin_fate(alloc, line);
+        self.ballots.push(BallotBlock { ballot, fate })
+    }
+
+    /// Adds what a line says that begins no block.
+    fn add_told(&mut self, alloc: Global, told: Told) -> Result<(), NoMemory>
+        ensures { OnOk result ((s : Said) → Adds self.old self.new (told_line told.entry s) s) }
+    {
+        match told {
+            Told::CodeCommit(race, _, digest) => {
+                push_at(alloc, &mut self.code_commits, race, digest)
+            }
+            Told::RowCommit(race, instance, _, left, right) => {
+                let row = RowCommit { left, right };
+                push_in(alloc, &mut self.row_commits, race, instance, row)
+            }
+            Told::Code(block, _, _, _, code) => self.add_code(alloc, block, code),
+            Told::Over(_, race) => push_last_over(&mut self.ballots, race),
+            Told::Paper(_, _, codes, count) => {
+                push_last_paper(alloc, &mut self.ballots, first_codes(&codes, count))
+            }
+            Told::Flags(race, instance, _, bits) => {
+                push_bits_in(alloc, &mut self.flags, race, instance, bits)
+            }
+            Told::Places(race, _, bits) => push_bits_at(alloc, &mut self.places, race, bits),
+            Told::Total(race, _, count) => push_at(alloc, &mut self.totals, race, count),
+            Told::Row(race, instance, _, opening) => {
+                push_in(alloc, &mut self.rows, race, instance, opening)
+            }
+            Told::Dispute(ballot, race, code, word) => self.dispute(
+                alloc, ballot, race, code, word,
+            ),
+            Told::Seal(number, digest) => {
+                put_seal(&mut self.seals, number, digest);
+                Ok(())
+            }
+            Told::DrawFull => {
+                self.draw = Draw::Full;
+                Ok(())
+            }
+            Told::DrawPublic(digits) => {
+                self.draw = Draw::Public(word_of(alloc, digits)?);
+                Ok(())
+            }
+            Told::Nothing => Ok(()),
+        }
+    }
+
+    /// Adds a code to the block that it stands in.
+    fn add_code(&mut self, alloc: Global, block: Block, code: CodeLine) -> Result<(), NoMemory>
+        ensures { OnOk result ((ballot race column : ℕ) → (s : Said) → Adds self.old self.new (CodeAt block ballot race column code) s) }
+    {
+        match block {
+            Block::Cast => push_last_code(&mut self.ballots, code),
+            Block::Audited => push_last_code(&mut self.ballots, code),
+            Block::Dispute => push_dispute_code(alloc, &mut self.disputes, code),
+        }
+    }
+
+    /// Begins the block of a dispute.
+    fn dispute(
+        &mut self,
+        alloc: Global,
+        ballot: u32,
+        race: u32,
+        code: u16,
+        word: ClaimWord,
+    ) -> Result<(), NoMemory>
+        ensures { OnOk result ((s : Said) → Adds self.old self.new (Disputed ballot race code word) s) }
+    {
+        self.disputes.push(DisputeBlock {
+            ballot,
+            race,
+            code,
+            word,
+            codes: Items::new(alloc),
+        })
+    }
+}
+
+/// The first so many codes: all, where there are fewer.
+fn first_codes(codes: &[u16], count: u32) -> &[u16]
+    ensures { result.now ≡ take count codes.now }
+{
+    let count = count as usize;
+    if count >= codes.len() {
+        return codes;
+    }
+    &codes[..count]
+}
+
+/// Puts the digest in the place of a section's seal. Sections are numbered from 1.
+fn put_seal(seals: &mut [Digest; 3], number: u32, digest: Digest)
+    ensures { seals.new ≡ sealed seals.old number digest }
+{
+    let number = number as usize;
+    if number == 0 || number > seals.len() {
+        return;
+    }
+    seals[number - 1] = digest;
+}
+
+/// The public bytes that these hexadecimal digits spell.
+fn word_of(alloc: Global, digits: &[u8]) -> Result<Word, NoMemory>
+    ensures { IfOk result (λ word. word ≡ public_bytes digits.now) }
+{
+    let mut word = Word::new(alloc);
+    match hex::decode(alloc, digits) {
+        Ok(bytes) => word.extend(&bytes)?,
+        Err(FromHexError::OutOfMemory) => return Err(NoMemory),
+        Err(_) => {}
+    }
+    Ok(word)
+}
