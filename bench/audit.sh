@@ -9,9 +9,8 @@ set -u
 cd "$(dirname "$0")/.." || exit 1
 made=bench/made
 mkdir -p "$made"
-(cd crates/sg_main && rt run -- audit < stdin) > /dev/null || exit 1
-program=$(ls -t crates/sg_main/out/sg_main crates/sg_main/out/*/sg_main 2>/dev/null | head -1)
-[ -x "$program" ] || { echo "no program was built"; exit 1; }
+. bench/program.sh
+program=$(built sg_main audit < crates/sg_main/stdin) || exit 1
 zeros=$(printf '0%.0s' {1..64})
 
 # best of five, in seconds

@@ -4,8 +4,8 @@
 #   bench/hostile.sh        (at the top of the repository, after bench/audit.sh)
 set -u
 cd "$(dirname "$0")/.." || exit 1
-program=$(ls -t crates/sg_main/out/sg_main crates/sg_main/out/*/sg_main 2>/dev/null | head -1)
-[ -x "$program" ] || { echo "build the program first: bench/audit.sh"; exit 1; }
+. bench/program.sh
+program=$(built sg_main audit < crates/sg_main/stdin) || exit 1
 first=examples/first/first.record
 
 try() {

@@ -1,13 +1,16 @@
 #!/usr/bin/env bash
-# Times reading and writing a record of some 70 MB, line by line and as a whole, beside a copy of its bytes.
+# Times reading and writing a record of some 70 MB, line by line and as a whole, beside a copy of its bytes; and one of
+# 43 MB whose plan has a run for each of its 20,000 ballots.
 #
-#   bench/lines.sh        (at the top of the repository, after bench/audit.sh, which makes the record)
+#   bench/lines.sh        (at the top of the repository, after bench/audit.sh, which makes the records)
 set -u
 cd "$(dirname "$0")/.." || exit 1
-(cd crates/bench_lines && rt run -- write < stdin) > /dev/null || exit 1
-program=$(ls -t crates/bench_lines/out/bench_lines crates/bench_lines/out/*/bench_lines 2>/dev/null | head -1)
-for work in copy read write gather post; do
-    for _ in 1 2 3; do
-        /usr/bin/time -f "$work %U s" "$program" "$work" < bench/made/longest.record
+. bench/program.sh
+program=$(built bench_lines copy < crates/bench_lines/stdin) || exit 1
+for record in longest runs-20000; do
+    for work in copy read write gather post; do
+        for _ in 1 2 3; do
+            /usr/bin/time -f "$record $work %U s" "$program" "$work" < "bench/made/$record.record" > /dev/null
+        done
     done
 done

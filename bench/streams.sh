@@ -1,19 +1,17 @@
-#!/bin/sh
+#!/usr/bin/env bash
 # Times the drawing of an order of 200,000 numbers, of a million coins in turn, of the codes of 62,500
-# ballot rows and of a million keys, each beside as many words of the bare generator. Run it at the top
-# of the repository, once `rt run` in crates/bench_streams has built the program.
-set -e
-program=crates/bench_streams/out/bench_streams
+# ballot rows and of a million keys, each beside as many words of the bare generator.
+#
+#   bench/streams.sh        (at the top of the repository)
+set -u
+cd "$(dirname "$0")/.." || exit 1
+. bench/program.sh
+program=$(built bench_streams words 0) || exit 1
+
 timed() {
-    best=
-    for turn in 1 2 3 4 5; do
-        start=$(date +%s%N)
-        "$program" "$1" "$2" >/dev/null
-        spent=$((($(date +%s%N) - start) / 1000))
-        if [ -z "$best" ] || [ "$spent" -lt "$best" ]; then best=$spent; fi
-    done
-    echo "$1 $2: $best us"
+    echo "$*: $(best_of_five "$program" "$@") us"
 }
+
 timed words 0
 timed order 200000
 timed words 400000

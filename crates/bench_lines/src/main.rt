@@ -10,11 +10,9 @@ ghost use Rattle.std.specs.Prelude.{◌≡◌, ◌≤◌, ◌⊎◌, length};
 ghost use Rattle.sg_forms.specs.Said.{said};
 ghost use Rattle.sg_forms.specs.Spelling.{IsInRange, longest_line};
 
-use sg_forms::write_line;
-use sg_grammar::{Expect, Line, read_line};
 use sg_outside::{Page, line_end};
 use sg_plan::NoMemory;
-use sg_record::{Record, Wrote, read_record, write_record};
+use sg_record::{Expect, Line, Record, Wrote, read_line, read_record, write_line, write_record};
 use std::alloc::Global;
 use std::env;
 use std::io::{self, Read};

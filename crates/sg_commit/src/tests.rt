@@ -20,71 +20,93 @@ fn key_of(words: [u64; 2]) -> Key {
     Key(bytes)
 }
 
+/// A commitment that another program made: what is bound to, the opening's key and value, the digest.
+#[derive(Clone, Copy)]
+struct Made {
+    kind: CommitKind,
+    race: u32,
+    instance: u32,
+    place: u32,
+    key: [u64; 2],
+    value: u32,
+    digest: [u64; 4],
+}
+
+/// Each kind, and the limits of each number.
+const MADE: [Made; 4] = [
+    Made {
+        kind: CommitKind::Q,
+        race: 1,
+        instance: 0,
+        place: 258,
+        key: [0x0001020304050607, 0x08090a0b0c0d0e0f],
+        value: 679,
+        digest: [
+            0xf49290d02415f85b,
+            0xb2d6251be970d679,
+            0xf03641145cd6bf37,
+            0xf49178f9168bc51a,
+        ],
+    },
+    Made {
+        kind: CommitKind::L,
+        race: 0,
+        instance: 0,
+        place: 0,
+        key: [0x0000000000000000, 0x0000000000000000],
+        value: 0,
+        digest: [
+            0x76847492ddf8c37d,
+            0xcfb28f0e76287299,
+            0x3df081e139081cf5,
+            0xb7eae2bfeda79004,
+        ],
+    },
+    Made {
+        kind: CommitKind::R,
+        race: 31,
+        instance: 15,
+        place: 199999,
+        key: [0xffffffffffffffff, 0xffffffffffffffff],
+        value: 4294967295,
+        digest: [
+            0xd755366c62396091,
+            0xc67595785acede34,
+            0xf014175cc3fde8c7,
+            0x00eff8bd14ce1628,
+        ],
+    },
+    Made {
+        kind: CommitKind::L,
+        race: 2,
+        instance: 3,
+        place: 65536,
+        key: [0x1011121314151617, 0x18191a1b1c1d1e1f],
+        value: 70000,
+        digest: [
+            0x47acfb41edf449de,
+            0x13aaf1ac55586748,
+            0xc60a2ffcfc3c7ebb,
+            0xdfbd9b3a3e2d3b90,
+        ],
+    },
+];
+
 #[test]
 fn commits_and_opens(rt: HostRuntime) {
-    for (kind, race, instance, place, key, value, want) in [
-        (
-            CommitKind::Q,
-            1,
-            0,
-            258,
-            [0x0001020304050607, 0x08090a0b0c0d0e0f],
-            679,
-            [
-                0xf49290d02415f85b,
-                0xb2d6251be970d679,
-                0xf03641145cd6bf37,
-                0xf49178f9168bc51a,
-            ],
-        ),
-        (
-            CommitKind::L,
-            0,
-            0,
-            0,
-            [0x0000000000000000, 0x0000000000000000],
-            0,
-            [
-                0x76847492ddf8c37d,
-                0xcfb28f0e76287299,
-                0x3df081e139081cf5,
-                0xb7eae2bfeda79004,
-            ],
-        ),
-        (
-            CommitKind::R,
-            31,
-            15,
-            199999,
-            [0xffffffffffffffff, 0xffffffffffffffff],
-            4294967295,
-            [
-                0xd755366c62396091,
-                0xc67595785acede34,
-                0xf014175cc3fde8c7,
-                0x00eff8bd14ce1628,
-            ],
-        ),
-        (
-            CommitKind::L,
-            2,
-            3,
-            65536,
-            [0x1011121314151617, 0x18191a1b1c1d1e1f],
-            70000,
-            [
-                0x47acfb41edf449de,
-                0x13aaf1ac55586748,
-                0xc60a2ffcfc3c7ebb,
-                0xdfbd9b3a3e2d3b90,
-            ],
-        ),
-    ] {
+    for made in MADE {
+        let Made {
+            kind,
+            race,
+            instance,
+            place,
+            ..
+        } = made;
         let opening = Opening {
-            key: key_of(key),
-            value,
+            key: key_of(made.key),
+            value: made.value,
         };
-        let want = digest_of(want);
+        let want = digest_of(made.digest);
         assert_eq!(rt; commit(kind, race, instance, place, &opening), want);
         assert!(rt; opens(&want, kind, race, instance, place, &opening));
         assert!(rt; !opens(&want, kind, race, instance, place ^ 1, &opening));

@@ -3,7 +3,7 @@ use Rattle.std.proofs.Common.{◌≡◌, ◌≢◌, ℕ, zero, suc, ◌+◌, ◌
 use Rattle.std.proofs.lemmas.List.{replicate-append-replicate, set-set, set_past}
 use Rattle.std.proofs.lemmas.Option.{get_or_from_slice_get}
 use Rattle.sg_forms.specs.declared.line.CodeLine.{CodeLine}
-use Rattle.sg_record.specs.Gathering.{append_at, append_in, dispute_with, last_with, with_code, with_over, with_paper}
+use Rattle.sg_record.specs.Gathering.{append_at, append_in, dispute_with, last_with}
 use Rattle.sg_record.specs.declared.record.BallotBlock.{BallotBlock}
 use Rattle.sg_record.specs.declared.record.BlockFate.{BlockFate}
 use Rattle.sg_record.specs.declared.record.DisputeBlock.{DisputeBlock}
@@ -58,23 +58,12 @@ last_put_back change blocks out back at one other what many was taken is put =
     ∙ (set-set blocks at other (record { ballot = one.ballot; fate = what })
     ∙ (ap (λ (f : BlockFate). let it : BallotBlock = record { ballot = one.ballot; fate = f } in slice_set blocks at it) is ∙ last_set change blocks at one many was)))
 
-pub code_put_back : (code : CodeLine) (blocks out back : List BallotBlock) (count : ℕ) (one other : BallotBlock) (what : BlockFate) → count ≡ length blocks → count ≢ 0
-    → slice_get blocks (count - 1) ≡ Some one → out ≡ slice_set blocks (count - 1) other → what ≡ with_code code one.fate
-    → back ≡ slice_set out (count - 1) (record { ballot = one.ballot; fate = what }) → back ≡ last_with (with_code code) blocks
-code_put_back code blocks out back count one other what many some was taken is put =
-    last_put_back (with_code code) blocks out back (count - 1) one other what (last_at count (length blocks) many some) was taken is put
-
-pub over_put_back : (race : ℕ) (blocks out back : List BallotBlock) (count : ℕ) (one other : BallotBlock) (what : BlockFate) → count ≡ length blocks → count ≢ 0
-    → slice_get blocks (count - 1) ≡ Some one → out ≡ slice_set blocks (count - 1) other → what ≡ with_over race one.fate
-    → back ≡ slice_set out (count - 1) (record { ballot = one.ballot; fate = what }) → back ≡ last_with (with_over race) blocks
-over_put_back race blocks out back count one other what many some was taken is put =
-    last_put_back (with_over race) blocks out back (count - 1) one other what (last_at count (length blocks) many some) was taken is put
-
-pub paper_put_back : (list : List ℕ) (blocks out back : List BallotBlock) (count : ℕ) (one other : BallotBlock) (what : BlockFate) → count ≡ length blocks → count ≢ 0
-    → slice_get blocks (count - 1) ≡ Some one → out ≡ slice_set blocks (count - 1) other → what ≡ with_paper list one.fate
-    → back ≡ slice_set out (count - 1) (record { ballot = one.ballot; fate = what }) → back ≡ last_with (with_paper list) blocks
-paper_put_back list blocks out back count one other what many some was taken is put =
-    last_put_back (with_paper list) blocks out back (count - 1) one other what (last_at count (length blocks) many some) was taken is put
+-- the same of the block at the end
+pub block_put_back : (change : BlockFate → BlockFate) (blocks out back : List BallotBlock) (count : ℕ) (one other : BallotBlock) (what : BlockFate) → count ≡ length blocks → count ≢ 0
+    → slice_get blocks (count - 1) ≡ Some one → out ≡ slice_set blocks (count - 1) other → what ≡ change one.fate
+    → back ≡ slice_set out (count - 1) (record { ballot = one.ballot; fate = what }) → back ≡ last_with change blocks
+block_put_back change blocks out back count one other what many some was taken is put =
+    last_put_back change blocks out back (count - 1) one other what (last_at count (length blocks) many some) was taken is put
 
 -- no block is there to be changed
 pub last-none : (change : BlockFate → BlockFate) (blocks : List BallotBlock) → length blocks ≡ 0 → blocks ≡ last_with change blocks

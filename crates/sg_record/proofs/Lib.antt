@@ -28,6 +28,7 @@ pub mod ReadLaw
 pub mod SaidWalk
 pub mod SectionLines
 pub mod SlotLines
+pub mod Telling
 pub mod TextLaw
-pub mod Told
+pub mod Walking
 pub mod WholeLaw

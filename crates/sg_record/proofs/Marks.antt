@@ -176,25 +176,30 @@ papers_pass plan (race ∷ races) (list ∷ papers) most some e =
 -- BLOCKS
 
 -- the first of the blocks, and the others
-pub record FirstFate (plan : Plan) (one : BallotBlock) (blocks : List BallotBlock) : Type 0 where
-  pub first : 1 ≤ one.ballot
-  pub last : one.ballot ≤ ballots_of plan
+pub record FirstFate (plan : Plan) (last : ℕ) (one : BallotBlock) (blocks : List BallotBlock) : Type 0 where
+  pub later : last < one.ballot
+  pub within : one.ballot ≤ ballots_of plan
   pub fate : is_fate plan one.ballot one.fate ≡ true
-  pub rest : HaveFates plan blocks
+  pub rest : HaveFates plan one.ballot blocks
 
-pub first_fate : (plan : Plan) (xs : List BallotBlock) (one : BallotBlock) (blocks : List BallotBlock) → xs ≡ one ∷ blocks → HaveFates plan xs → FirstFate plan one blocks
-first_fate plan xs one blocks e have =
-    let parts : HaveFates plan (one ∷ blocks) = rw e at have in
-    record { first = parts.0; last = parts.1; fate = parts.2; rest = parts.3 }
+pub first_fate : (plan : Plan) (last : ℕ) (xs : List BallotBlock) (one : BallotBlock) (blocks : List BallotBlock) → xs ≡ one ∷ blocks → HaveFates plan last xs → FirstFate plan last one blocks
+first_fate plan last xs one blocks e have =
+    let parts : HaveFates plan last (one ∷ blocks) = rw e at have in
+    record { later = parts.0; within = parts.1; fate = parts.2; rest = parts.3 }
 
-pub blocks_pass : (plan : Plan) (last : ℕ) (blocks : List BallotBlock) → are_blocks plan last blocks ≡ true → HaveFates plan blocks
+pub blocks_pass : (plan : Plan) (last : ℕ) (blocks : List BallotBlock) → are_blocks plan last blocks ≡ true → HaveFates plan last blocks
 blocks_pass plan last [] e = tt
 blocks_pass plan last (one ∷ blocks) e =
     let whole = and_parts (is_later plan last one.ballot && is_fate plan one.ballot one.fate) (are_blocks plan one.ballot blocks) e in
     let here = and_parts (is_later plan last one.ballot) (is_fate plan one.ballot one.fate) whole.0 in
     let later = and_parts (nat_lt last one.ballot) (nat_le one.ballot (ballots_of plan)) here.0 in
     let above = ltb-true last one.ballot later.0 in
-    (omega (arith, above), leb-true one.ballot (ballots_of plan) later.1, here.1, blocks_pass plan one.ballot blocks whole.1)
+    (above, leb-true one.ballot (ballots_of plan) later.1, here.1, blocks_pass plan one.ballot blocks whole.1)
+
+-- blocks behind a ballot are behind those before it
+pub fates_behind : (plan : Plan) (least last : ℕ) (blocks : List BallotBlock) → least ≤ last → HaveFates plan last blocks → HaveFates plan least blocks
+fates_behind plan least last [] before have = tt
+fates_behind plan least last (one ∷ blocks) before have = (omega (arith, before, have.0), have.1, have.2, have.3)
 
 -- DISPUTES
 

@@ -98,10 +98,10 @@ ArePapers version [] (list ∷ papers) = ⊥
 ArePapers version (race ∷ races) [] = ⊥
 ArePapers version (race ∷ races) (list ∷ papers) = All (IsCode version) list × (1 ≤ length list) × (length list ≤ 16) × ArePapers version races papers
 
--- each block is of a ballot of the plan, and as its fate wants it
-abbrev pub HaveFates : Plan → List BallotBlock → Type 0
-HaveFates plan [] = Unit {0}
-HaveFates plan (one ∷ blocks) = (1 ≤ one.ballot) × (one.ballot ≤ ballots_of plan) × (is_fate plan one.ballot one.fate ≡ true) × HaveFates plan blocks
+-- the blocks are of rising ballots of the plan behind this one, each as its fate wants it
+abbrev pub HaveFates : Plan → ℕ → List BallotBlock → Type 0
+HaveFates plan last [] = Unit {0}
+HaveFates plan last (one ∷ blocks) = (last < one.ballot) × (one.ballot ≤ ballots_of plan) × (is_fate plan one.ballot one.fate ≡ true) × HaveFates plan one.ballot blocks
 
 -- the codes of the disputes are of the version
 abbrev pub HaveClaims : ℕ → List DisputeBlock → Type 0

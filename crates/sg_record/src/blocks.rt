@@ -1,20 +1,19 @@
 //! Section 2 of a record, written: the blocks of ballots. The blocks of disputes are written likewise.
 ghost use Rattle.std.specs.Prelude.{◌≡◌, ◌≤◌, ◌<◌, ◌^◌, ◌∷◌, ◌++◌, [], ℕ, length, map, take, drop, All, if◌then◌else◌, IfOk, None, true};
 ghost use Rattle.std.specs.List.{flat_map};
-ghost use Rattle.sg_plan.specs.Ballots.{ballots_of};
 ghost use Rattle.sg_plan.specs.Limits.{fault_of};
 ghost use Rattle.sg_forms.specs.Said.Said.{Code, Over, Paper as PaperLine};
 ghost use Rattle.sg_forms.specs.Spelling.{IsCode, longest_line};
 ghost use Rattle.sg_grammar.specs.Due.{each};
 ghost use Rattle.sg_record.specs.Formed.{is_fate};
-ghost use Rattle.sg_record.specs.Lines.{block_lines, cast_race_lines, dispute_lines, fate_lines, paper_lines};
+ghost use Rattle.sg_record.specs.Lines.{block_lines, cast_race_lines, dispute_lines, fate_lines, paper_lines, races_of_ballot};
 ghost use Rattle.sg_record.specs.declared.record.BlockFate.TheVariants as fate;
 ghost use Rattle.sg_record.specs.Writing.{ArePapers, DoNotFall, DoRise, GoesOn, GoesOnOver, HaveClaims, HaveCodes, HaveFates, IsVersion, Puts, has_race, of_race, seen};
 
 use crate::bytes::{know_code, know_number};
-use crate::formed::races_of;
 use crate::lines::put_line;
 use crate::record::{BallotBlock, BlockFate, DisputeBlock};
+use crate::walk::BallotWalk;
 use sg_forms::{CodeLine, Line};
 use sg_outside::{Failed, Sink};
 use sg_plan::{Items, Paper, Plan};
@@ -240,41 +239,40 @@ fn put_cast<O: Sink>(
     put_cast_races(plan, codes, overs, buffer, out)
 }
 
-/// Writes the block of an audited ballot.
+/// Writes the block of an audited ballot with these races.
 #[tactic(auto, using(crate::proofs::Limits::limit_facts))]
 fn put_audited<O: Sink>(
     plan: &Plan,
     ballot: u32,
+    races: &[u32],
     papers: &Paper,
     codes: &Items<CodeLine>,
     buffer: &mut [u8],
     out: &mut O,
 ) -> Result<(), Failed>
     requires limits { fault_of plan.now ≡ None }
-    requires first { 1 ≤ ballot }
-    requires last { ballot ≤ ballots_of plan.now }
+    requires races { races.now ≡ races_of_ballot plan.now ballot }
     requires fate { is_fate plan.now ballot (fate.Audited papers.now codes.now) ≡ true }
     requires room { longest_line ≤ length buffer.old }
     ensures { Puts plan.now.version (seen (O.written out.old) (O.faults out.old)) (seen (O.written out.new) (O.faults out.new)) result (fate_lines plan.now ballot (fate.Audited papers.now codes.now)) }
 {
-    let races = races_of(plan, ballot);
     put_line(plan.version, &Line::Audited(ballot), buffer, out)?;
     put_papers(plan.version, races, papers, buffer, out)?;
     put_codes(plan.version, codes, buffer, out)
 }
 
-/// Writes what a ballot's block says of it.
+/// Writes what the block of a ballot with these races says of it.
 #[tactic(auto, using(crate::proofs::Limits::limit_facts))]
 fn put_fate<O: Sink>(
     plan: &Plan,
     ballot: u32,
+    races: &[u32],
     fate: &BlockFate,
     buffer: &mut [u8],
     out: &mut O,
 ) -> Result<(), Failed>
     requires limits { fault_of plan.now ≡ None }
-    requires first { 1 ≤ ballot }
-    requires last { ballot ≤ ballots_of plan.now }
+    requires races { races.now ≡ races_of_ballot plan.now ballot }
     requires fate { is_fate plan.now ballot fate.now ≡ true }
     requires room { longest_line ≤ length buffer.old }
     ensures { Puts plan.now.version (seen (O.written out.old) (O.faults out.old)) (seen (O.written out.new) (O.faults out.new)) result (fate_lines plan.now ballot fate.now) }
@@ -283,7 +281,7 @@ fn put_fate<O: Sink>(
         BlockFate::Cast(codes, overs) => put_cast(plan, ballot, codes, overs, buffer, out),
         BlockFate::Spoiled => put_line(plan.version, &Line::Spoiled(ballot), buffer, out),
         BlockFate::Audited(papers, codes) => {
-            put_audited(plan, ballot, papers, codes, buffer, out)
+            put_audited(plan, ballot, races, papers, codes, buffer, out)
         }
         BlockFate::Voided => put_line(plan.version, &Line::Voided(ballot), buffer, out),
     }
@@ -297,13 +295,15 @@ pub(crate) fn put_blocks<O: Sink>(
     out: &mut O,
 ) -> Result<(), Failed>
     requires limits { fault_of plan.now ≡ None }
-    requires fates { HaveFates plan.now blocks.now }
+    requires fates { HaveFates plan.now 0 blocks.now }
     requires room { longest_line ≤ length buffer.old }
     ensures { Puts plan.now.version (seen (O.written out.old) (O.faults out.old)) (seen (O.written out.new) (O.faults out.new)) result (flat_map (block_lines plan.now) blocks.now) }
 {
+    let mut walk = BallotWalk::start();
     for at in 0..blocks.len() {
         let block = blocks.get(at);
-        put_fate(plan, block.ballot, &block.fate, buffer, out)?;
+        let races = walk.races_of(plan, block.ballot);
+        put_fate(plan, block.ballot, races, &block.fate, buffer, out)?;
     }
     Ok(())
 }

@@ -4,7 +4,7 @@
 ghost use Rattle.std.specs.Prelude.{◌≡◌, ℕ, ◌==◌, ◌<◌, ◌≤◌, None, IsTrue, IfSome, nat_lt, nat_le, if◌then◌else◌, ◌&&◌, ◌++◌, [], List, length, drop, false};
 ghost use Rattle.std.specs.List.{list_all, list_any};
 ghost use Rattle.std.specs.Option.{option_map_or};
-ghost use Rattle.sg_plan.specs.Ballots.{ballots_of, candidates_of, entries_of};
+ghost use Rattle.sg_plan.specs.Ballots.{candidates_of, entries_of};
 ghost use Rattle.sg_plan.specs.Limits.{fault_of};
 ghost use Rattle.sg_grammar.specs.Due.{ballot_codes, each, race_codes};
 ghost use Rattle.sg_grammar.specs.Walk.{in_order, most_disputes};
@@ -15,6 +15,7 @@ ghost use Rattle.sg_record.specs.Formed.{are_blocks, are_due, are_marks, are_ove
 ghost use Rattle.sg_record.specs.Lines.{races_of_ballot};
 
 use crate::record::{BallotBlock, BlockFate, DisputeBlock, Record};
+use crate::walk::BallotWalk;
 use sg_forms::CodeLine;
 use sg_plan::{Draw, Items, Paper, Plan};
 
@@ -102,19 +103,6 @@ pub(crate) fn count_candidates(plan: &Plan, race: u32) -> usize
     plan.races.get(race as usize).candidates.len()
 }
 
-/// The races of a ballot of the plan.
-pub(crate) fn races_of(plan: &Plan, ballot: u32) -> &[u32]
-    requires first { 1 ≤ ballot }
-    requires last { ballot ≤ ballots_of plan.now }
-    ensures { result.now ≡ races_of_ballot plan.now ballot }
-{
-    let style = plan.style_of(ballot) as usize;
-    if style >= plan.styles.len() {
-        return &[];
-    }
-    plan.styles.get(style).races.as_slice()
-}
-
 /// The number is a code of the plan's version.
 fn is_code(plan: &Plan, code: u16) -> bool
     ensures { result ≡ is_code plan.now code }
@@ -168,15 +156,12 @@ fn is_mark(plan: &Plan, races: &[u32], race: u32, column: u32, code: &CodeLine) 
     is_code(plan, code.code)
 }
 
-/// The codes are marks of a cast ballot: in its races don't fall, and in one race columns rise.
+/// The codes are marks of a cast ballot with these races: races don't fall, and in one race columns rise.
 #[tactic(auto, using(crate::proofs::BlockTests::marks))]
-fn are_marks(plan: &Plan, ballot: u32, codes: &Items<CodeLine>) -> bool
-    requires limits { fault_of plan.now ≡ None }
-    requires first { 1 ≤ ballot }
-    requires last { ballot ≤ ballots_of plan.now }
-    ensures { result ≡ are_marks plan.now ballot 0 0 codes.now }
+fn are_marks(plan: &Plan, races: &[u32], codes: &Items<CodeLine>) -> bool
+    requires { fault_of plan.now ≡ None }
+    ensures { (ballot : ℕ) → races.now ≡ races_of_ballot plan.now ballot → result ≡ are_marks plan.now ballot 0 0 codes.now }
 {
-    let races = races_of(plan, ballot);
     let mut race = 0;
     let mut column = 0;
     for at in 0..codes.len() {
@@ -190,15 +175,12 @@ fn are_marks(plan: &Plan, ballot: u32, codes: &Items<CodeLine>) -> bool
     true
 }
 
-/// The races are of the ballot, and rise.
+/// The races that are over are among these, and rise.
 #[tactic(auto, using(crate::proofs::BlockTests::marks))]
-fn are_overs(plan: &Plan, ballot: u32, overs: &Items<u32>) -> bool
-    requires limits { fault_of plan.now ≡ None }
-    requires first { 1 ≤ ballot }
-    requires last { ballot ≤ ballots_of plan.now }
-    ensures { result ≡ are_overs plan.now ballot 0 overs.now }
+fn are_overs(plan: &Plan, races: &[u32], overs: &Items<u32>) -> bool
+    requires { fault_of plan.now ≡ None }
+    ensures { (ballot : ℕ) → races.now ≡ races_of_ballot plan.now ballot → result ≡ are_overs plan.now ballot 0 overs.now }
 {
-    let races = races_of(plan, ballot);
     let mut least = 0;
     for at in 0..overs.len() {
         let race = *overs.get(at);
@@ -233,13 +215,10 @@ fn is_paper_of(plan: &Plan, race: u32, list: &Items<u16>) -> bool
     are_codes(plan, list.as_slice())
 }
 
-/// A list for each race of the ballot, with a code for each candidate.
-fn are_papers(plan: &Plan, ballot: u32, papers: &Paper) -> bool
-    requires first { 1 ≤ ballot }
-    requires last { ballot ≤ ballots_of plan.now }
-    ensures { result ≡ are_papers plan.now (races_of_ballot plan.now ballot) papers.now }
+/// A list for each of the races, with a code for each candidate.
+fn are_papers(plan: &Plan, races: &[u32], papers: &Paper) -> bool
+    ensures { result ≡ are_papers plan.now races.now papers.now }
 {
-    let races = races_of(plan, ballot);
     for at in 0..papers.len() {
         if at >= races.len() {
             return false;
@@ -295,15 +274,12 @@ fn are_race_codes(plan: &Plan, race: u32, codes: &Items<CodeLine>) -> bool
     }
 }
 
-/// A code for each column of each race of the ballot, and no other.
+/// A code for each column of each of the ballot's races, and no other.
 #[tactic(auto, using(crate::proofs::BlockTests::due))]
-fn are_ballot_codes(plan: &Plan, ballot: u32, codes: &Items<CodeLine>) -> bool
-    requires limits { fault_of plan.now ≡ None }
-    requires first { 1 ≤ ballot }
-    requires last { ballot ≤ ballots_of plan.now }
-    ensures { result ≡ are_due plan.now (each (ballot_codes plan.now ballot) 0 (length plan.now.races)) codes.now }
+fn are_ballot_codes(plan: &Plan, races: &[u32], codes: &Items<CodeLine>) -> bool
+    requires { fault_of plan.now ≡ None }
+    ensures { (ballot : ℕ) → races.now ≡ races_of_ballot plan.now ballot → result ≡ are_due plan.now (each (ballot_codes plan.now ballot) 0 (length plan.now.races)) codes.now }
 {
-    let races = races_of(plan, ballot);
     let mut at = 0;
     for race in 0..plan.races.len() {
         if !has_race(races, race as u32) {
@@ -317,20 +293,18 @@ fn are_ballot_codes(plan: &Plan, ballot: u32, codes: &Items<CodeLine>) -> bool
     at == codes.len()
 }
 
-/// The ballot's block may say this of it.
-fn is_fate(plan: &Plan, ballot: u32, fate: &BlockFate) -> bool
-    requires limits { fault_of plan.now ≡ None }
-    requires first { 1 ≤ ballot }
-    requires last { ballot ≤ ballots_of plan.now }
-    ensures { result ≡ is_fate plan.now ballot fate.now }
+/// The block of a ballot with these races may say this of it.
+fn is_fate(plan: &Plan, races: &[u32], fate: &BlockFate) -> bool
+    requires { fault_of plan.now ≡ None }
+    ensures { (ballot : ℕ) → races.now ≡ races_of_ballot plan.now ballot → result ≡ is_fate plan.now ballot fate.now }
 {
     match fate {
         BlockFate::Cast(codes, overs) => {
-            are_marks(plan, ballot, codes) && are_overs(plan, ballot, overs)
+            are_marks(plan, races, codes) && are_overs(plan, races, overs)
         }
         BlockFate::Spoiled => true,
         BlockFate::Audited(papers, codes) => {
-            are_papers(plan, ballot, papers) && are_ballot_codes(plan, ballot, codes)
+            are_papers(plan, races, papers) && are_ballot_codes(plan, races, codes)
         }
         BlockFate::Voided => plan.version == 2,
     }
@@ -342,6 +316,7 @@ fn are_blocks(plan: &Plan, blocks: &Items<BallotBlock>) -> bool
     ensures { result ≡ are_blocks plan.now 0 blocks.now }
 {
     let ballots = plan.ballots();
+    let mut walk = BallotWalk::start();
     let mut last = 0;
     for at in 0..blocks.len() {
         let block = blocks.get(at);
@@ -351,7 +326,8 @@ fn are_blocks(plan: &Plan, blocks: &Items<BallotBlock>) -> bool
         if block.ballot > ballots {
             return false;
         }
-        if !is_fate(plan, block.ballot, &block.fate) {
+        let races = walk.races_of(plan, block.ballot);
+        if !is_fate(plan, races, &block.fate) {
             return false;
         }
         last = block.ballot;
@@ -406,7 +382,7 @@ impl Record {
     /// Whether the record has a text: its plan keeps its limits, its lists are as long as the plan says, and its codes,
     /// blocks and disputes stand in the order of the rules.
     ///
-    /// Takes no memory. Its time is that of one walk over all lists, and for each block that of the plan's runs.
+    /// Takes no memory. Its time is that of one walk over all lists, and for each dispute that of the plan's runs.
     #[tactic(auto, unfolding(crate::specs::Formed::is_formed))]
     pub fn is_formed(&self) -> bool
         ensures { result ≡ is_formed self.now }

@@ -4,6 +4,7 @@
 ghost use Rattle.std.specs.Prelude.{◌≡◌, IfOk, OnOk};
 ghost use Rattle.sg_forms.specs.Said.{said};
 ghost use Rattle.sg_record.specs.Gathering.{begun, dispute_with, last_with, with_code, with_over, with_paper};
+ghost use Rattle.sg_record.specs.Growing.{change_of};
 
 use crate::record::{BallotBlock, BlockFate, DisputeBlock};
 use sg_forms::{CodeLine, Line};
@@ -69,6 +70,28 @@ fn push_paper(alloc: Global, fate: &mut BlockFate, codes: &[u16]) -> Result<(), 
     }
 }
 
+/// What a line adds to the last block.
+#[derive(Clone, Copy, Debug)]
+pub(crate) enum Addition<'a> {
+    /// A code, to a cast or an audited ballot.
+    Code(CodeLine),
+    /// That this race is over, to a cast ballot.
+    Over(u32),
+    /// The codes of a race read from the paper, to an audited ballot.
+    Paper(&'a [u16]),
+}
+
+/// Puts this behind what the fate has.
+fn push(alloc: Global, fate: &mut BlockFate, more: Addition) -> Result<(), NoMemory>
+    ensures { OnOk result (fate.new ≡ change_of more.entry fate.old) }
+{
+    match more {
+        Addition::Code(code) => push_code(fate, code),
+        Addition::Over(race) => push_over(fate, race),
+        Addition::Paper(codes) => push_paper(alloc, fate, codes),
+    }
+}
+
 /// A block that stands where the last one is taken out.
 fn no_block() -> BallotBlock {
     BallotBlock {
@@ -77,54 +100,21 @@ fn no_block() -> BallotBlock {
     }
 }
 
-/// Puts a code behind those of the last block.
+/// Puts this behind what the last block has.
 #[tactic(auto, using(crate::proofs::Appending::changing))]
-pub(crate) fn push_last_code(
-    blocks: &mut Items<BallotBlock>,
-    code: CodeLine,
-) -> Result<(), NoMemory>
-    ensures { OnOk result (blocks.new ≡ last_with (with_code code) blocks.old) }
-{
-    let count = blocks.len();
-    if count == 0 {
-        return Ok(());
-    }
-    let mut block = blocks.replace(count - 1, no_block());
-    push_code(&mut block.fate, code)?;
-    blocks.replace(count - 1, block);
-    Ok(())
-}
-
-/// Puts a race behind those that are over in the last block.
-#[tactic(auto, using(crate::proofs::Appending::changing))]
-pub(crate) fn push_last_over(blocks: &mut Items<BallotBlock>, race: u32) -> Result<(), NoMemory>
-    ensures { OnOk result (blocks.new ≡ last_with (with_over race) blocks.old) }
-{
-    let count = blocks.len();
-    if count == 0 {
-        return Ok(());
-    }
-    let mut block = blocks.replace(count - 1, no_block());
-    push_over(&mut block.fate, race)?;
-    blocks.replace(count - 1, block);
-    Ok(())
-}
-
-/// Puts a race's codes behind those read from the paper in the last block.
-#[tactic(auto, using(crate::proofs::Appending::changing))]
-pub(crate) fn push_last_paper(
+pub(crate) fn push_last(
     alloc: Global,
     blocks: &mut Items<BallotBlock>,
-    codes: &[u16],
+    more: Addition,
 ) -> Result<(), NoMemory>
-    ensures { OnOk result (blocks.new ≡ last_with (with_paper codes.now) blocks.old) }
+    ensures { OnOk result (blocks.new ≡ last_with (change_of more.entry) blocks.old) }
 {
     let count = blocks.len();
     if count == 0 {
         return Ok(());
     }
     let mut block = blocks.replace(count - 1, no_block());
-    push_paper(alloc, &mut block.fate, codes)?;
+    push(alloc, &mut block.fate, more)?;
     blocks.replace(count - 1, block);
     Ok(())
 }

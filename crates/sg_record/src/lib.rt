@@ -15,12 +15,14 @@ mod openings;
 mod read;
 mod record;
 mod results;
+mod walk;
 mod write;
 
 pub use laws::{formed_law, text_law, whole_law};
 pub use read::read_record;
 pub use record::{BallotBlock, BlockFate, DisputeBlock, Record, RowCommit};
-pub use sg_forms::{CodeLine, Line, RowOpening};
+pub use sg_forms::{CodeLine, Line, RowOpening, write_line};
+pub use sg_grammar::{Expect, Spot, Told, read_line, tell};
 pub use write::{Wrote, write_record};
 
 #[cfg(test)]

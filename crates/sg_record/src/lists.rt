@@ -8,7 +8,7 @@ ghost use Rattle.sg_grammar.specs.Told.{told_line};
 ghost use Rattle.sg_record.specs.Gathering.{blank, sealed};
 ghost use Rattle.sg_record.specs.Growing.{Adds, with_plan};
 
-use crate::last::{begin_fate, push_dispute_code, push_last_code, push_last_over, push_last_paper};
+use crate::last::{Addition, begin_fate, push_dispute_code, push_last};
 use crate::nested::{empty_lists, empty_tables, push_at, push_bits_at, push_bits_in, push_in};
 use crate::record::{BallotBlock, DisputeBlock, Record, RowCommit};
 use hex::FromHexError;
@@ -105,9 +105,10 @@ impl Lists {
                 push_in(alloc, &mut self.row_commits, race, instance, row)
             }
             Told::Code(block, _, _, _, code) => self.add_code(alloc, block, code),
-            Told::Over(_, race) => push_last_over(&mut self.ballots, race),
+            Told::Over(_, race) => push_last(alloc, &mut self.ballots, Addition::Over(race)),
             Told::Paper(_, _, codes, count) => {
-                push_last_paper(alloc, &mut self.ballots, first_codes(&codes, count))
+                let paper = Addition::Paper(first_codes(&codes, count));
+                push_last(alloc, &mut self.ballots, paper)
             }
             Told::Flags(race, instance, _, bits) => {
                 push_bits_in(alloc, &mut self.flags, race, instance, bits)
@@ -141,8 +142,9 @@ impl Lists {
         ensures { OnOk result ((ballot race column : ℕ) → (s : Said) → Adds self.old self.new (CodeAt block ballot race column code) s) }
     {
         match block {
-            Block::Cast => push_last_code(&mut self.ballots, code),
-            Block::Audited => push_last_code(&mut self.ballots, code),
+            Block::Cast | Block::Audited => {
+                push_last(alloc, &mut self.ballots, Addition::Code(code))
+            }
             Block::Dispute => push_dispute_code(alloc, &mut self.disputes, code),
         }
     }

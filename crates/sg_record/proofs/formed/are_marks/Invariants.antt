@@ -1,6 +1,7 @@
-use Rattle.std.proofs.Common.{◌≡◌, drop}
+use Rattle.std.proofs.Common.{◌≡◌, ℕ, drop}
 use Rattle.sg_record.specs.Formed.{are_marks}
+use Rattle.sg_record.specs.Lines.{races_of_ballot}
 use Rattle.sg_record.proofs.formed.are_marks.Given as goal
 
 abbrev pub invariant-loop-at : goal.invariant-loop-at
-invariant-loop-at l = are_marks l.plan l.fn.ballot l.race l.column (drop l.at l.codes) ≡ are_marks l.plan l.fn.ballot 0 0 l.codes
+invariant-loop-at l = (ballot : ℕ) → l.races ≡ races_of_ballot l.plan ballot → are_marks l.plan ballot l.race l.column (drop l.at l.codes) ≡ are_marks l.plan ballot 0 0 l.codes
