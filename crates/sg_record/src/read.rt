@@ -3,6 +3,7 @@ ghost use Rattle.std.specs.Prelude.{◌≡◌, IfOk, IfSome, OnOk, None, Some, i
 ghost use Rattle.std.specs.Option.{option_map};
 ghost use Rattle.sg_forms.specs.Said.{said};
 ghost use Rattle.sg_grammar.specs.Spots.{placed_at};
+ghost use Rattle.sg_grammar.specs.Walk.{is_whole};
 ghost use Rattle.sg_outside.specs.TextLines.{lines_of};
 ghost use Rattle.sg_record.specs.Gathering.{gather, gather_line, nothing_yet};
 ghost use Rattle.sg_record.specs.Growing.{AddsTo, made_of, so_far, with_plan};
@@ -25,7 +26,7 @@ pub fn read_record(alloc: Global, bytes: &[u8]) -> Result<Option<Record>, NoMemo
     let Some(reading) = gather_lines(alloc, bytes)? else {
         return Ok(None);
     };
-    if !reading.expect.whole() {
+    if !reading.is_whole() {
         return Ok(None);
     }
     let posted = reading.into_record(alloc)?;
@@ -69,6 +70,13 @@ impl Reading {
         add_line(alloc, &mut self.lists, self.expect.plan(), at, &line)?;
         self.expect.step(&line);
         Ok(true)
+    }
+
+    /// The lines so far are a whole record.
+    fn is_whole(&self) -> bool
+        ensures { result ≡ is_whole (so_far self.now).next }
+    {
+        self.expect.whole()
     }
 
     /// The record of the lines.
