@@ -1,7 +1,7 @@
 #!/usr/bin/env bash
 # Feeds `audit` what no office would post, and prints the report, the status, the time and the peak memory of each.
 #
-#   bench/hostile.sh        (at the top of the repository, after bench/audit.sh)
+#   bench/hostile.sh        (at the top of the repository)
 set -u
 cd "$(dirname "$0")/.." || exit 1
 . bench/program.sh

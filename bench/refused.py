@@ -75,7 +75,7 @@ def cases(lines, version):
     for number, line in enumerate(lines):
         words = line[:-1].split(b" ")
         for place, word in enumerate(words[1:], 1):
-            is_code = words[0] in (b"paper", b"dispute", b"code") and (place > 1 and words[0] != b"code" or place > 2)
+            is_code = place > {b"paper": 1, b"code": 2, b"dispute": 2}.get(words[0], len(words))
             is_bits = words[0] in (b"flags", b"places") and place == len(words) - 1
             if re.fullmatch(rb"0|[1-9][0-9]{0,9}", word) and words[0] != b"draw" and not is_code and not is_bits:
                 if (words[0], place) not in seen:

@@ -113,12 +113,33 @@ const MANY_BITS: [(usize, &str); 25] = [
         "total 0 5 0\ntotal 0 6 0\ntotal 0 7 0\ntotal 0 8 0\ntotal 0 9 0\n",
     ),
     (1, "total 0 10 0\ntotal 0 11 0\ntotal 0 12 0\n"),
-    (1, "total 1 0 7\ntotal 1 1 0\n"),
+    (1, "total 1 0 0\ntotal 1 1 0\n"),
     (1, "seal 2 @\n"),
     (1, "draw full\n"),
     (65, "left $ 3\n"),
     (1, "seal 3 #\n"),
 ];
+
+/// The text of a record with one ballot, and two codes.
+const ONE_BALLOT: [(usize, &str); 14] = [
+    (1, "scantegrity2 1\n"),
+    (1, "election Town\n"),
+    (1, "instances 1\n"),
+    (1, "race Mayor 2 1\ncand A\ncand B\n"),
+    (1, "style One 0\n"),
+    (1, "ballots 0 1\n"),
+    (2, "code-commit 0 #\n"),
+    (2, "row-commit 0 0 # @\n"),
+    (1, "seal 1 #\n"),
+    (1, "flags 0 0 00\nplaces 0 00\ntotal 0 0 0\ntotal 0 1 0\n"),
+    (1, "seal 2 @\n"),
+    (1, "draw full\n"),
+    (2, "left $ 3\n"),
+    (1, "seal 3 #\n"),
+];
+
+/// The block of a dispute of that ballot.
+const DISPUTE: &str = "dispute 1 0 003 absent\ncode 0 0 $ 001\ncode 0 1 $ 002\n";
 
 /// A text that is written out.
 fn text_of(alloc: Global, lines: &[(usize, &str)]) -> Result<Vec<u8>, AllocError> {
@@ -356,7 +377,11 @@ fn many_bits(alloc: Global) -> Result<Record, NoMemory> {
         styles,
         runs: items(alloc, &[Run { style: 0, count: 5 }])?,
     };
-    record(alloc, plan, [65, 0], [13, 2], Draw::Full)
+    let mut posted = record(alloc, plan, [65, 0], [13, 2], Draw::Full)?;
+    posted.totals = Items::new(alloc);
+    posted.totals.push(one_of(alloc, 7, 0, 13)?)?;
+    posted.totals.push(one_of(alloc, 0, 0, 2)?)?;
+    Ok(posted)
 }
 
 #[test]
@@ -430,5 +455,22 @@ fn reads_what_it_writes(rt: HostRuntime) -> Result<(), Fail> {
         assert!(rt; !is_read(alloc, &text[..text.len().saturating_sub(1)])?);
     }
     assert!(rt; read_record(alloc, b"")?.is_none());
+    Ok(())
+}
+
+#[test]
+fn takes_no_dispute_behind_the_last(rt: HostRuntime) -> Result<(), Fail> {
+    let alloc = rt.alloc();
+    for (disputes, is_taken) in [(0, true), (10_000, true), (10_001, false)] {
+        let mut text = text_of(alloc, &ONE_BALLOT)?;
+        for _ in 0..disputes {
+            push_line(&mut text, DISPUTE.as_bytes())?;
+        }
+        assert_eq!(rt;
+            read_record(alloc, &text)?.is_some(),
+            is_taken,
+            "{disputes}"
+        );
+    }
     Ok(())
 }
