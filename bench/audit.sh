@@ -28,12 +28,12 @@ print("%.4f %d" % (min(times), resource.getrusage(resource.RUSAGE_CHILDREN).ru_m
 PY
 }
 
-# a name, and what bench/record.py is to make
+# a name, and the script that makes the record, with its words
 measure() {
     name=$1
     shift
     record=$made/$name.record
-    [ -f "$record" ] || python3 bench/record.py "$@" > "$record" || exit 1
+    [ -f "$record" ] || python3 "$@" > "$record" || exit 1
     first=$("$program" audit < "$record" | head -1)
     read -r audit_time memory <<< "$(best "$record" "$program" audit)"
     read -r hash_time _ <<< "$(best "$record" sha256sum)"
@@ -46,11 +46,11 @@ print("%-24s rows %-6s bytes %-8d audit %.3f s (%s)  sha256sum %.3f s  ratio %.2
 PY
 }
 
-measure full-20000 2000 10
-measure full-200000 20000 10
-measure full-200000-version-2 12500 16 --version 2
-measure public-20000 800 5 --instances 5 --draw "$zeros" --audited 20 --spoiled 20
-measure public-200000 8000 5 --instances 5 --draw "$zeros" --audited 200 --spoiled 200
-measure town 1700 4,3 --instances 5 --draw "$zeros" --audited 50 --spoiled 50
-measure runs-20000 20000 2 --instances 5 --runs 20000 --draw "$zeros"
-measure longest 12500 16 --version 2 --disputes 10000
+measure full-20000 bench/record.py 2000 10
+measure full-200000 bench/record.py 20000 10
+measure full-200000-version-2 bench/record.py 12500 16 --version 2
+measure public-20000 bench/record.py 800 5 --instances 5 --draw "$zeros" --audited 20 --spoiled 20
+measure public-200000 bench/record.py 8000 5 --instances 5 --draw "$zeros" --audited 200 --spoiled 200
+measure town bench/record.py 1700 4,3 --instances 5 --draw "$zeros" --audited 50 --spoiled 50
+measure runs-20000 bench/record.py 20000 2 --instances 5 --runs 20000 --draw "$zeros"
+measure longest bench/longest.py

@@ -1,6 +1,6 @@
 #!/usr/bin/env bash
-# Times reading and writing a record of some 70 MB, line by line and as a whole, beside a copy of its bytes; and one of
-# 43 MB whose plan has a run for each of its 20,000 ballots.
+# Times reading and writing the longest record (82 MB), line by line and as a whole, beside a copy of its bytes; and one
+# of 43 MB whose ballots are cast, with a run for each of its 20,000 ballots.
 #
 #   bench/lines.sh        (at the top of the repository, after bench/audit.sh, which makes the records)
 set -u
