@@ -57,7 +57,7 @@ pub fn count_rows_before(plan: &Plan, race: u32, ballots: u32) -> u32
 }
 
 /// How many of so many ballots of a style have the race: all or none.
-fn rows_of_run(plan: &Plan, race: u32, style: u32, count: u32) -> u32
+pub fn rows_of_run(plan: &Plan, race: u32, style: u32, count: u32) -> u32
     ensures { result ≡ (if style_has plan.now race style then count else 0) }
 {
     if plan.style_carries(style, race) {
