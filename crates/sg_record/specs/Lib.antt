@@ -1,6 +1,8 @@
 pub mod Lines
 pub mod Formed
 pub mod Laws
+pub mod Places
+pub mod Typed
 pub mod Gathering
 pub mod Growing
 pub mod Walking

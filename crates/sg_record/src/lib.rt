@@ -15,14 +15,16 @@ mod openings;
 mod read;
 mod record;
 mod results;
+mod typed;
 mod walk;
 mod write;
 
-pub use laws::{formed_law, text_law, whole_law};
+pub use laws::{formed_law, lines_law, text_law, walk_law, whole_law, words_law};
 pub use read::read_record;
 pub use record::{BallotBlock, BlockFate, DisputeBlock, Record, RowCommit};
 pub use sg_forms::{CodeLine, Line, RowOpening, write_line};
-pub use sg_grammar::{Expect, Spot, Meaning, read_line, meaning_of};
+pub use sg_grammar::{Expect, Meaning, Spot, meaning_of, read_line};
+pub use typed::{know_types, know_words};
 pub use write::{Wrote, write_record};
 
 #[cfg(test)]
