@@ -9,6 +9,7 @@ mod ordering;
 mod reading;
 mod row_codes;
 mod seeds;
+mod short_orders;
 
 pub use coin_sides::{Coins, coin, coin_key, side_of_word};
 pub use laws::{one_order_law, one_to_one_law, row_codes_law};
@@ -17,6 +18,7 @@ pub use ordering::order;
 pub use reading::{Words, word};
 pub use row_codes::codes;
 pub use seeds::{Seed, stream};
+pub use short_orders::short_order;
 
 #[cfg(test)]
 mod tests;

@@ -5,12 +5,12 @@ ghost use Rattle.sg_plan.specs.Limits.{fault_of};
 ghost use Rattle.sg_streams.specs.Numbers.{numbers_below};
 ghost use Rattle.sg_streams.specs.Order.{IsOneToOne, order_of};
 ghost use Rattle.sg_streams.specs.Streams.{stream_number};
-ghost use Rattle.sg_tables.specs.Kept.{KeepsRace, KeepRaces, inverse, kept_codes, kept_columns, kept_shown};
+ghost use Rattle.sg_tables.specs.inside.Kept.{KeepsRace, KeepRaces, inverse, kept_codes, kept_columns, kept_shown};
 
 use crate::purposes::{CODES, COLUMNS, PLACES, ROWS};
 use crate::race_lists::RaceLists;
 use sg_plan::{Items, NoMemory, Plan};
-use sg_streams::{Seed, codes, order, stream};
+use sg_streams::{Seed, codes, order, short_order, stream};
 use std::alloc::Global;
 
 /// The most candidates that a race may have.
@@ -108,12 +108,10 @@ fn draw_entries(
     let mut shown = Items::new(alloc);
     let mut columns = Items::new(alloc);
     for row in 0..rows {
-        let order = order(alloc, seed, stream(COLUMNS, race, row), candidates)?;
-        append(&mut shown, order.as_slice())?;
-        append(
-            &mut columns,
-            &inverse_of(order.as_slice())[..candidates as usize],
-        )?;
+        let order = short_order(seed, stream(COLUMNS, race, row), candidates);
+        let order = &order[..candidates as usize];
+        append(&mut shown, order)?;
+        append(&mut columns, &inverse_of(order)[..candidates as usize])?;
     }
     Ok(Entries { shown, columns })
 }
