@@ -3,20 +3,16 @@
 use Rattle.std.specs.Prelude.{ℕ, ◌+◌, ◌*◌, ◌==◌, if◌then◌else◌, Bool, false, ◌&&◌, not, List, length, map, filter}
 use Rattle.std.specs.List.{list_any}
 use Rattle.sg_plan.specs.Ballots.{candidates_of, is_over}
+use Rattle.sg_plan.specs.Fates.{has_mark}
 use Rattle.sg_plan.specs.declared.plan.ClaimWord.{ClaimWord}
 use Rattle.sg_plan.specs.declared.plan.ClaimWord.TheVariants as answer
 use Rattle.sg_plan.specs.declared.plan.Fate.{Fate}
 use Rattle.sg_plan.specs.declared.plan.Fate.TheVariants as fate
-use Rattle.sg_plan.specs.declared.plan.Mark.{Mark}
 use Rattle.sg_plan.specs.declared.plan.Plan.{Plan}
 use Rattle.sg_streams.specs.Numbers.{numbers_below}
 use Rattle.sg_tables.specs.Tables.{code_of_entry, codes_of_row, shown_by}
 
 -- MARKS
-
--- one of the marks is beside the candidate of the race
-abbrev pub has_mark : List Mark → ℕ → ℕ → Bool
-has_mark marks race candidate = list_any (λ mark. mark.race == race && mark.candidate == candidate) marks
 
 -- a ballot with this fate marks the candidate: it is cast, has a mark there, and has no more marks in the race than
 -- a voter has votes

@@ -1,7 +1,8 @@
 //! What a ballot posts in a race, by its ballot row and its fate.
 ghost use Rattle.std.specs.Prelude.{◌≡◌, ◌<◌, ◌==◌, ◌&&◌, length, IfOk};
 ghost use Rattle.sg_plan.specs.Ballots.{candidates_of, entries_of, rows_of};
-ghost use Rattle.sg_tables.specs.Posts.{column_marked, fate_marks, has_code, has_mark, is_void, marked_columns, posted_codes, right_word, row_entry, void_races};
+ghost use Rattle.sg_plan.specs.Fates.{has_mark};
+ghost use Rattle.sg_tables.specs.Posts.{column_marked, fate_marks, has_code, is_void, marked_columns, posted_codes, right_word, row_entry, void_races};
 ghost use Rattle.sg_tables.specs.Tables.{code_of_entry, codes_of_row, shown_by};
 
 use crate::table_set::Tables;

@@ -9,7 +9,6 @@ ghost use Rattle.sg_tables.specs.Tables.{code_beside, code_of_entry, entry_showi
 
 use crate::drawing::draw_races;
 use crate::opening_walks::{LeftOpenings, QOpenings, RightOpenings};
-use crate::plan_copies::copy_plan;
 use crate::purposes::{ENTRY_KEYS, LEFT_KEYS, RIGHT_KEYS};
 use crate::race_lists::RaceLists;
 use sg_commit::{Key, Opening};
@@ -47,7 +46,7 @@ impl Tables {
         ensures { IfOk result (λ tables. tables ≡ record { plan = plan.now; seed = seed.now.0 }) }
     {
         let races = draw_races(alloc, plan, seed)?;
-        let plan = copy_plan(alloc, plan)?;
+        let plan = plan.copy(alloc)?;
         Ok(Tables {
             plan,
             seed: *seed,

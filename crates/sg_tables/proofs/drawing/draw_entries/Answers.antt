@@ -40,8 +40,8 @@ loop-row-preserved c =
     let drawn = shown_drawn plan seed race row k c.stream.result c.short_order-order.result is c.stream.ensures c.short_order-order.ensures in
     let places = columns_drawn plan seed race row k (take k c.short_order-order.result) c.inverse_of.result is drawn c.inverse_of.ensures in
     record {
-      shown = flat_below-more (shown_in_row plan seed race) row c.loop-row.shown c.append.new.list _
-          c.loop-row.invariant.shown drawn c.in_ok-append.ensures;
-      columns = flat_below-more (columns_of_row plan seed race) row c.loop-row.columns c.append-in-loop-row.new.list _
-          c.loop-row.invariant.columns places c.in_ok-append-2.ensures;
+      shown = flat_below-more (shown_in_row plan seed race) row c.loop-row.shown c.extend.new.self _
+          c.loop-row.invariant.shown drawn c.in_ok-extend.ensures.ok;
+      columns = flat_below-more (columns_of_row plan seed race) row c.loop-row.columns c.extend-in-loop-row.new.self _
+          c.loop-row.invariant.columns places c.in_ok-extend-2.ensures.ok;
     }

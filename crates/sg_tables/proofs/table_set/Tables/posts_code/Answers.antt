@@ -1,5 +1,5 @@
 -- No column before this one posts the code.
-use Rattle.std.proofs.Common.{◌≡◌, ℕ, false, arith, ap, sym, ◌∙◌}
+use Rattle.std.proofs.Common.{◌≡◌, ℕ, arith, ap, sym, ◌∙◌}
 use Rattle.sg_plan.specs.Ballots.{candidates_of}
 use Rattle.sg_tables.specs.Posts.{column_marked, has_code, marked_columns, posted_codes, row_entry}
 use Rattle.sg_tables.specs.Tables.{code_of_entry}
