@@ -7,11 +7,11 @@ use Rattle.sg_plan.specs.Ballots.{ballot_has, candidates_of}
 use Rattle.sg_plan.specs.Limits.{fault_of}
 use Rattle.sg_plan.specs.declared.plan.Plan.{Plan}
 use Rattle.sg_forms.specs.Said.{Said}
-use Rattle.sg_forms.specs.Said.Said.{Code, Over, Paper}
+use Rattle.sg_forms.specs.Said.Said.{Code, Over}
 use Rattle.sg_forms.specs.declared.line.CodeLine.{CodeLine}
 use Rattle.sg_grammar.specs.Due.{audit, ballot_codes, code_line, each, numbered, race_codes}
 use Rattle.sg_grammar.specs.Placed.{Placed}
-use Rattle.sg_grammar.specs.Placed.Placed.{CodeAt, OfPlan, OverAt, PaperAt}
+use Rattle.sg_grammar.specs.Placed.Placed.{CodeAt, OfPlan, OverAt}
 use Rattle.sg_grammar.specs.Walk.{Next, behind, is_later, most_disputes, take_line}
 use Rattle.sg_grammar.specs.declared.state.Block.{Block}
 use Rattle.sg_grammar.specs.declared.state.Block.TheVariants as block

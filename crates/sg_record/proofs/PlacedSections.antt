@@ -1,5 +1,5 @@
 -- The lines of the commitments, and those behind the ballots, each in its place.
-use Rattle.std.proofs.Common.{◌≡◌, ℕ, zero, suc, ◌+◌, ◌-◌, ◌*◌, ◌<◌, ◌==◌, min, Bool, true, List, [], ◌∷◌, ◌++◌, length, map, take, drop, slice_index_or, get_or, Some, refl, subst, ap, ◌∙◌, append_assoc, arith}
+use Rattle.std.proofs.Common.{◌≡◌, ℕ, zero, suc, ◌+◌, ◌-◌, ◌*◌, ◌<◌, ◌==◌, min, Bool, true, List, [], ◌∷◌, ◌++◌, length, take, drop, slice_index_or, get_or, Some, refl, subst, ap, ◌∙◌, append_assoc, arith}
 use Rattle.std.proofs.lemmas.Bool.{eq-eqb}
 use Rattle.std.proofs.lemmas.List.{length-drop, length-map, length-take}
 use Rattle.sg_commit.specs.declared.Digest.{Digest}
@@ -16,12 +16,12 @@ use Rattle.sg_grammar.specs.Placed.Placed.{CodeCommitAt, FlagsAt, PlacesAt, RowA
 use Rattle.sg_grammar.specs.Walk.{place}
 use Rattle.sg_grammar.specs.declared.state.Slot.TheVariants as slot
 use Rattle.sg_record.proofs.Filling.{Each}
-use Rattle.sg_record.proofs.FormedParts.{IsFormed, commits_of, results_of}
+use Rattle.sg_record.proofs.FormedParts.{commits_of, results_of}
 use Rattle.sg_record.proofs.Placing.{FillsAs, as-append, as-each, as-items, as-one}
 use Rattle.sg_record.proofs.SectionLines.{AreCommits, AreResults, AreTallies, HasEntries, HasFlags, HasPlaces, HasRows, HasTotals}
 use Rattle.sg_record.proofs.SlotLines.{Any, Counts}
-use Rattle.sg_record.specs.Lines.{bit_sign, code_commit_line, commit_lines, draw_line, flag_lines, indexed, instance_row_commit_lines, instance_row_lines, opening_lines, place_lines, race_code_commit_lines, race_result_lines, race_row_commit_lines, race_row_lines, result_lines, row_commit_line, row_line, seal_line, signs_on, total_line as total_lines}
-use Rattle.sg_record.specs.Places.{code_commit_place, commit_places, draw_place, flag_place, flag_places, instance_row_commit_places, instance_row_places, opening_places, race_code_commit_places, race_result_places, race_row_commit_places, race_row_places, result_places, row_commit_place, row_place, seal_place, set_place, set_places, total_place}
+use Rattle.sg_record.specs.Lines.{bit_sign, code_commit_line, commit_lines, draw_line, flag_lines, indexed, instance_row_commit_lines, instance_row_lines, opening_lines, place_lines, race_code_commit_lines, race_result_lines, race_row_commit_lines, race_row_lines, result_lines, row_commit_line, row_line, signs_on, total_line as total_lines}
+use Rattle.sg_record.specs.Places.{code_commit_place, commit_places, draw_place, flag_place, flag_places, instance_row_commit_places, instance_row_places, opening_places, race_code_commit_places, race_result_places, race_row_commit_places, race_row_places, result_places, row_commit_place, row_place, set_place, set_places, total_place}
 use Rattle.sg_record.specs.declared.record.Record.{Record}
 use Rattle.sg_record.specs.declared.record.RowCommit.{RowCommit as RowDigests}
 

@@ -1,21 +1,19 @@
 -- The walk over the lines of each formed record's text, with its places; and the lines of that text.
-use Rattle.std.proofs.Common.{◌≡◌, ℕ, ◌+◌, true, List, [], ◌∷◌, ◌++◌, length, map, drop, Some, refl, subst, ap, append_assoc, arith, ◌∙◌}
+use Rattle.std.proofs.Common.{◌≡◌, ℕ, ◌+◌, true, List, [], ◌∷◌, ◌++◌, length, map, drop, refl, subst, ap, append_assoc, arith}
 use Rattle.std.specs.List.{flat_map}
 use Rattle.sg_outside.proofs.LineLemmas.{lines_of-concat}
-use Rattle.sg_outside.specs.TextLines.{lines_of}
 use Rattle.sg_commit.specs.declared.Digest.{Digest}
 use Rattle.sg_forms.specs.Said.{Said}
 use Rattle.sg_forms.specs.Spelling.{spelling}
 use Rattle.sg_grammar.specs.Due.{results}
 use Rattle.sg_grammar.specs.Placed.{Placed}
 use Rattle.sg_grammar.specs.Placed.Placed.{OfPlan}
-use Rattle.sg_grammar.specs.Walk.{Next, Posted, Walked, behind, start, walk}
+use Rattle.sg_grammar.specs.Walk.{Next, Posted, behind, start, walk}
 use Rattle.sg_grammar.specs.declared.state.Part.TheVariants as part
 use Rattle.sg_record.proofs.BodyOut.{run_state}
 use Rattle.sg_record.proofs.BytesWalk.{AreIn-from_All}
-use Rattle.sg_record.proofs.Filling.{AreIn}
 use Rattle.sg_record.proofs.FormedLaw.{has_form}
-use Rattle.sg_record.proofs.FormedParts.{IsFormed, results_of, commits_of}
+use Rattle.sg_record.proofs.FormedParts.{IsFormed}
 use Rattle.sg_record.proofs.PlacedBlocks.{GoesBehind, blocks-as, disputes-as}
 use Rattle.sg_record.proofs.PlacedSections.{commits-as, results-as}
 use Rattle.sg_record.proofs.Placing.{FillsAs, GoesAs, as-fills, as-goes, goes_as-append, goes_as-commits, goes_as-length, goes_as-plan, goes_as-results, start_as-walks}
@@ -24,7 +22,7 @@ use Rattle.sg_record.proofs.TextLaw.{spelled_lines}
 use Rattle.sg_record.specs.Formed.{is_formed}
 use Rattle.sg_record.specs.Laws.{FormedAreWalked, HasWords, TextsHaveLines}
 use Rattle.sg_record.specs.Lines.{block_lines, commit_lines, dispute_lines, lines_in, opening_lines, plan_lines, result_lines, text_of, texts_in}
-use Rattle.sg_record.specs.Places.{behind_record, block_places, commit_places, dispute_places, opening_places, places_in, posts, result_places, walk_of}
+use Rattle.sg_record.specs.Places.{behind_record, block_places, commit_places, dispute_places, opening_places, places_in, posts, result_places}
 use Rattle.sg_record.specs.declared.record.Record.{Record}
 
 -- the lines of a formed record, one after another in their places

@@ -34,14 +34,14 @@ use Rattle.sg_record.proofs.BytesWalk.{All-from_AreIn}
 use Rattle.sg_grammar.proofs.Making.{candidates_within}
 use Rattle.sg_record.proofs.CastLines.{first_mark}
 use Rattle.sg_record.proofs.Filling.{AreIn, AreIn-append, Each}
-use Rattle.sg_record.proofs.FormedLists.{FormedLists, formed_parts}
-use Rattle.sg_record.proofs.FormedParts.{IsFormed, commits_of, form-from, results_of}
+use Rattle.sg_record.proofs.FormedLists.{formed_parts}
+use Rattle.sg_record.proofs.FormedParts.{form-from}
 use Rattle.sg_record.proofs.Limits.{ballot_two, limits_of, styles_of}
 use Rattle.sg_record.proofs.PlacedSections.{Each-get}
-use Rattle.sg_record.proofs.SectionLines.{HasFlags, HasPlaces, HasTotals, HasEntries, HasRows}
+use Rattle.sg_record.proofs.SectionLines.{HasFlags, HasTotals, HasEntries, HasRows}
 use Rattle.sg_record.proofs.SlotLines.{Any, Counts}
-use Rattle.sg_record.specs.Formed.{are_blocks, are_due, are_marks, are_overs, are_papers, is_code, is_dispute, is_draw, is_due, is_fate, is_formed}
-use Rattle.sg_record.specs.Laws.{HasWords, TypedHaveWords}
+use Rattle.sg_record.specs.Formed.{are_blocks, are_due, are_marks, are_overs, are_papers, is_code, is_dispute, is_draw, is_fate, is_formed}
+use Rattle.sg_record.specs.Laws.{TypedHaveWords}
 use Rattle.sg_record.specs.Lines.{block_lines, cast_race_lines, code_commit_line, commit_lines, dispute_lines, draw_line, fate_lines, flag_lines, indexed, instance_row_commit_lines, instance_row_lines, lines_in, opening_lines, paper_lines, place_lines, plan_lines, race_code_commit_lines, race_lines, race_result_lines, race_row_commit_lines, race_row_lines, races_of_ballot, result_lines, row_commit_line, row_line, run_line, signs_on, style_line, total_line}
 use Rattle.sg_record.specs.Typed.{AreDigests, AreDrawn, BlockHasKeys, DisputeHasKeys, HasKey, HaveKeys, IsDigest, IsTyped}
 use Rattle.sg_record.specs.Writing.{StyleFits}

@@ -1,6 +1,6 @@
 -- What the types of the program hold of the numbers of a record, whose definitions here take any: keys, digests and
 -- public bytes consist of bytes, and numbers have 32 bits.
-use Rattle.std.specs.Prelude.{ℕ, ◌<◌, List, All}
+use Rattle.std.specs.Prelude.{◌<◌, All}
 use Rattle.sg_commit.specs.declared.Digest.{Digest}
 use Rattle.sg_plan.specs.declared.plan.Draw.{Draw}
 use Rattle.sg_plan.specs.declared.plan.Draw.TheVariants as drawn
