@@ -8,5 +8,5 @@ pub mod Placed
 pub mod Slots
 pub mod Spots
 pub mod Standing
-pub mod Told
+pub mod Meaning
 pub mod Walk

@@ -10,11 +10,11 @@ mod reading;
 mod slots;
 mod spots;
 mod state;
-mod told;
+mod meaning;
 
 pub use expecting::Expect;
 pub use laws::{few_totals_law, fronts_law, lines_law};
 pub use reading::read_line;
 pub use sg_forms::{CodeLine, Line, RowOpening};
 pub use state::{Block, Head, Part, Slot, Spot};
-pub use told::{Told, tell};
+pub use meaning::{Meaning, meaning_of};

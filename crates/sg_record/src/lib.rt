@@ -22,7 +22,7 @@ pub use laws::{formed_law, text_law, whole_law};
 pub use read::read_record;
 pub use record::{BallotBlock, BlockFate, DisputeBlock, Record, RowCommit};
 pub use sg_forms::{CodeLine, Line, RowOpening, write_line};
-pub use sg_grammar::{Expect, Spot, Told, read_line, tell};
+pub use sg_grammar::{Expect, Spot, Meaning, read_line, meaning_of};
 pub use write::{Wrote, write_record};
 
 #[cfg(test)]
