@@ -1,3 +1,4 @@
+//! Where a line behind the plan stands, and what may stand behind it.
 ghost use Rattle.std.specs.Prelude.{◌≡◌, ◌<◌, ◌≤◌, nat_lt, Bool, true, false, ◌&&◌, None, IfSome, length};
 ghost use Rattle.std.specs.Option.{option_map};
 ghost use Rattle.sg_plan.specs.Ballots.{ballots_of, ballot_has, candidates_of};
@@ -21,8 +22,10 @@ use sg_plan::ClaimWord;
 const MOST_DISPUTES: u32 = 10_000;
 
 /// Where a line behind the plan stands, and what may stand behind it.
+///
+/// `Expect::stand` gives it of a line, and `Expect::go_on` takes it.
 #[derive(Clone, Copy, Debug)]
-pub(crate) struct Standing {
+pub struct Standing {
     /// Where the line stands.
     pub spot: Spot,
     /// The line that is due behind it.
@@ -32,7 +35,7 @@ pub(crate) struct Standing {
 }
 
 /// The line in the place of the one that is due.
-#[tactic(auto, using(crate::proofs::Standing::standing))]
+#[tactic(auto, using(crate::proofs::DueLines::standing))]
 fn stand_due(plan: &CountedPlan, slot: Slot, part: Part, line: &Line) -> Option<Standing>
     requires sized { HasSizes plan.now }
     requires slot { IsIn plan.now slot }

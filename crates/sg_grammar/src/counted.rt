@@ -1,3 +1,4 @@
+//! What is counted of a plan while its lines come.
 ghost use Rattle.std.specs.Prelude.{◌≡◌, ◌==◌, ◌+◌, ◌-◌, ◌^◌, ◌<◌, ◌≤◌, ◌++◌, ◌∷◌, [], if◌then◌else◌, length, replicate, slice_get, false, IfNone, IfOk, IfSome, IsSome, None, OnErr, OnOk, Some};
 ghost use Rattle.sg_plan.specs.Ballots.{ballot_has, ballots_of, candidates_of, entries_of, style_of_ballot};
 ghost use Rattle.sg_forms.specs.Said.{said};

@@ -1,3 +1,4 @@
+//! The lines of the plan: where each may stand, and how it is taken.
 ghost use Rattle.std.specs.Prelude.{◌≡◌, ◌+◌, ◌<◌, ◌≤◌, ◌++◌, ◌∷◌, [], if◌then◌else◌, false, is_some, length, nat_lt, nat_le, ◌&&◌, take, IfOk, IsSome, OnErr, OnOk, Some};
 ghost use Rattle.sg_plan.specs.Ballots.{all_entries, ballots_of, r_rows};
 ghost use Rattle.sg_plan.specs.Limits.{is_version, race_head_keeps, run_keeps, style_keeps};
@@ -432,13 +433,9 @@ mod tests {
     use std::process::Abort;
     use std::test::Fail;
 
-    #[test]
-    #[tactic(auto, using(crate::proofs::Making::made_so_far))]
-    fn each_line_is_added(rt: HostRuntime) -> Result<(), Fail> {
-        let alloc = rt.alloc();
-        let mut plan = CountedPlan::new(alloc);
-        let mut head = Head::Version;
-        let lines = [
+    /// The lines of a plan with two races and two styles.
+    fn plan_lines() -> [Line<'static>; 14] {
+        [
             Line::Version(1),
             Line::Election(b"E"),
             Line::Instances(16),
@@ -469,8 +466,16 @@ mod tests {
             },
             Line::Ballots { style: 1, count: 2 },
             Line::Ballots { style: 0, count: 3 },
-        ];
-        for line in &lines {
+        ]
+    }
+
+    #[test]
+    #[tactic(auto, using(crate::proofs::Making::made_so_far))]
+    fn each_line_is_added(rt: HostRuntime) -> Result<(), Fail> {
+        let alloc = rt.alloc();
+        let mut plan = CountedPlan::new(alloc);
+        let mut head = Head::Version;
+        for line in &plan_lines() {
             assert!(rt; may_stand_in_head(&plan, head, line), "{line:?}");
             head = plan.add(alloc, head, line)?;
         }

@@ -101,7 +101,13 @@ fn meaning_of_row_commit<'a>(race: u32, instance: u32, row: u32, line: &Line<'a>
 }
 
 /// A code, where the line is one.
-fn meaning_of_code<'a>(block: Block, ballot: u32, race: u32, column: u32, line: &Line<'a>) -> Meaning<'a>
+fn meaning_of_code<'a>(
+    block: Block,
+    ballot: u32,
+    race: u32,
+    column: u32,
+    line: &Line<'a>,
+) -> Meaning<'a>
     ensures { HasMeaning (placed_at (Spot.Code block ballot race column) (said line.now)) result }
 {
     match *line {
