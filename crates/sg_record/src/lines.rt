@@ -12,7 +12,7 @@ use sg_forms::{Line, write_line};
 use sg_outside::{Failed, Sink};
 
 /// Writes a line with its line feed. The buffer has room for any line.
-#[tactic(auto, using(crate::proofs::Putting::one_line))]
+#[tactic(auto, using(crate::proofs::Putting::one_line, sg_forms::proofs::Fits::in_range_fits))]
 pub(crate) fn put_line<O: Sink>(
     version: u32,
     line: &Line,
