@@ -1,6 +1,6 @@
 //! Lines in their places, as the plain verdict keeps them.
 ghost use Rattle.std.specs.Prelude.{◌≡◌};
-ghost use Rattle.sg_check.specs.Notes.{noted};
+ghost use Rattle.sg_check.specs.inside.Notes.{noted};
 ghost use Rattle.sg_forms.specs.Said.{said};
 ghost use Rattle.sg_grammar.specs.Spots.{placed_at};
 ghost use Rattle.sg_grammar.specs.Meaning.{meant_line};

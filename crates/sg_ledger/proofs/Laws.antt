@@ -1,6 +1,7 @@
 -- A ledger that tells lines tells one more; and what it judges.
 use Rattle.std.proofs.Common.{◌≡◌, ℕ, ◌<◌, nat_lt, if◌then◌else◌, Bool, true, false, List, [], ◌∷◌, ◌++◌, append-nil, length, get_or, set, min, ◌+◌, Option, Some, None, refl, sym, ap, ◌∙◌, arith, length-set}
-use Rattle.sg_check.specs.Facts.{is_audit, is_both, is_cast, left_of, right_of}
+use Rattle.sg_grammar.specs.Lines.{is_audit, is_cast}
+use Rattle.sg_check.specs.Facts.{is_both, left_of, right_of}
 use Rattle.sg_check.specs.Kinds.{first_bad}
 use Rattle.sg_check.specs.Verdict.{total_on}
 use Rattle.sg_check.specs.declared.judged.Total.{Total}

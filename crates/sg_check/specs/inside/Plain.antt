@@ -1,8 +1,9 @@
 -- What the plain verdict keeps of the lines that it has gone over.
 use Rattle.std.specs.Prelude.{◌≡◌, ℕ, ◌+◌, ◌≤◌, ◌⊎◌, List, [], ◌∷◌, ◌++◌, length, take, drop, Option, Some, None}
+use Rattle.sg_grammar.specs.Lines.{placed_of}
 use Rattle.sg_check.specs.Judging.{AreOfPlan}
-use Rattle.sg_check.specs.Kinds.{bytes_of, first_bad, placed_of}
-use Rattle.sg_check.specs.Notes.{lines_noted}
+use Rattle.sg_check.specs.Kinds.{bytes_of, first_bad}
+use Rattle.sg_check.specs.inside.Notes.{lines_noted}
 use Rattle.sg_check.specs.Verdict.{AreFine, IsFirstBad, total_on}
 use Rattle.sg_check.specs.declared.judged.Kind.{Kind}
 use Rattle.sg_check.specs.declared.judged.Total.{Total}

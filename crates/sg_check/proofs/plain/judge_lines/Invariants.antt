@@ -1,6 +1,6 @@
 use Rattle.std.proofs.Common.{◌-◌, length}
-use Rattle.sg_check.proofs.plain.verdict.Given as goal
-use Rattle.sg_check.specs.Plain.{HasRead}
+use Rattle.sg_check.proofs.plain.judge_lines.Given as goal
+use Rattle.sg_check.specs.inside.Plain.{HasRead}
 
 abbrev pub invariant-loop-start : goal.invariant-loop-start
 invariant-loop-start l = HasRead l.bytes l.expect l.notes l.start l.number
