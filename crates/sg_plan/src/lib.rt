@@ -2,9 +2,13 @@
 #![tactic(auto)]
 
 mod arithmetic;
+mod ballot_index;
 mod ballots;
 mod codes;
 mod copies;
+mod fates;
+mod index_reads;
+mod index_tables;
 mod items;
 pub mod laws;
 pub mod limits;
@@ -12,8 +16,10 @@ mod memory;
 mod names;
 mod plan;
 mod same;
+mod walk;
 mod word;
 
+pub use ballot_index::BallotIndex;
 pub use codes::codes_of;
 pub use copies::{copy_paper, copy_races, copy_words};
 pub use items::Items;
@@ -22,6 +28,7 @@ pub use memory::NoMemory;
 pub use names::{is_name, is_new_name};
 pub use plan::{ClaimWord, Draw, Fate, Mark, Paper, Plan, Race, Run, Side, Stage, Style};
 pub use same::{same_races, same_words};
+pub use walk::BallotWalk;
 pub use word::Word;
 
 #[cfg(test)]
