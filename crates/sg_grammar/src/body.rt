@@ -17,9 +17,7 @@ use crate::spots::spot_in;
 use crate::state::{Block, Head, Part, Slot, Spot};
 use sg_forms::{CodeLine, Line};
 use sg_plan::ClaimWord;
-
-/// The most disputes.
-const MOST_DISPUTES: u32 = 10_000;
+use sg_plan::limits::MOST_CLAIMS;
 
 /// Where a line behind the plan stands, and what may stand behind it.
 ///
@@ -287,7 +285,7 @@ fn stand_dispute(
     ensures stands { option_map (taken_at plan.now (Dispute ballot race code word)) result ≡ after_dispute plan.now count (Dispute ballot race code word) }
     ensures within { IfSome result (λ standing. IsStandingIn plan.now (Dispute ballot race code word) standing) }
 {
-    if count >= MOST_DISPUTES {
+    if count as usize >= MOST_CLAIMS {
         return None;
     }
     if !has_race(plan, ballot, race) {

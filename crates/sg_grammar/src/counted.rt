@@ -102,6 +102,8 @@ fn run_of(line: &Line) -> Option<Run>
 
 /// A plan in the making, with what is counted of it as its lines come: each race's entries, and the
 /// style of each ballot.
+///
+/// An index of a whole plan's ballots has its lists race by race, and can't grow run by run.
 #[derive(Debug, Drop)]
 pub(crate) struct CountedPlan {
     plan: Plan,

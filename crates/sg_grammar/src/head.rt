@@ -12,23 +12,12 @@ ghost use Rattle.sg_grammar.specs.Slots.{is_run};
 use crate::counted::CountedPlan;
 use crate::state::Head;
 use sg_forms::Line;
+use sg_plan::limits::{MOST_INSTANCES, MOST_RACES, MOST_ROWS, MOST_STYLES};
 use sg_plan::{
     Items, NoMemory, Plan, Race, Run, Style, Word, is_name, is_new_name, is_race_head, is_run,
     is_style,
 };
 use std::alloc::Global;
-
-/// The most instances: 16.
-const MOST_INSTANCES: u32 = 16;
-
-/// The most races: 32.
-const MOST_RACES: usize = 32;
-
-/// The most styles: 32.
-const MOST_STYLES: usize = 32;
-
-/// The most rows of table R, over all races and instances.
-const MOST_ROWS: u64 = 200_000;
 
 // WHICH LINE MAY STAND
 
@@ -347,19 +336,9 @@ fn push_style(alloc: Global, plan: &mut Plan, name: &[u8], races: &[u32]) -> Res
     ensures err { OnErr result (plan.new ≡ plan.old) }
 {
     let name = copy_word(alloc, name)?;
-    let races = copy_numbers(alloc, races)?;
-    plan.styles.push(Style { name, races })
-}
-
-/// A list of these numbers.
-fn copy_numbers(alloc: Global, numbers: &[u32]) -> Result<Items<u32>, NoMemory>
-    ensures { IfOk result (λ copy. copy ≡ numbers.now) }
-{
-    let mut copy = Items::new(alloc);
-    for number in numbers {
-        copy.push(*number)?;
-    }
-    Ok(copy)
+    let mut list = Items::new(alloc);
+    list.extend(races)?;
+    plan.styles.push(Style { name, races: list })
 }
 
 /// Adds a candidate of the last race, where so many are due.
