@@ -5,3 +5,4 @@ pub mod Gathering
 pub mod Growing
 pub mod Walking
 pub mod Writing
+pub mod Pens
