@@ -1,14 +1,14 @@
--- Where in its buffer a cutter holds its bytes. Only clauses of private functions cite this.
-use Rattle.std.specs.Prelude.{◌≡◌, ℕ, ◌+◌, ◌≤◌, List, Option, length, take, slice_range}
+-- Where in its buffers a cutter holds its bytes.
+use Rattle.std.specs.Prelude.{◌≡◌, ℕ, ◌+◌, ◌≤◌, List, Option, length, take, slice_range, if◌then◌else◌}
 use Rattle.std.specs.Io.KnownBytes.{Consumes, IsAtEnd}
 use Rattle.sg_outside.specs.declared.cutter.Found.{Found}
-use Rattle.sg_outside.specs.Cutting.{Cutting, is_last}
+use Rattle.sg_outside.specs.Cutting.{Cutting, has_text, is_last}
 
--- the cutter's state after this was found in its buffer
-abbrev pub found_in : List ℕ → Found → Cutting
-found_in buf found = record {
+-- the cutter's state after this was found in its buffer, where an answer without a text leaves this one
+abbrev pub found_in : List ℕ → List ℕ → Found → Cutting
+found_in buf last found = record {
   limit = length buf;
-  text = slice_range buf found.start found.behind;
+  text = (if has_text found.got then slice_range buf found.start found.behind else last);
   ahead = slice_range buf found.behind found.end;
   is_over = is_last found.got;
 }
