@@ -7,3 +7,4 @@ pub mod Gathering
 pub mod Growing
 pub mod Walking
 pub mod Writing
+pub mod Pens
