@@ -8,6 +8,7 @@
 mod asks;
 mod copies;
 mod keeper;
+pub mod laws;
 mod memory;
 mod places;
 mod replies;
@@ -20,3 +21,6 @@ pub use memory::MemoryKeeper;
 pub use replies::{Body, CodeSeen, FateWord, Phase, Receipt, Reply};
 pub use rows::{BallotRow, Change, ChangeRow, ClaimRow, DoneRow, Rows, StageRow, VoidRow};
 pub use setup::Setup;
+
+#[cfg(test)]
+mod tests;

@@ -34,7 +34,7 @@ puts table row old new adds =
     record { put = applies.rows; others = applies.tables }
 
 -- a database with the six tables, by its trees alone
-whole : (db : Database) → db.schema ≡ schema_of 6 → rows_of db ≡ rows_of (record { schema = schema_of 6; trees = db.trees })
+pub whole : (db : Database) → db.schema ≡ schema_of 6 → rows_of db ≡ rows_of (record { schema = schema_of 6; trees = db.trees })
 whole db has = ap (λ s. rows_of (record db { schema = s })) has
 
 none_kept : (rows : List Row) → option_map (λ row. text_at row 2) (slice_get rows 0) ≡ None → rows ≡ []

@@ -14,3 +14,4 @@ pub mod Queries
 pub mod Places
 pub mod Dones
 pub mod Selected
+pub mod Rising

@@ -85,6 +85,14 @@ module _ {X : Type 0} (R : X → X → Ordering) (total : IsTotalOrder R) where
   pub in_place_settles : (xs : List X) → IsDistinct (same_key R total) xs → Settled [] xs
   in_place_settles xs apart = settles [] xs tt apart
 
+  all_settled : (P : X → Type 0) (acc xs : List X) → AllByRecursion P acc → AllByRecursion P xs → AllByRecursion P (fold (λ l x. placed x l) acc xs)
+  all_settled P acc [] has all = has
+  all_settled P acc (x ∷ xs) has all = all_settled P (placed x acc) xs (all_placed P x acc all.0 has) all.1
+
+  -- what holds of all elements holds of them in their places
+  pub all_in_place : (P : X → Type 0) (xs : List X) → AllByRecursion P xs → AllByRecursion P (in_place (before_by R) xs)
+  all_in_place P xs all = all_settled P [] xs tt all
+
   -- the list that a function makes of them is in its places too
   module _ {A : Type 0} (f : X → A) (before : A → A → Bool) (P : X → Type 0) (agree : (x y : X) → P x → P y → before (f x) (f y) ≡ before_by R x y) where
     map_placed : (x : X) (ys : List X) → P x → AllByRecursion P ys → map f (placed x ys) ≡ put before (f x) (map f ys)

@@ -1,10 +1,11 @@
 //! The keeper over a database.
 ghost use Rattle.std.specs.Prelude.{◌≡◌, ◌≤◌, false, true, IfOk, None, OnOk, OnErr};
 ghost use Rattle.sg_outside.specs.Faults.{Rose};
+ghost use Rattle.sg_keeper.specs.Laws.{RowsRise};
 ghost use Rattle.sg_keeper.specs.Rows.{HasFaultCause, IsNewChange, with_change, with_setup};
 ghost use Rattle.sg_store.specs.Told.{HasTables, IsOurs, IsSure, KeeperTells, rows_in};
 
-use crate::loads::load_rows;
+use crate::loads::load_rising;
 use crate::tables::make_tables;
 use crate::texts::text_of;
 use crate::writes::{add_change, add_setup};
@@ -61,9 +62,10 @@ fn load_parts<S: Alter>(
     ensures same { KeeperTells S.Store has_tables.old conn.old → rows_in S.Store conn.new ≡ rows_in S.Store conn.old }
     ensures loaded { KeeperTells S.Store has_tables.old conn.old → IfOk result (λ loaded. loaded ≡ rows_in S.Store conn.old) }
     ensures cause { HasFaultCause faults.old faults.new result }
+    ensures rising { KeeperTells S.Store has_tables.old conn.old → IfOk result RowsRise }
 {
     make_ready(conn, has_tables, faults)?;
-    match load_rows(alloc, conn) {
+    match load_rising(alloc, conn) {
         Ok(rows) => Ok(rows),
         Err(error) => Err(refused(faults, error)),
     }
@@ -172,7 +174,15 @@ impl<S: Alter> Keeper for SqlKeeper<S> {
 
     ghost faults = { λ keeper. keeper.faults };
 
-    fn load(&mut self, alloc: Global) -> Result<Rows, KeepFault> {
+    fn load(&mut self, alloc: Global) -> Result<Rows, KeepFault>
+        ensures told { KeeperTells S.Store self.old.has_tables self.old.conn → KeeperTells S.Store self.new.has_tables self.new.conn }
+        ensures same { KeeperTells S.Store self.old.has_tables self.old.conn → rows_in S.Store self.new.conn ≡ rows_in S.Store self.old.conn }
+        ensures loaded { KeeperTells S.Store self.old.has_tables self.old.conn → IfOk result (λ loaded. loaded ≡ rows_in S.Store self.old.conn) }
+        ensures cause { HasFaultCause self.old.faults self.new.faults result }
+
+        // Each list of the rows rises by its key.
+        ensures rising { KeeperTells S.Store self.old.has_tables self.old.conn → IfOk result RowsRise }
+    {
         load_parts(
             alloc,
             &mut self.conn,

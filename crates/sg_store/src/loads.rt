@@ -1,6 +1,7 @@
 //! All rows, table by table.
 
 ghost use Rattle.std.specs.Prelude.{◌≡◌, IfOk};
+ghost use Rattle.sg_keeper.specs.Laws.{RowsRise};
 ghost use Rattle.sg_store.specs.Told.{HasTables, rows_in};
 ghost use Rattle.sg_store.specs.inside.Shown.{setup_in};
 ghost use Rattle.sg_store.specs.inside.Steps.{Keeps};
@@ -72,7 +73,7 @@ fn load_dones<S: Alter>(alloc: Global, conn: &mut Connection<S>) -> Result<Items
 }
 
 /// All rows, each list rising by its key.
-pub(crate) fn load_rows<S: Alter>(alloc: Global, conn: &mut Connection<S>) -> Result<Rows, Error>
+fn load_rows<S: Alter>(alloc: Global, conn: &mut Connection<S>) -> Result<Rows, Error>
     ensures kept { Keeps S.Store conn.old conn.new }
     ensures found { HasTables S.Store 6 conn.old → IfOk result (λ found. found ≡ rows_in S.Store conn.old) }
 {
@@ -90,4 +91,13 @@ pub(crate) fn load_rows<S: Alter>(alloc: Global, conn: &mut Connection<S>) -> Re
         voids,
         dones,
     })
+}
+
+/// The same. They are known to rise.
+pub(crate) fn load_rising<S: Alter>(alloc: Global, conn: &mut Connection<S>) -> Result<Rows, Error>
+    ensures kept { Keeps S.Store conn.old conn.new }
+    ensures found { HasTables S.Store 6 conn.old → IfOk result (λ found. found ≡ rows_in S.Store conn.old) }
+    ensures rising { HasTables S.Store 6 conn.old → IfOk result RowsRise }
+{
+    load_rows(alloc, conn)
 }
