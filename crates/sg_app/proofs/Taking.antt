@@ -139,11 +139,11 @@ end-told (Some bytes) left done judged fine whole ended taken verdict = all-know
 -- WHAT A PASS WAS FED, AND ONE ANSWER OF THE CUTTER MORE
 
 -- what was taken in all: lines, the text of the answer, and what is held behind it
-taken-in_all : (before mid left : Option (List ℕ)) (lines : Cutting) (done : List ℕ)
-    → Consumes before mid done → Consumes mid (to_come lines left) lines.text → Consumes before left ((done ++ lines.text) ++ lines.ahead)
-taken-in_all before mid left lines done p q =
-    Consumes-trans before (to_come lines left) left (done ++ lines.text) lines.ahead
-    (Consumes-trans before mid (to_come lines left) done lines.text p q) (Consumes-front lines.ahead left)
+taken-in_all : (before mid left : Option (List ℕ)) (lines : Cutting) (done text : List ℕ)
+    → Consumes before mid done → Consumes mid (to_come lines left) text → Consumes before left ((done ++ text) ++ lines.ahead)
+taken-in_all before mid left lines done text p q =
+    Consumes-trans before (to_come lines left) left (done ++ text) lines.ahead
+    (Consumes-trans before mid (to_come lines left) done text p q) (Consumes-front lines.ahead left)
 
 -- at a bad line
 pub line-read : (pass : Pass) (old lines : Cutting) (before mid left : Option (List ℕ)) (judged : Judged) → (fed : IsFed pass old before mid)
@@ -151,7 +151,7 @@ pub line-read : (pass : Pass) (old lines : Cutting) (before mid left : Option (L
     → IsLine lines.text → IsNo judged → Judges before judged → HasRead judged before left
 line-read pass old lines before mid left judged fed cut limit few is_line denied verdict =
     line-told before left fed.done lines.text lines.ahead judged (fed-fine pass old before mid fed) fed.are_lines is_line
-    (omega (arith, limit, few, fed.limit, line-some lines.text is_line)) (taken-in_all before (to_come old mid) left lines (concat fed.done) fed.taken cut) denied verdict
+    (omega (arith, limit, few, fed.limit, line-some lines.text is_line)) (taken-in_all before (to_come old mid) left lines (concat fed.done) lines.text fed.taken cut) denied verdict
 
 -- at bytes without a line feed
 pub open-read : (pass : Pass) (old lines : Cutting) (before mid left : Option (List ℕ)) (judged : Judged) → (fed : IsFed pass old before mid)
@@ -159,30 +159,28 @@ pub open-read : (pass : Pass) (old lines : Cutting) (before mid left : Option (L
     → HasNoFeed lines.text → 0 < length lines.text → IsNo judged → Judges before judged → HasRead judged before left
 open-read pass old lines before mid left judged fed cut limit few none some denied verdict =
     open-told before left fed.done lines.text lines.ahead judged (fed-fine pass old before mid fed) fed.are_lines none some
-    (omega (arith, limit, few, fed.limit, some)) (taken-in_all before (to_come old mid) left lines (concat fed.done) fed.taken cut) denied verdict
+    (omega (arith, limit, few, fed.limit, some)) (taken-in_all before (to_come old mid) left lines (concat fed.done) lines.text fed.taken cut) denied verdict
 
 -- nothing was taken behind
-nothing-behind : (bytes text ahead : List ℕ) → text ≡ [] → ahead ≡ [] → (bytes ++ text) ++ ahead ≡ bytes
-nothing-behind bytes text ahead none no_more =
-    ap (λ l. (bytes ++ text) ++ l) no_more ∙ (append-nil (bytes ++ text) ∙ (ap (λ l. bytes ++ l) none ∙ append-nil bytes))
+nothing-behind : (bytes ahead : List ℕ) → ahead ≡ [] → (bytes ++ []) ++ ahead ≡ bytes
+nothing-behind bytes ahead no_more = ap (λ l. (bytes ++ []) ++ l) no_more ∙ (append-nil (bytes ++ []) ∙ append-nil bytes)
 
 -- at the end
 pub end-read : (pass : Pass) (old lines : Cutting) (before mid left : Option (List ℕ)) (judged : Judged) → (fed : IsFed pass old before mid)
-    → Consumes (to_come old mid) (to_come lines left) lines.text → lines.text ≡ [] → lines.ahead ≡ [] → IsAtEnd left
+    → Consumes (to_come old mid) (to_come lines left) [] → lines.ahead ≡ [] → IsAtEnd left
     → Judges before judged → HasRead judged before left
-end-read pass old lines before mid left judged fed cut none no_more ended verdict =
+end-read pass old lines before mid left judged fed cut no_more ended verdict =
     let P : List ℕ → Type 0 = λ bytes. Consumes before left bytes in
-    let taken = subst P (nothing-behind (concat fed.done) lines.text lines.ahead none no_more)
-    (taken-in_all before (to_come old mid) left lines (concat fed.done) fed.taken cut) in
+    let taken = subst P (nothing-behind (concat fed.done) lines.ahead no_more)
+    (taken-in_all before (to_come old mid) left lines (concat fed.done) [] fed.taken cut) in
     end-told before left fed.done judged (fed-fine pass old before mid fed) fed.are_lines ended taken verdict
 
 -- at a failed read
 pub fault-taken : (pass : Pass) (old lines : Cutting) (before mid left : Option (List ℕ)) → (fed : IsFed pass old before mid)
-    → Consumes (to_come old mid) (to_come lines left) lines.text → lines.limit ≡ old.limit
-    → lines.text ≡ [] → HasNoFeed lines.ahead → length lines.ahead < lines.limit → TookFine before left
-fault-taken pass old lines before mid left fed cut limit none unended few =
+    → Consumes (to_come old mid) (to_come lines left) [] → lines.limit ≡ old.limit
+    → HasNoFeed lines.ahead → length lines.ahead < lines.limit → TookFine before left
+fault-taken pass old lines before mid left fed cut limit unended few =
     let P : List ℕ → Type 0 = λ bytes. Consumes before left bytes in
-    let front : concat fed.done ++ lines.text ≡ concat fed.done = ap (λ l. concat fed.done ++ l) none ∙ append-nil (concat fed.done) in
     record {
       done = fed.done;
       rest = lines.ahead;
@@ -190,5 +188,5 @@ fault-taken pass old lines before mid left fed cut limit none unended few =
       fine = fed-fine pass old before mid fed;
       unended = unended;
       few = omega (arith, few, limit, fed.limit);
-      taken = subst P (ap (λ l. l ++ lines.ahead) front) (taken-in_all before (to_come old mid) left lines (concat fed.done) fed.taken cut);
+      taken = subst P (ap (λ l. l ++ lines.ahead) (append-nil (concat fed.done))) (taken-in_all before (to_come old mid) left lines (concat fed.done) [] fed.taken cut);
     }

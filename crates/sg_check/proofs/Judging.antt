@@ -3,11 +3,12 @@ use Rattle.std.proofs.Common.{◌≡◌, ℕ, Bool, true, false, ◌||◌, cond,
 use Rattle.std.specs.Prelude.{find, is_none}
 use Rattle.std.specs.Option.{option_map_or}
 use Rattle.sg_plan.specs.declared.plan.Plan.{Plan}
+use Rattle.sg_grammar.specs.Lines.{placed_of}
 use Rattle.sg_grammar.specs.Walk.{Posted, Walked, start, walk}
 use Rattle.sg_check.proofs.Finding.{find-or, find-same}
 use Rattle.sg_check.proofs.Late.{late-push}
 use Rattle.sg_check.specs.Judging.{bad_in, first_late, later_kinds}
-use Rattle.sg_check.specs.Kinds.{bad_seal, bytes_of, first_bad, is_bad, kinds, placed_of}
+use Rattle.sg_check.specs.Kinds.{bad_seal, bytes_of, first_bad, is_bad, kinds}
 use Rattle.sg_check.specs.Verdict.{breaks_walked, late, least_broken}
 use Rattle.sg_check.specs.declared.judged.Kind.{Kind}
 use Rattle.sg_check.specs.declared.judged.Kind.TheVariants as kind

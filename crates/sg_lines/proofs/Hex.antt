@@ -1,5 +1,5 @@
 -- Lower-case hexadecimal digits: read, spelled, and the steps of the loop that reads them.
-use Rattle.std.proofs.Common.{◌≡◌, ℕ, zero, suc, ◌+◌, ◌*◌, ◌/◌, ◌%◌, ◌<◌, ◌≤◌, ◌==◌, List, [], ◌∷◌, ◌++◌, length, take, drop, slice_index, slice_set, Some, None, Result, Ok, Err, refl, sym, ap, ◌∙◌, arith}
+use Rattle.std.proofs.Common.{◌≡◌, ◌≢◌, true, ℕ, zero, suc, ◌+◌, ◌*◌, ◌/◌, ◌%◌, ◌<◌, ◌≤◌, ◌==◌, List, [], ◌∷◌, ◌++◌, length, take, drop, slice_index, slice_set, Some, None, Result, Ok, Err, refl, sym, ap, ◌∙◌, arith}
 use Rattle.std.proofs.lemmas.Bool.{eqb-true, eq-eqb}
 use Rattle.std.proofs.lemmas.List.{append-nil, append_assoc, drop_all, drop_more, take_all, take_more_set}
 use Rattle.std.specs.Result.{result_unwrap_or}
@@ -7,8 +7,8 @@ use Rattle.hex.specs.Hex.{decode_of, encode_with, lower_digits, IsBytes}
 use Rattle.hex.specs.declared.error.FromHexError.{FromHexError}
 use Rattle.hex.proofs.HexLemmas.{decode_of-encode_lower, decode_of-ok, decode_of-same, length-encode_with}
 use Rattle.hex.proofs.Pairs.{drop-pair, encode_with-drop}
-use Rattle.sg_lines.specs.Words.{encode_lower, bytes_of, key_of, digest_of}
-use Rattle.sg_lines.specs.Laws.{KeysAreSpelled, KeysAreRead, DigestsAreSpelled, DigestsAreRead, BytesDiffer}
+use Rattle.sg_lines.specs.Words.{encode_lower, bytes_of, key_of, digest_of, hex_of}
+use Rattle.sg_lines.specs.Laws.{KeysAreSpelled, KeysAreRead, DigestsAreSpelled, DigestsAreRead, HexIsSpelled, HexIsRead, BytesDiffer}
 use Rattle.sg_lines.proofs.Spelled.{where_spelled-found, where_spelled-only, same_reading}
 
 -- ---- the laws
@@ -53,14 +53,41 @@ pub digests_are_read : DigestsAreRead
 unfolding digest_of
 digests_are_read digest count fits = bytes_of-read 32 digest count fits
 
+-- a spelling has two digits for each byte
+pub length-encode_lower : (bytes : List ℕ) → length (encode_lower bytes) ≡ 2 * length bytes
+length-encode_lower bytes = length-encode_with lower_digits bytes
+
+-- what is read as bytes is their spelling
+pub hex_is_spelled : HexIsSpelled
+unfolding hex_of
+hex_is_spelled word bytes read =
+    let decoded : List ℕ = result_unwrap_or (decode_of word) [] in
+    let found = where_spelled-found encode_lower word decoded true bytes read in
+    (rw found.1 at (decoded_bytes word (decode_of word) refl), found.2)
+
+-- all bytes are read from their spelling
+pub hex_is_read : HexIsRead
+unfolding hex_of
+hex_is_read bytes fits = rw (decode_of-encode_lower bytes fits) (where_spelled-only encode_lower (encode_lower bytes) bytes true refl refl)
+
+-- bytes that the word spells are what is read
+pub hex_of-some : (word bytes : List ℕ) → IsBytes bytes → word ≡ encode_lower bytes → Some bytes ≡ hex_of word
+hex_of-some word bytes fits is = sym (ap hex_of is ∙ hex_is_read bytes fits)
+
+-- where the word spells no bytes, nothing is read
+pub hex_of-none : (word : List ℕ) → ((bytes : List ℕ) → IsBytes bytes → word ≡ encode_lower bytes → ⊥) → None ≡ hex_of word
+hex_of-none word none =
+    same_reading None (hex_of word) (λ bytes read. cc read)
+    (λ bytes read. let found = hex_is_spelled word bytes read in absurd (none bytes found.0 found.1))
+
+-- an odd number of digits spells none
+pub hex_of-odd : (word : List ℕ) → length word % 2 ≢ 0 → None ≡ hex_of word
+hex_of-odd word odd = hex_of-none word (λ bytes fits is. odd (omega (arith, ap (λ l. length l) is, length-encode_lower bytes)))
+
 -- different bytes have different spellings
 pub bytes_differ : BytesDiffer
 bytes_differ a b a_fits b_fits same =
     decode_of-same (encode_lower a) a b (decode_of-encode_lower a a_fits) (ap decode_of same ∙ decode_of-encode_lower b b_fits)
-
--- a spelling has two digits for each byte
-pub length-encode_lower : (bytes : List ℕ) → length (encode_lower bytes) ≡ 2 * length bytes
-length-encode_lower bytes = length-encode_with lower_digits bytes
 
 -- a key that the word spells is what is read
 pub key_of-some : (word key : List ℕ) → length key ≡ 16 → IsBytes key → word ≡ encode_lower key → Some key ≡ key_of word

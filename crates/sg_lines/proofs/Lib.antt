@@ -1,5 +1,6 @@
-mod Spelled
+pub mod Spelled
 pub mod Numbers
 pub mod Hex
 pub mod Signs
 pub mod Spaces
+pub mod Splitting

@@ -1,7 +1,7 @@
 -- The laws of the spellings: reading and spelling undo each other, and different values have different spellings.
 use Rattle.std.specs.Prelude.{◌≡◌, ℕ, ◌^◌, ◌<◌, List, length, Some}
 use Rattle.sg_plan.specs.Codes.{codes_of}
-use Rattle.sg_lines.specs.Words.{decimal, decimal_of, IsBytes, encode_lower, key_of, digest_of, code_word, code_of}
+use Rattle.sg_lines.specs.Words.{decimal, decimal_of, IsBytes, encode_lower, key_of, digest_of, hex_of, code_word, code_of}
 
 -- what is read as a number is its spelling
 abbrev pub DecimalsAreSpelled : Type 0
@@ -30,6 +30,14 @@ DigestsAreSpelled = (word digest : List ℕ) → digest_of word ≡ Some digest 
 -- each digest is read from its spelling
 abbrev pub DigestsAreRead : Type 0
 DigestsAreRead = (digest : List ℕ) → length digest ≡ 32 → IsBytes digest → digest_of (encode_lower digest) ≡ Some digest
+
+-- what is read as bytes is their spelling
+abbrev pub HexIsSpelled : Type 0
+HexIsSpelled = (word bytes : List ℕ) → hex_of word ≡ Some bytes → IsBytes bytes × (word ≡ encode_lower bytes)
+
+-- all bytes are read from their spelling
+abbrev pub HexIsRead : Type 0
+HexIsRead = (bytes : List ℕ) → IsBytes bytes → hex_of (encode_lower bytes) ≡ Some bytes
 
 -- different bytes have different spellings
 abbrev pub BytesDiffer : Type 0

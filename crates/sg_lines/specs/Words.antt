@@ -6,7 +6,7 @@
 -- `decimal n` is the number n in decimal digits, the highest first, without a leading zero (n below 10 ^ 64).
 -- `encode_lower bytes` is two lower-case hexadecimal digits for each byte, the high four bits first.
 -- `IsBytes xs` says that each number in the list is a byte.
-use Rattle.std.specs.Prelude.{◌≡◌, ◌⊎◌, ℕ, ◌+◌, ◌-◌, ◌*◌, ◌/◌, ◌%◌, ◌^◌, nat_lt, ◌==◌, Bool, false, ◌&&◌, if◌then◌else◌, List, [], ◌∷◌, length, slice_index, All, fold, bytes_eq, codes, Option, Some, None}
+use Rattle.std.specs.Prelude.{◌≡◌, ◌⊎◌, ℕ, ◌+◌, ◌-◌, ◌*◌, ◌/◌, ◌%◌, ◌^◌, nat_lt, ◌==◌, Bool, true, false, ◌&&◌, if◌then◌else◌, List, [], ◌∷◌, length, slice_index, All, fold, bytes_eq, codes, Option, Some, None}
 use Rattle.std.specs.List.{position_or_len}
 use Rattle.std.specs.Result.{result_unwrap_or}
 use Rattle.std.specs.Str.Parse.{digits_value}
@@ -37,6 +37,10 @@ key_of word = bytes_of 16 word
 -- reading a digest, which has 32 bytes
 unfoldable pub digest_of : List ℕ → Option (List ℕ)
 digest_of word = bytes_of 32 word
+
+-- reading bytes, however many they are
+unfoldable pub hex_of : List ℕ → Option (List ℕ)
+hex_of word = let bytes = result_unwrap_or (decode_of word) [] in where_spelled encode_lower word bytes true
 
 -- ---- codes
 

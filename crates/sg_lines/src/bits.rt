@@ -1,3 +1,4 @@
+//! Lists of bits.
 ghost use Rattle.std.specs.Prelude.{◌↔◌, IsTrue, All};
 ghost use Rattle.sg_lines.specs.Words.{IsBit, IsBits};
 

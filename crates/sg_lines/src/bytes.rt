@@ -1,3 +1,4 @@
+//! Keys, digests and other bytes, spelled in hexadecimal digits.
 ghost use Rattle.std.specs.Prelude.{◌≡◌, ℕ, ◌*◌, ◌<◌, ◌≤◌, List, ◌++◌, length, drop, slice_index, IsTrue, IfSome};
 ghost use Rattle.hex.specs.Hex.{lower_digits};
 ghost use Rattle.sg_lines.specs.Words.{IsBytes, encode_lower, key_of, digest_of};

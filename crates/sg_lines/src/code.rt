@@ -1,3 +1,4 @@
+//! Codes of both versions.
 ghost use Rattle.std.specs.Prelude.{◌≡◌, ◌⊎◌, ℕ, ◌<◌, IfSome};
 ghost use Rattle.sg_plan.specs.Codes.{codes_of};
 ghost use Rattle.sg_lines.specs.Words.{code_of, code_word, digit_of, sign_of};

@@ -1,33 +1,67 @@
 //! Laws of the spellings. These functions do nothing: what they ensure is the law.
-ghost use Rattle.sg_lines.specs.Laws.{DecimalsAreSpelled, DecimalsAreRead, DecimalsDiffer, KeysAreSpelled, KeysAreRead, DigestsAreSpelled, DigestsAreRead, BytesDiffer, CodesAreSpelled, CodesAreRead, CodesDiffer};
+ghost use Rattle.sg_lines.specs.Laws.{DecimalsAreSpelled, DecimalsAreRead, DecimalsDiffer, KeysAreSpelled, KeysAreRead, DigestsAreSpelled, DigestsAreRead, HexIsSpelled, HexIsRead, BytesDiffer, CodesAreSpelled, CodesAreRead, CodesDiffer};
 
-/// Numbers: reading and spelling undo each other, and different numbers have different spellings.
-pub fn decimal_law()
-    ensures spelled { DecimalsAreSpelled }
-    ensures read { DecimalsAreRead }
-    ensures differ { DecimalsDiffer }
+/// Numbers: what is read as one is its spelling.
+pub fn decimals_are_spelled_law()
+    ensures { DecimalsAreSpelled }
 {}
 
-/// Keys: reading and spelling undo each other.
-pub fn key_law()
-    ensures spelled { KeysAreSpelled }
-    ensures read { KeysAreRead }
+/// Numbers: each is read from its spelling.
+pub fn decimals_are_read_law()
+    ensures { DecimalsAreRead }
 {}
 
-/// Digests: reading and spelling undo each other.
-pub fn digest_law()
-    ensures spelled { DigestsAreSpelled }
-    ensures read { DigestsAreRead }
+/// Numbers: different ones have different spellings.
+pub fn decimals_differ_law()
+    ensures { DecimalsDiffer }
 {}
 
-/// Different bytes have different spellings in hexadecimal digits.
-pub fn hex_law()
+/// Keys: what is read as one is its spelling.
+pub fn keys_are_spelled_law()
+    ensures { KeysAreSpelled }
+{}
+
+/// Keys: each is read from its spelling.
+pub fn keys_are_read_law()
+    ensures { KeysAreRead }
+{}
+
+/// Digests: what is read as one is its spelling.
+pub fn digests_are_spelled_law()
+    ensures { DigestsAreSpelled }
+{}
+
+/// Digests: each is read from its spelling.
+pub fn digests_are_read_law()
+    ensures { DigestsAreRead }
+{}
+
+/// Bytes of any number: what is read as bytes is their spelling.
+pub fn hex_is_spelled_law()
+    ensures { HexIsSpelled }
+{}
+
+/// Bytes of any number: all are read from their spelling.
+pub fn hex_is_read_law()
+    ensures { HexIsRead }
+{}
+
+/// Keys, digests and other bytes: different ones have different spellings.
+pub fn bytes_differ_law()
     ensures { BytesDiffer }
 {}
 
-/// Codes of each version: reading and spelling undo each other, and different codes have different spellings.
-pub fn code_law()
-    ensures spelled { CodesAreSpelled }
-    ensures read { CodesAreRead }
-    ensures differ { CodesDiffer }
+/// Codes of each version: what is read as one is its spelling.
+pub fn codes_are_spelled_law()
+    ensures { CodesAreSpelled }
+{}
+
+/// Codes of each version: each is read from its spelling.
+pub fn codes_are_read_law()
+    ensures { CodesAreRead }
+{}
+
+/// Codes of each version: different ones have different spellings.
+pub fn codes_differ_law()
+    ensures { CodesDiffer }
 {}

@@ -1,5 +1,6 @@
 //! The spellings on examples, whose values were found by hand or by other programs.
 use super::*;
+use std::alloc::{AllocError, Global};
 use std::test::Fail;
 
 /// What SHA-256 gives for `abc`.
@@ -139,4 +140,59 @@ fn words_are_told(rt: HostRuntime) {
     assert!(rt; !is_bits(b"01102", 5));
     assert!(rt; is_name(b"Ada"));
     assert!(rt; !is_name(b"Ada B"));
+}
+
+/// The words of the text, each behind the sign `|`.
+fn marked(alloc: Global, separator: u8, text: &[u8]) -> Result<Vec<u8>, AllocError> {
+    let mut out = Vec::new(alloc);
+    let mut parts = Parts::new(separator, text);
+    for _ in 0..9 {
+        let Some(part) = parts.part() else {
+            break;
+        };
+        out.push(b'|')?;
+        out.extend_from_slice(part)?;
+    }
+    Ok(out)
+}
+
+#[test]
+fn texts_are_cut(rt: HostRuntime) -> Result<(), Fail> {
+    let alloc = rt.alloc();
+    for (separator, text, want) in [
+        (b' ', "", "|"),
+        (b' ', "cast 7", "|cast|7"),
+        (b' ', " a  b ", "||a||b|"),
+        (b':', "2:0 1", "|2|0 1"),
+        (b':', "::", "|||"),
+    ] {
+        let words = marked(alloc, separator, text.as_bytes())?;
+        assert_eq!(rt; words.as_slice(), want.as_bytes(), "{text}");
+    }
+    Ok(())
+}
+
+#[test]
+fn bytes_of_any_number_are_read(rt: HostRuntime) -> Result<(), Fail> {
+    let alloc = rt.alloc();
+    for (text, want) in [
+        ("", Some("")),
+        ("41", Some("A")),
+        ("6d61726b", Some("mark")),
+        ("4", None),
+        ("6d6172", Some("mar")),
+        ("6d617", None),
+        ("6D", None),
+        ("0x41", None),
+        (" 41", None),
+    ] {
+        let Ok(found) = hex_bytes(alloc, text.as_bytes()) else {
+            return Err(Fail::new("no memory"));
+        };
+        match found {
+            Some(bytes) => assert_eq!(rt; Some(bytes.bytes()), want.map(str::as_bytes), "{text}"),
+            None => assert!(rt; want.is_none(), "{text}"),
+        }
+    }
+    Ok(())
 }

@@ -7,7 +7,7 @@ use Rattle.std.specs.Prelude.{Option}
 use Rattle.std.proofs.lemmas.Bool.{eqb-true, eq-eqb}
 use Rattle.memchr.specs.Find.{Nowhere, Passes, is_byte}
 use Rattle.sg_outside.specs.TextLines.{HasNoFeed, IsLine, lines_of}
-use Rattle.sg_outside.specs.Buffer.{HasRead}
+use Rattle.sg_outside.specs.inside.Buffer.{HasRead}
 use Rattle.sg_outside.proofs.StreamLemmas.{Consumes-front, Consumes-held, Consumes-trans}
 use Rattle.sg_outside.proofs.LineLemmas.{HasNoFeed-append, IsLine-append, lines_of-line, lines_of-part}
 

@@ -1,8 +1,17 @@
--- What calls that follow one another do to the known bytes of a source and of a sink.
-use Rattle.std.proofs.Common.{◌≡◌, ℕ, List, [], ◌++◌, None, Some, refl, sym, ap, ◌∙◌, append_assoc, append-nil}
+-- What calls that follow one another do to the known bytes of a source and of a sink, and to their counts of faults.
+use Rattle.std.proofs.Common.{◌≡◌, ◌≤◌, ℕ, List, [], ◌++◌, None, Some, refl, sym, ap, ◌∙◌, append_assoc, append-nil, arith}
 use Rattle.std.specs.Prelude.{Option}
 use Rattle.std.specs.Io.KnownBytes.{Keeps, Appends, Consumes, IsAtEnd, prepend_known}
+use Rattle.sg_outside.specs.Faults.{Rose}
 use Rattle.sg_outside.specs.Streams.{AppendsFront}
+
+-- a count that rose later rose
+pub Rose-later : (first mid last : ℕ) → first ≤ mid → Rose mid last → Rose first last
+Rose-later first mid last le rose = omega (arith, le, rose)
+
+-- a count that rose and did not fall later rose
+pub Rose-stays : (first mid last : ℕ) → Rose first mid → mid ≤ last → Rose first last
+Rose-stays first mid last rose le = omega (arith, rose, le)
 
 -- bytes that stay twice stay
 pub Keeps-trans : (a b c : Option (List ℕ)) → Keeps a b → Keeps b c → Keeps a c
@@ -52,6 +61,11 @@ pub Consumes-held : (a b : Option (List ℕ)) (bs cs : List ℕ) → Consumes a 
 Consumes-held None b bs cs p = tt
 Consumes-held (Some x) None bs cs p = absurd p
 Consumes-held (Some x) (Some y) bs cs p = p ∙ append_assoc bs cs y
+
+-- where no bytes are held, the end of the source is the end of all that is to come
+pub IsAtEnd-held : (held : List ℕ) (left : Option (List ℕ)) → held ≡ [] → IsAtEnd left → IsAtEnd (prepend_known held left)
+IsAtEnd-held held None none ended = tt
+IsAtEnd-held held (Some rest) none ended = ap (λ l. l ++ rest) none ∙ ended
 
 -- at the end, all that was told was taken
 pub Consumes-all : (bytes : List ℕ) (left : Option (List ℕ)) (cs : List ℕ) → Consumes (Some bytes) left cs → IsAtEnd left → bytes ≡ cs

@@ -3,4 +3,4 @@ pub mod Streams
 pub mod Memory
 pub mod TextLines
 pub mod Cutting
-pub mod Buffer
+pub mod inside

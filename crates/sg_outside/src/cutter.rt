@@ -1,11 +1,11 @@
 //! Lines cut from a source.
 
-ghost use Rattle.std.specs.Prelude.{◌≡◌, ◌+◌, ◌-◌, ◌<◌, ◌≤◌, ◌∷◌, true, false, [], IfOk, OnErr, MatchOption, Contains, length, take, drop, slice_range};
+ghost use Rattle.std.specs.Prelude.{◌≡◌, ℕ, List, ◌+◌, ◌-◌, ◌<◌, ◌≤◌, ◌∷◌, true, false, [], IfOk, OnErr, MatchOption, Contains, length, take, drop, slice_range};
 ghost use Rattle.std.specs.Io.KnownBytes.{Consumes, Keeps, prepend_known};
 ghost use Rattle.sg_outside.specs.Faults.{HasCause, Rose};
 ghost use Rattle.sg_outside.specs.TextLines.{HasNoFeed, IsLine, lines_of};
-ghost use Rattle.sg_outside.specs.Cutting.{Finds, is_last, to_come};
-ghost use Rattle.sg_outside.specs.Buffer.{HasRead, IsWithin, found_in};
+ghost use Rattle.sg_outside.specs.Cutting.{Finds, cut_off, has_text, is_last, to_come};
+ghost use Rattle.sg_outside.specs.inside.Buffer.{HasRead, IsWithin, found_in};
 
 use crate::faults::{Failed, NoMemory};
 use crate::streams::Source;
@@ -28,32 +28,27 @@ pub enum Got {
     ReadFault,
 }
 
-/// Cuts lines from a source. It holds at most as many bytes as its limit, those of the last line
-/// included.
+/// Cuts lines from a source. It holds at most as many bytes as its limit, those of the last line included; and where it
+/// met the end or a fault of the source, also the last line before.
 #[derive(Debug, Drop)]
 pub struct Lines {
     bytes: Vec<u8>,
-    start: usize,
-    behind: usize,
-    end: usize,
-    is_over: bool,
+    found: Found,
+    last: Vec<u8>,
+    last_len: usize,
 }
 
 impl Model for Lines {
-    ghost use Rattle.std.specs.Prelude.{◌≤◌, length, slice_range};
+    ghost use Rattle.std.specs.Prelude.{◌≡◌, ◌≤◌, length, take};
     ghost use Rattle.sg_outside.specs.Cutting.{Cutting};
+    ghost use Rattle.sg_outside.specs.inside.Buffer.{IsWithin, found_in};
 
     ghost Value = { Cutting };
 
-    ghost view = { λ l. record {
-      limit = length l.bytes.items;
-      text = slice_range l.bytes.items l.start l.behind;
-      ahead = slice_range l.bytes.items l.behind l.end;
-      is_over = l.is_over;
-    } };
+    ghost view = { λ l. found_in l.bytes.items (take l.last_len l.last.items) l.found };
 
     ghost invariant = { λ l.
-        (l.start ≤ l.behind) × (l.behind ≤ l.end) × (l.end ≤ length l.bytes.items) };
+        IsWithin l.bytes.items l.found × (length l.last.items ≡ length l.bytes.items) × (l.last_len ≤ length l.last.items) };
 }
 
 impl Lines {
@@ -65,10 +60,14 @@ impl Lines {
     {
         Ok(Lines {
             bytes: vec![in alloc; 0; limit]?,
-            start: 0,
-            behind: 0,
-            end: 0,
-            is_over: false,
+            found: Found {
+                got: Got::Line,
+                start: 0,
+                behind: 0,
+                end: 0,
+            },
+            last: vec![in alloc; 0; limit]?,
+            last_len: 0,
         })
     }
 
@@ -80,12 +79,13 @@ impl Lines {
             (result ≡ Got.End) × (self.new ≡ self.old) × (source.new ≡ source.old) }
         ensures is_over { self.new.is_over ≡ is_last result }
 
-        // The text is the front of what was to come, and the answer says how it ends.
+        // What the answer cuts off is the front of what was to come, and the answer says how it ends.
         ensures cut { self.old.is_over ≡ false →
-            Consumes (to_come self.old (S.left source.old)) (to_come self.new (S.left source.new)) self.new.text }
+            Consumes (to_come self.old (S.left source.old)) (to_come self.new (S.left source.new)) (cut_off result self.new) }
         ensures found { self.old.is_over ≡ false → Finds result self.new (S.left source.new) }
+        ensures kept { has_text result ≡ false → self.new.text ≡ self.old.text }
         ensures limit { self.new.limit ≡ self.old.limit }
-        ensures few { length self.new.text + length self.new.ahead ≤ self.new.limit }
+        ensures few { has_text result ≡ true → length self.new.text + length self.new.ahead ≤ self.new.limit }
 
         // What is held is used before more is read.
         ensures ready { Contains self.old.ahead 10 → source.new ≡ source.old }
@@ -94,28 +94,35 @@ impl Lines {
         ensures later { S.faults source.old ≤ S.faults source.new }
         ensures failed { result ≡ Got.ReadFault → Rose (S.faults source.old) (S.faults source.new) }
     {
-        if self.is_over {
+        if ends(self.found.got) {
             return Got::End;
         }
-        let found = find_line(&mut self.bytes, self.behind, self.end, source);
-        self.start = found.start;
-        self.behind = found.behind;
-        self.end = found.end;
-        self.is_over = ends(found.got);
-        found.got
+        self.last_len = self.found.behind - self.found.start;
+        self.found = find_line(&mut self.bytes, self.found, &mut self.last, source);
+        self.found.got
     }
 
-    /// The bytes of the last `Line`, `Part` or `Long`. There are none where the source ended or failed
-    /// behind a `Line`.
+    /// The bytes of the last `Line`, `Part` or `Long`, also behind an `End` or a `ReadFault`. There are none before the
+    /// first.
     pub fn text(&self) -> &[u8]
         ensures { result.now ≡ self.now.text }
     {
-        &self.bytes[self.start..self.behind]
+        if tells(self.found.got) {
+            &self.bytes[self.found.start..self.found.behind]
+        } else {
+            &self.last[..self.last_len]
+        }
+    }
+
+    /// The bytes that are held behind the last answer.
+    pub fn held(&self) -> &[u8]
+        ensures { result.now ≡ self.now.ahead }
+    {
+        &self.bytes[self.found.behind..self.found.end]
     }
 }
 
-/// Where in the buffer the text of an answer stands, `start..behind`, and the bytes held behind it,
-/// `behind..end`.
+/// What was found, and where in the buffer its text stands, `start..behind`, and the bytes held behind it, `behind..end`.
 #[derive(Clone, Copy, Debug)]
 struct Found {
     got: Got,
@@ -131,29 +138,47 @@ fn ends(got: Got) -> bool
     !matches!(got, Got::Line)
 }
 
-/// Finds the next line, where `buf[behind..end]` are the bytes held.
-fn find_line<S: Source>(buf: &mut [u8], behind: usize, end: usize, source: &mut S) -> Found
-    requires order { behind ≤ end }
-    requires bounds { end ≤ length buf.old }
+/// Whether the answer has a text.
+fn tells(got: Got) -> bool
+    ensures { result ≡ has_text got }
+{
+    !matches!(got, Got::End | Got::ReadFault)
+}
+
+/// Finds the line behind the one that was found before. Where it must read, it first copies that line's text to the
+/// front of `last`.
+fn find_line<S: Source>(buf: &mut [u8], before: Found, last: &mut [u8], source: &mut S) -> Found
+    requires within { IsWithin buf.old before }
+    requires room { length last.old ≡ length buf.old }
     ensures within { IsWithin buf.new result }
-    ensures cut { let lines = found_in buf.new result in
-        Consumes (prepend_known (slice_range buf.old behind end) (S.left source.old)) (to_come lines (S.left source.new)) lines.text }
-    ensures found { Finds result.got (found_in buf.new result) (S.left source.new) }
-    ensures ready { Contains (slice_range buf.old behind end) 10 → source.new ≡ source.old }
-    ensures full { length (slice_range buf.old behind end) ≡ length buf.old → source.new ≡ source.old }
+    ensures cut { (text : List ℕ) → let lines = found_in buf.new text result in
+        Consumes (prepend_known (slice_range buf.old before.behind before.end) (S.left source.old)) (to_come lines (S.left source.new)) (cut_off result.got lines) }
+    ensures found { (text : List ℕ) → Finds result.got (found_in buf.new text result) (S.left source.new) }
+    ensures kept { has_text result.got ≡ false → take (before.behind - before.start) last.new ≡ slice_range buf.old before.start before.behind }
+    ensures ready { Contains (slice_range buf.old before.behind before.end) 10 → source.new ≡ source.old }
+    ensures full { length (slice_range buf.old before.behind before.end) ≡ length buf.old → source.new ≡ source.old }
     ensures later { S.faults source.old ≤ S.faults source.new }
     ensures failed { result.got ≡ Got.ReadFault → Rose (S.faults source.old) (S.faults source.new) }
 {
-    if let Some(count) = line_len(&buf[behind..end]) {
+    if let Some(count) = line_len(&buf[before.behind..before.end]) {
         return Found {
             got: Got::Line,
-            start: behind,
-            behind: behind + count,
-            end,
+            start: before.behind,
+            behind: before.behind + count,
+            end: before.end,
         };
     }
-    move_to_front(buf, behind, end);
-    read_line(buf, end - behind, source)
+    copy_text(&buf[before.start..before.behind], last);
+    move_to_front(buf, before.behind, before.end);
+    read_line(buf, before.end - before.behind, source)
+}
+
+/// Copies the text to the front of `last`.
+fn copy_text(text: &[u8], last: &mut [u8])
+    requires { length text.now ≤ length last.old }
+    ensures { take (length text.now) last.new ≡ text.now }
+{
+    last[..text.len()].copy_from_slice(text);
 }
 
 /// Reads until there is a line, where `buf[..held]` are the bytes held and have no line feed.
@@ -161,9 +186,9 @@ fn read_line<S: Source>(buf: &mut [u8], held: usize, source: &mut S) -> Found
     requires bounds { held ≤ length buf.old }
     requires none { HasNoFeed (take held buf.old) }
     ensures within { IsWithin buf.new result }
-    ensures cut { let lines = found_in buf.new result in
-        Consumes (prepend_known (take held buf.old) (S.left source.old)) (to_come lines (S.left source.new)) lines.text }
-    ensures found { Finds result.got (found_in buf.new result) (S.left source.new) }
+    ensures cut { (text : List ℕ) → let lines = found_in buf.new text result in
+        Consumes (prepend_known (take held buf.old) (S.left source.old)) (to_come lines (S.left source.new)) (cut_off result.got lines) }
+    ensures found { (text : List ℕ) → Finds result.got (found_in buf.new text result) (S.left source.new) }
     ensures full { held ≡ length buf.old → source.new ≡ source.old }
     ensures later { S.faults source.old ≤ S.faults source.new }
     ensures failed { result.got ≡ Got.ReadFault → Rose (S.faults source.old) (S.faults source.new) }

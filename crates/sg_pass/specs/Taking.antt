@@ -1,7 +1,8 @@
 -- One line, taken behind lines that are fine.
 use Rattle.std.specs.Prelude.{◌≡◌, ℕ, ◌+◌, ◌⊎◌, Bool, true, false, List, [], ◌∷◌, ◌++◌, length, Option, Some, None}
+use Rattle.sg_grammar.specs.Lines.{placed_of}
 use Rattle.sg_check.specs.Judging.{AreOfPlan}
-use Rattle.sg_check.specs.Kinds.{bytes_of, first_bad, placed_of}
+use Rattle.sg_check.specs.Kinds.{bytes_of, first_bad}
 use Rattle.sg_check.specs.Verdict.{AreFine, IsFirstBad}
 use Rattle.sg_check.specs.declared.judged.Kind.{Kind}
 use Rattle.sg_commit.specs.Seals.{StandsFor as HasTaken}

@@ -8,16 +8,6 @@ ghost use Rattle.sg_plan.specs.Fates.{are_codes, detail_fits, fate_fits, has_mar
 use crate::items::Items;
 use crate::plan::{Fate, Mark, Paper, Plan};
 
-/// How many candidates the race has: none where the plan has no such race.
-fn candidates_or_none(plan: &Plan, race: u32) -> usize
-    ensures { result ≡ candidates_of plan.now race }
-{
-    if race as usize >= plan.races.len() {
-        return 0;
-    }
-    plan.races.get(race as usize).candidates.len()
-}
-
 /// One of the numbers is this one.
 fn is_in(numbers: &[u32], number: u32) -> bool
     ensures { result ≡ is_in numbers.now number }
@@ -32,7 +22,7 @@ fn mark_fits(plan: &Plan, races: &[u32], mark: &Mark) -> bool
     if !is_in(races, mark.race) {
         return false;
     }
-    (mark.candidate as usize) < candidates_or_none(plan, mark.race)
+    (mark.candidate as usize) < plan.candidates(mark.race)
 }
 
 /// Each mark is beside a candidate of one of the races.
@@ -74,7 +64,7 @@ fn are_of_version(plan: &Plan, codes: &[u16]) -> bool
 fn are_codes(plan: &Plan, race: u32, codes: &Items<u16>) -> bool
     ensures { result ≡ are_codes plan.now race codes.now }
 {
-    if codes.len() != candidates_or_none(plan, race) {
+    if codes.len() != plan.candidates(race) {
         return false;
     }
     are_of_version(plan, codes.as_slice())

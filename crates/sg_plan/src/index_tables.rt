@@ -5,7 +5,7 @@ ghost use Rattle.sg_plan.specs.Ballots.{ballot_styles, style_has};
 ghost use Rattle.sg_plan.specs.Limits.{fault_of};
 ghost use Rattle.sg_plan.specs.inside.Index.{ballots_to, ballots_with, counts_before, counts_to, firsts_to, run_numbers};
 
-use crate::ballots::rows_of_run;
+use crate::ballots::{count_ballots, rows_of_run};
 use crate::items::Items;
 use crate::memory::NoMemory;
 use crate::plan::{Plan, Run};
@@ -13,10 +13,11 @@ use std::alloc::Global;
 
 /// Of each ballot, the number of its run.
 pub fn number_runs(alloc: Global, runs: &Items<Run>) -> Result<Items<u16>, NoMemory>
-    requires { length runs.now ≤ 20000 }
+    requires runs { length runs.now ≤ 20000 }
+    requires ballots { length (ballot_styles runs.now) ≤ 20000 }
     ensures { IfOk result (λ numbers. numbers ≡ run_numbers 0 runs.now) }
 {
-    let mut numbers = Items::new(alloc);
+    let mut numbers = Items::with_room(alloc, count_ballots(runs) as usize)?;
     for at in 0..runs.len() {
         numbers.push_times(at as u16, runs.get(at).count as usize)?;
     }

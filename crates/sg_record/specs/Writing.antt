@@ -1,9 +1,9 @@
--- What writing lines does to a sink, and how the writing of a record ends.
-use Rattle.std.specs.Prelude.{◌≡◌, ℕ, ◌+◌, ◌^◌, ◌<◌, ◌≤◌, ◌⊎◌, ◌==◌, Bool, true, List, [], ◌∷◌, length, map, filter, drop, All, Option, Result}
+-- How the writing of a record ends, and what its writers ask of lists.
+use Rattle.std.specs.Prelude.{◌≡◌, ℕ, ◌+◌, ◌^◌, ◌<◌, ◌≤◌, ◌⊎◌, ◌==◌, Bool, true, List, [], ◌∷◌, length, map, filter, drop, All, Option}
 use Rattle.std.specs.Io.KnownBytes.{Appends}
 use Rattle.std.specs.List.{concat, list_any}
-use Rattle.sg_outside.specs.Faults.{HasCause, Rose}
-use Rattle.sg_outside.specs.Streams.{AppendsFront, PutAppends}
+use Rattle.sg_outside.specs.Faults.{Rose}
+use Rattle.sg_outside.specs.Streams.{AppendsFront}
 use Rattle.sg_forms.specs.declared.line.CodeLine.{CodeLine}
 use Rattle.sg_forms.specs.Said.{Said}
 use Rattle.sg_forms.specs.Spelling.{IsCode, spelling}
@@ -33,11 +33,6 @@ pub record Seen : Type 0 where
 
 abbrev pub seen : Option (List ℕ) → ℕ → Seen
 seen bytes faults = record { bytes = bytes; faults = faults }
-
--- the lines were appended whole; where the sink failed, a front of them, and it has counted a fault
-pub record Puts {T E : Type 0} (version : ℕ) (before now : Seen) (result : Result T E) (lines : List Said) : Type 0 where
-  pub bytes : PutAppends before.bytes now.bytes result (text_in version lines)
-  pub cause : HasCause before.faults now.faults result
 
 -- how the writing of a text ends: it was appended whole; or the sink failed, behind a front of it; or memory was
 -- wanted, and a front of it was appended

@@ -1,3 +1,4 @@
+//! The order in which a stream puts the numbers below a number.
 ghost use Rattle.std.specs.Prelude.{◌≡◌, ◌+◌, ◌*◌, ◌^◌, ◌≤◌, IfOk, map};
 ghost use Rattle.sg_streams.specs.Streams.{word_of};
 ghost use Rattle.sg_streams.specs.Numbers.{numbers_below};

@@ -21,7 +21,7 @@ returns-in-Part g c =
     (ended-prepend c.next.new.self.ahead (g.S.Source.left c.next.new.source) found.3 found.4) fed.taken cut verdict in (
       judged,
       open-read c.loop-pass.pass c.loop-pass.lines c.next.new.self (g.S.Source.left c.args.input.now) (g.S.Source.left c.loop-pass.input) (g.S.Source.left c.next.new.source) c.end_at_no_line.result
-          fed cut c.in-Part.ensures.limit c.in-Part.ensures.few found.0 found.1 c.end_at_no_line.ensures.no judged,
+          fed cut c.in-Part.ensures.limit (c.in-Part.ensures.few refl) found.0 found.1 c.end_at_no_line.ensures.no judged,
     )
 
 pub returns-in-Long : goal.returns-in-Long
@@ -38,7 +38,7 @@ returns-in-Long g c =
     (long-has_no_form c.next.new.self.text found.0 full more)) in (
       judged,
       open-read c.loop-pass.pass c.loop-pass.lines c.next.new.self (g.S.Source.left c.args.input.now) (g.S.Source.left c.loop-pass.input) (g.S.Source.left c.next.new.source) c.end_at_no_line-in-Long.result
-          fed cut c.in-Long.ensures.limit c.in-Long.ensures.few found.0 some c.end_at_no_line-in-Long.ensures.no judged,
+          fed cut c.in-Long.ensures.limit (c.in-Long.ensures.few refl) found.0 some c.end_at_no_line-in-Long.ensures.no judged,
     )
 
 pub returns-in-End : goal.returns-in-End
@@ -47,13 +47,13 @@ returns-in-End g c =
     let found = c.in-End.ensures.found fed.goes_on in
     let cut = c.in-End.ensures.cut fed.goes_on in
     let judged : Judges (g.S.Source.left c.args.input.now) c.end.result =
-    end-judged (g.S.Source.left c.args.input.now) (to_come c.loop-pass.lines (g.S.Source.left c.loop-pass.input)) (to_come c.next.new.self (g.S.Source.left c.next.new.source)) fed.done c.next.new.self.text c.end.result
-    fed.are_lines found.0
-    (ended-prepend c.next.new.self.ahead (g.S.Source.left c.next.new.source) found.1 found.2) fed.taken cut
+    end-judged (g.S.Source.left c.args.input.now) (to_come c.loop-pass.lines (g.S.Source.left c.loop-pass.input)) (to_come c.next.new.self (g.S.Source.left c.next.new.source)) fed.done [] c.end.result
+    fed.are_lines refl
+    (ended-prepend c.next.new.self.ahead (g.S.Source.left c.next.new.source) found.0 found.1) fed.taken cut
     (c.end.ensures.all fed.done fed.stands) in (
       judged,
       end-read c.loop-pass.pass c.loop-pass.lines c.next.new.self (g.S.Source.left c.args.input.now) (g.S.Source.left c.loop-pass.input) (g.S.Source.left c.next.new.source) c.end.result
-          fed cut found.0 found.1 found.2 judged,
+          fed cut found.0 found.1 judged,
     )
 
 pub returns-in-ReadFault : goal.returns-in-ReadFault
@@ -62,7 +62,7 @@ returns-in-ReadFault g c =
     let found = c.in-ReadFault.ensures.found fed.goes_on in (
       rose-later (g.S.Source.faults c.args.input.now) (g.S.Source.faults c.loop-pass.input) (g.S.Source.faults c.next.new.source) c.loop-pass.invariant.1 (c.in-ReadFault.ensures.failed refl),
       fault-taken c.loop-pass.pass c.loop-pass.lines c.next.new.self (g.S.Source.left c.args.input.now) (g.S.Source.left c.loop-pass.input) (g.S.Source.left c.next.new.source)
-          fed (c.in-ReadFault.ensures.cut fed.goes_on) c.in-ReadFault.ensures.limit found.0 found.1 found.2,
+          fed (c.in-ReadFault.ensures.cut fed.goes_on) c.in-ReadFault.ensures.limit found.0 found.1,
     )
 
 pub returns-in-Ok-Over : goal.returns-in-Ok-Over
@@ -79,14 +79,14 @@ returns-in-Ok-Over g c =
     (subst (λ text. StandsFor c.header_line.new.self (fed.done ++ text ∷ [])) c.text.ensures stands)) in (
       judged,
       line-read c.loop-pass.pass c.loop-pass.lines c.next.new.self (g.S.Source.left c.args.input.now) (g.S.Source.left c.loop-pass.input) (g.S.Source.left c.next.new.source) c.end-in-Ok-Over.result
-          fed cut c.in-Line.ensures.limit c.in-Line.ensures.few found (c.end-in-Ok-Over.ensures.no closed) judged,
+          fed cut c.in-Line.ensures.limit (c.in-Line.ensures.few refl) found (c.end-in-Ok-Over.ensures.no closed) judged,
     )
 
 pub returns-in-Err : goal.returns-in-Err
 returns-in-Err g c =
     let header = c.loop-pass.invariant.0 in
     let fed = header.fed in
-    took_lines _ _ _ c.next.new.self fed.done header.fine header.header c.in-Line.ensures.few (c.in-Line.ensures.limit ∙ fed.limit) fed.taken (c.in-Line.ensures.cut fed.goes_on)
+    took_lines _ _ _ c.next.new.self fed.done header.fine header.header (c.in-Line.ensures.few refl) (c.in-Line.ensures.limit ∙ fed.limit) fed.taken (c.in-Line.ensures.cut fed.goes_on)
 
 pub judge_behind-requires-clause-fed : goal.judge_behind-requires-clause-fed
 judge_behind-requires-clause-fed g c =

@@ -4,7 +4,7 @@ use Rattle.sg_outside.proofs.CuttingLemmas.{HasNoFeed-read, IsLine-read, cut_rea
 use Rattle.sg_outside.proofs.cutter.read_line.Goals as goal
 
 pub returns-in-Some-clause-cut : goal.returns-in-Some-clause-cut
-returns-in-Some-clause-cut g c =
+returns-in-Some-clause-cut g c = λ text.
     let end = c.loop-end.end in
     let count = c.in-Ok.count in
     let within : end + c.in-Some.len ≤ end + count =
@@ -12,7 +12,7 @@ returns-in-Some-clause-cut g c =
     cut_read _ _ c.read_more.new.buf _ _ within (take_read _ _ _ c.loop-end.buf c.read_more.new.buf end count c.loop-end.invariant.came c.in-Ok.ensures.ok)
 
 pub returns-in-Some-clause-found : goal.returns-in-Some-clause-found
-returns-in-Some-clause-found g c =
+returns-in-Some-clause-found g c = λ text.
     let end = c.loop-end.end in
     let count = c.in-Ok.count in
     let within : c.in-Some.len ≤ count =

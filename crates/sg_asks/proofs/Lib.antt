@@ -1,0 +1,5 @@
+pub mod Each
+pub mod Utf8
+pub mod Digits
+pub mod AskCodes
+pub mod ReplyTexts
