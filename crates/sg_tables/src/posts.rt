@@ -75,7 +75,7 @@ impl Tables {
     }
 
     /// The column of a ballot row shows a candidate that a ballot with this fate marks.
-    fn column_marked(&self, race: u32, ballot_row: u32, fate: &Fate, column: u32) -> bool
+    pub fn column_marked(&self, race: u32, ballot_row: u32, fate: &Fate, column: u32) -> bool
         requires race { race < length self.now.plan.races }
         requires ballot_row { ballot_row < rows_of self.now.plan race }
         requires column { column < candidates_of self.now.plan race }
