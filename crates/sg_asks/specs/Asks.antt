@@ -1,10 +1,9 @@
 -- The nine forms of an ask as JSON.
-use Rattle.std.specs.Prelude.{◌≡◌, ℕ, if◌then◌else◌, List, [], bytes_eq, codes, Option, None, Some, Result, Ok, Err}
+use Rattle.std.specs.Prelude.{◌≡◌, ℕ, if◌then◌else◌, List, bytes_eq, codes, Option, None, Some, Result, Ok, Err}
 use Rattle.std.specs.Option.{option_map, option_and_then}
-use Rattle.std.specs.Result.{result_unwrap_or}
 use Rattle.serde_json.specs.Data.{Data, Items, no_items, item}
 use Rattle.serde_json.specs.Find.{as_array, as_str}
-use Rattle.sg_lines.specs.Words.{decode_of, encode_lower}
+use Rattle.sg_lines.specs.Words.{hex_of}
 use Rattle.sg_plan.specs.declared.plan.Mark.{Mark}
 use Rattle.sg_plan.specs.declared.plan.Draw.{Draw}
 use Rattle.sg_plan.specs.declared.plan.Draw.TheVariants.{Full, Public}
@@ -47,13 +46,9 @@ codes_in version = list_by (code_in version)
 unfoldable pub paper_in : ℕ → Data → Option (List (List ℕ))
 paper_in version = list_by (codes_in version)
 
--- the bytes whose lower-case hexadecimal digits a text is
-unfoldable pub bytes_in : List ℕ → Option (List ℕ)
-bytes_in text = let bytes = result_unwrap_or (decode_of text) [] in if bytes_eq text (encode_lower bytes) then Some bytes else None
-
 -- a draw is `full`, or lower-case hexadecimal digits, an even number of them, for the public bytes
 abbrev pub draw_of_text : List ℕ → Option Draw
-draw_of_text text = if bytes_eq text (codes "full") then Some Full else option_map Public (bytes_in text)
+draw_of_text text = if bytes_eq text (codes "full") then Some Full else option_map Public (hex_of text)
 
 -- a draw
 unfoldable pub draw_in : Data → Option Draw

@@ -1,7 +1,7 @@
 //! What the forms of an ask say, but for who asks.
-ghost use Rattle.std.specs.Prelude.{◌≡◌, ◌*◌, length, codes, option_map};
+ghost use Rattle.std.specs.Prelude.{◌≡◌, codes};
 ghost use Rattle.serde_json.specs.View.{view, items_view};
-ghost use Rattle.sg_asks.specs.Asks.{audit_in, ballot_in, bytes_in, claim_in, draw_in, draw_of_text, mark_in, pair_in, paper_in, scan_in, stamp_in};
+ghost use Rattle.sg_asks.specs.Asks.{audit_in, ballot_in, claim_in, draw_in, draw_of_text, mark_in, pair_in, paper_in, scan_in, stamp_in};
 ghost use Rattle.sg_asks.specs.Members.{code_in, member_by};
 ghost use Rattle.sg_asks.specs.inside.Reading.{Reads};
 
@@ -10,8 +10,8 @@ use crate::papers::{code_of, paper_of};
 use crate::unread::Unread;
 use serde_json::Value;
 use sg_keeper::{Act, Stamp};
-use sg_lines::read_hex;
-use sg_plan::{Draw, Mark, Paper, Word};
+use sg_lines::hex_bytes;
+use sg_plan::{Draw, Mark, Paper};
 use std::alloc::Global;
 
 /// Who asks.
@@ -88,39 +88,16 @@ pub(crate) fn audit_of(alloc: Global, version: u32, value: &Value) -> Result<Act
     Ok(Act::Audit(ballot, paper))
 }
 
-/// The bytes whose lower-case hexadecimal digits a text is.
-fn bytes_of(alloc: Global, text: &[u8]) -> Result<Word, Unread>
-    ensures { Reads result (bytes_in text.now) }
-{
-    if text.len() % 2 != 0 {
-        return Err(Unread::Shape);
-    }
-    let Ok(mut room) = vec![in alloc; 0; text.len() / 2] else {
-        return Err(Unread::NoMemory);
-    };
-    bytes_into(alloc, text, &mut room)
-}
-
-/// The same, with room for the bytes.
-fn bytes_into(alloc: Global, text: &[u8], room: &mut [u8]) -> Result<Word, Unread>
-    requires { length text.now ≡ 2 * length room.old }
-    ensures { Reads result (bytes_in text.now) }
-{
-    if !read_hex(text, room) {
-        return Err(Unread::Shape);
-    }
-    let mut word = Word::new(alloc);
-    word.extend(room)?;
-    Ok(word)
-}
-
 /// `full`, or the digits of public bytes.
 fn draw_of_text(alloc: Global, text: &[u8]) -> Result<Draw, Unread>
     ensures { Reads result (draw_of_text text.now) }
 {
     match text {
         b"full" => Ok(Draw::Full),
-        _ => Ok(Draw::Public(bytes_of(alloc, text)?)),
+        _ => match hex_bytes(alloc, text)? {
+            Some(bytes) => Ok(Draw::Public(bytes)),
+            None => Err(Unread::Shape),
+        },
     }
 }
 

@@ -10,12 +10,10 @@ use crate::unread::Unread;
 use serde_json::Value;
 use sg_keeper::Setup;
 use sg_lines::read_digest;
+use sg_plan::limits::MOST_STATIONS;
 use sg_plan::{Plan, PlanFault, Race, Run, Style, Word};
 use sg_streams::Seed;
 use std::alloc::Global;
-
-/// The most stations that an election may have, each with its secret.
-const MOST_STATIONS: usize = 32;
 
 /// Why bytes are no election file.
 #[derive(Clone, Copy, Debug, PartialEq, Eq)]
