@@ -3,6 +3,5 @@ pub mod Formed
 pub mod Laws
 pub mod Gathering
 pub mod Growing
-pub mod Walking
 pub mod Writing
 pub mod Pens

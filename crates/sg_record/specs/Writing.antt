@@ -3,7 +3,7 @@ use Rattle.std.specs.Prelude.{◌≡◌, ℕ, ◌+◌, ◌^◌, ◌<◌, ◌≤�
 use Rattle.std.specs.Io.KnownBytes.{Appends}
 use Rattle.std.specs.List.{concat, list_any}
 use Rattle.sg_outside.specs.Faults.{Rose}
-use Rattle.sg_outside.specs.Streams.{AppendsFront}
+use Rattle.sg_outside.specs.Streams.{AppendsFront, Seen}
 use Rattle.sg_forms.specs.declared.line.CodeLine.{CodeLine}
 use Rattle.sg_forms.specs.Said.{Said}
 use Rattle.sg_forms.specs.Spelling.{IsCode, spelling}
@@ -25,14 +25,6 @@ IsVersion version = (version ≡ 1) ⊎ (version ≡ 2)
 -- the text of these lines, in a record of the version
 abbrev pub text_in : ℕ → List Said → List ℕ
 text_in version lines = concat (map (spelling version) lines)
-
--- a sink at a moment: its bytes, where it tells them, and how often it has failed
-pub record Seen : Type 0 where
-  pub bytes : Option (List ℕ)
-  pub faults : ℕ
-
-abbrev pub seen : Option (List ℕ) → ℕ → Seen
-seen bytes faults = record { bytes = bytes; faults = faults }
 
 -- how the writing of a text ends: it was appended whole; or the sink failed, behind a front of it; or memory was
 -- wanted, and a front of it was appended

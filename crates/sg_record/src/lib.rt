@@ -16,7 +16,6 @@ mod pen;
 mod read;
 mod record;
 mod results;
-mod walk;
 mod write;
 
 pub use blocks::{put_block, put_dispute};

@@ -1,8 +1,8 @@
 //! Two small records, put together by hand, and their texts.
 
 use crate::{
-    BallotBlock, BlockFate, CodeLine, DisputeBlock, Line, Pen, Record, RowCommit, RowOpening, Wrote,
-    read_record, write_record,
+    BallotBlock, BlockFate, CodeLine, DisputeBlock, Line, Pen, Record, RowCommit, RowOpening,
+    Wrote, read_record, write_record,
 };
 use sg_commit::{Digest, Key, Opening};
 use sg_outside::Page;
