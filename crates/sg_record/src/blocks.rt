@@ -10,7 +10,8 @@ ghost use Rattle.sg_record.specs.Lines.{block_lines, cast_race_lines, dispute_li
 ghost use Rattle.sg_plan.specs.Ballots.{races_of_ballot};
 ghost use Rattle.sg_record.specs.declared.record.BlockFate.TheVariants as fate;
 ghost use Rattle.sg_record.specs.Pens.{Writes};
-ghost use Rattle.sg_record.specs.Writing.{ArePapers, DoNotFall, DoRise, GoesOn, GoesOnOver, HaveClaims, HaveCodes, HaveFates, has_race, of_race};
+ghost use Rattle.sg_record.specs.Writing.{HaveCodes};
+ghost use Rattle.sg_record.specs.inside.Parts.{ArePapers, DoNotFall, DoRise, GoesOn, GoesOnOver, HaveClaims, HaveFates, has_race, of_race};
 
 use crate::pen::Pen;
 use crate::record::{BallotBlock, BlockFate, DisputeBlock};

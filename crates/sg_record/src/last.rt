@@ -3,8 +3,8 @@
 //! A line that the last block has no room for adds nothing to it.
 ghost use Rattle.std.specs.Prelude.{◌≡◌, IfOk, OnOk};
 ghost use Rattle.sg_forms.specs.Said.{said};
-ghost use Rattle.sg_record.specs.Gathering.{begun, dispute_with, last_with, with_code, with_over, with_paper};
-ghost use Rattle.sg_record.specs.Growing.{change_of};
+ghost use Rattle.sg_record.specs.inside.Gathering.{begun, dispute_with, last_with, with_code, with_over, with_paper};
+ghost use Rattle.sg_record.specs.inside.Growing.{change_of};
 
 use crate::record::{BallotBlock, BlockFate, DisputeBlock};
 use sg_forms::{CodeLine, Line};

@@ -2,7 +2,6 @@
 #![tactic(auto)]
 
 mod blocks;
-mod bytes;
 mod commits;
 mod formed;
 mod head;
@@ -16,12 +15,13 @@ mod pen;
 mod read;
 mod record;
 mod results;
+mod typed;
 mod write;
 
 pub use blocks::{put_block, put_dispute};
 pub use commits::{put_code_commit, put_row_commit};
 pub use head::put_plan;
-pub use laws::{formed_law, text_law, whole_law};
+pub use laws::{formed_law, lines_law, text_law, walk_law, whole_law, words_law};
 pub use openings::{put_draw, put_row};
 pub use pen::Pen;
 pub use read::read_record;
@@ -29,6 +29,7 @@ pub use record::{BallotBlock, BlockFate, DisputeBlock, Record, RowCommit};
 pub use results::{put_flag_lines, put_place_lines, put_totals};
 pub use sg_forms::{CodeLine, Line, RowOpening, write_line};
 pub use sg_grammar::{Expect, Spot, Told, read_line, tell};
+pub use typed::{know_types, know_words};
 pub use write::{Wrote, write_record};
 
 #[cfg(test)]

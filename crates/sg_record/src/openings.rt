@@ -6,11 +6,10 @@ ghost use Rattle.sg_record.specs.Formed.{is_draw};
 ghost use Rattle.sg_record.specs.Lines.{draw_line, indexed, instance_row_lines, opening_lines, race_row_lines, row_line};
 ghost use Rattle.sg_record.specs.Pens.{Writes};
 
-use crate::bytes::know_bytes;
 use crate::lines::put_section_seal;
 use crate::pen::Pen;
 use crate::record::Record;
-use sg_forms::{Line, RowOpening};
+use sg_forms::{Line, RowOpening, know_bytes};
 use sg_lines::write_hex;
 use sg_outside::{Failed, Sink};
 use sg_plan::limits::MOST_PUBLIC_BYTES;

@@ -4,7 +4,7 @@ ghost use Rattle.sg_forms.specs.Said.Said.{Total};
 ghost use Rattle.sg_grammar.specs.Due.{each, lines_for};
 ghost use Rattle.sg_record.specs.Lines.{bit_sign, flag_line, flag_lines, indexed, place_line, place_lines, race_result_lines, result_lines, total_line};
 ghost use Rattle.sg_record.specs.Pens.{Writes};
-ghost use Rattle.sg_record.specs.Writing.{HasRaces};
+ghost use Rattle.sg_record.specs.inside.Parts.{HasRaces};
 
 use crate::lines::put_section_seal;
 use crate::pen::Pen;
