@@ -420,6 +420,26 @@ fn leaves_a_front(rt: HostRuntime) -> Result<(), Fail> {
     Ok(())
 }
 
+/// How many line feeds there are.
+fn count_feeds(text: &[u8]) -> usize {
+    text.iter().filter(|byte| **byte == b'\n').count()
+}
+
+#[test]
+fn leaves_a_front_at_each_line(rt: HostRuntime) -> Result<(), Fail> {
+    let alloc = rt.alloc();
+    let posted = all_fates(alloc)?;
+    assert!(rt; posted.is_formed());
+    let text = text_of(alloc, &ALL_FATES)?;
+    for line in 0..count_feeds(&text) {
+        let mut page = Page::new(alloc, 30_000, vec![in alloc; line as u32]?, 4)?;
+        assert_eq!(rt; write_record(alloc, &posted, &mut page), Wrote::SinkFailed);
+        assert!(rt; text.starts_with(page.written()), "{line}");
+        assert_eq!(rt; count_feeds(page.written()), line);
+    }
+    Ok(())
+}
+
 /// A cast ballot and a seal over its line, which `sha256sum` made of the bytes before it.
 const SEALED: &str =
     "cast 1\nseal 1 be5899f7ce1861413be3572673add4d58f7ecd74989d8c4ccb657b7b30516159\n";
