@@ -4,15 +4,9 @@ ghost use Rattle.sg_forms.specs.Reading.{public_bytes};
 ghost use Rattle.sg_forms.specs.Said.{Said, said};
 ghost use Rattle.sg_grammar.specs.Placed.Placed.{Begun, CodeAt, Disputed};
 ghost use Rattle.sg_grammar.specs.Spots.{placed_at};
-<<<<<<< HEAD
 ghost use Rattle.sg_grammar.specs.Meaning.{meant_line};
-ghost use Rattle.sg_record.specs.Gathering.{blank, sealed};
-ghost use Rattle.sg_record.specs.Growing.{Adds, with_plan};
-=======
-ghost use Rattle.sg_grammar.specs.Told.{told_line};
 ghost use Rattle.sg_record.specs.inside.Gathering.{blank, sealed};
 ghost use Rattle.sg_record.specs.inside.Growing.{Adds, with_plan};
->>>>>>> cad2ec3d8c50c8840926cca373f63ae0eb1aa1ef
 
 use crate::last::{Addition, begin_fate, push_dispute_code, push_last};
 use crate::nested::{empty_lists, empty_tables, push_at, push_bits_at, push_bits_in, push_in};

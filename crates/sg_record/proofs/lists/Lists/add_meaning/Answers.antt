@@ -1,12 +1,7 @@
 use Rattle.std.proofs.Common.{ℕ, List, ap, refl, take}
 use Rattle.sg_record.proofs.Growing.{grows_ballots}
-<<<<<<< HEAD:crates/sg_record/proofs/lists/Lists/add_meaning/Answers.antt
 use Rattle.sg_record.proofs.lists.Lists.add_meaning.Goals as goal
-use Rattle.sg_record.specs.Gathering.{last_with, with_over, with_paper}
-=======
-use Rattle.sg_record.proofs.lists.Lists.add_told.Goals as goal
 use Rattle.sg_record.specs.inside.Gathering.{last_with, with_over, with_paper}
->>>>>>> cad2ec3d8c50c8840926cca373f63ae0eb1aa1ef:crates/sg_record/proofs/lists/Lists/add_told/Answers.antt
 
 pub returns-in-Over : goal.returns-in-Over
 returns-in-Over c =
