@@ -72,6 +72,7 @@ impl From<std::alloc::AllocError> for Fault {
 }
 
 /// The line is written as these bytes.
+#[tactic(auto, using(sg_forms::proofs::Fits::in_range_fits))]
 fn is_written(version: u32, line: &Line, bytes: &[u8], buffer: &mut [u8]) -> bool
     requires version { (version ≡ 1) ⊎ (version ≡ 2) }
     requires line { IsInRange version (said line.now) }

@@ -233,7 +233,7 @@ all_found_at read spell Fits kind word words values (Some value) (Some others) i
     (record { spelled = ap (λ w. w ∷ words) kept.1 ∙ ap (λ list. spell value ∷ list) later.spelled; fit = All-cons Fits value others kept.0 later.fit })
 
 -- words that are read one by one are of the kind
-all_found : {A : Type 0} (read : List ℕ → Option A) (spell : A → List ℕ) (Fits : A → Type 0) → IsKind read spell Fits
+pub all_found : {A : Type 0} (read : List ℕ → Option A) (spell : A → List ℕ) (Fits : A → Type 0) → IsKind read spell Fits
     → (words : List (List ℕ)) (values : List A) → all_by read words ≡ Some values → AreRead spell Fits words values
 all_found {A} read spell Fits kind [] values e =
     let none : List A = [] in

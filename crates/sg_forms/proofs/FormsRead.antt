@@ -13,7 +13,7 @@ use Rattle.sg_forms.specs.Reading.{all_by, few_by, is_hex_sign, plan_form, resul
 use Rattle.sg_forms.proofs.WordKinds.{IsKind, number_kind, key_kind, digest_kind, code_kind, name_kind, bits_kind, digits_kind, claim_kind, hex_signs}
 
 -- words of a kind are read, one by one
-all_read : {A : Type 0} (read : List ℕ → Option A) (spell : A → List ℕ) (Fits : A → Type 0) → IsKind read spell Fits
+pub all_read : {A : Type 0} (read : List ℕ → Option A) (spell : A → List ℕ) (Fits : A → Type 0) → IsKind read spell Fits
     → (values : List A) → All Fits values → all_by read (map spell values) ≡ Some values
 all_read read spell Fits kind [] fit = refl
 all_read read spell Fits kind (value ∷ values) fit =

@@ -1,3 +1,4 @@
+-- The proofs of the forms, of reading and of writing.
 pub mod Cutting
 pub mod Kept
 pub mod Few
@@ -9,5 +10,6 @@ pub mod Overwriting
 pub mod Lengths
 pub mod LineLaws
 pub mod FormLaws
+pub mod Fits
 pub mod Written
 pub mod Drawn

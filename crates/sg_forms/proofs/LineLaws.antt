@@ -66,7 +66,7 @@ no_space : (word : List ℕ) → All IsInk word → All (λ byte. is_space byte 
 no_space word plain = All-weaker IsInk (λ byte. is_space byte ≡ false) (λ byte ink. ne_eqb byte 32 (λ space. omega arith)) word plain
 
 -- words without a space, joined by spaces, are cut again as they were
-words_joined : (first : List ℕ) (words : List (List ℕ)) → All IsInk first → ArePlain words → words_in (join_with_byte 32 (first ∷ words)) ≡ first ∷ words
+pub words_joined : (first : List ℕ) (words : List (List ℕ)) → All IsInk first → ArePlain words → words_in (join_with_byte 32 (first ∷ words)) ≡ first ∷ words
 words_joined first [] plain others = slice_split_none is_space first (no_space first plain)
 words_joined first (next ∷ words) plain others =
     slice_split_at is_space first 32 (join_with_byte 32 (next ∷ words)) (no_space first plain) refl ∙ ap (λ list. first ∷ list) (words_joined next words others.0 others.1)

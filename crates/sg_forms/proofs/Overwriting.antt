@@ -4,7 +4,7 @@ use Rattle.std.proofs.Math.Seq.{set-append_seam, take-append_seam, drop-append-a
 use Rattle.std.proofs.lemmas.List.{append-nil, take_all, drop_all, drop-drop, drop_more, length-take-le, take-append-drop}
 use borrow.Rule.Slice.PartMut.{put_mid, mid_of}
 use Rattle.std.specs.List.{join_with_byte}
-use Rattle.sg_forms.specs.Writing.{spaced, overwritten, IsWritten}
+use Rattle.sg_forms.specs.inside.Writing.{spaced, overwritten, IsWritten}
 
 -- a space behind a word in front
 pub space_behind : (word old : List ℕ) → length word < length old

@@ -13,7 +13,7 @@ ArePlain [] = Unit {0}
 ArePlain (word ∷ words) = All IsInk word × ArePlain words
 
 -- no word of a list has a space or a line feed
-plain_list : {A : Type 0} (read : List ℕ → Option A) (spell : A → List ℕ) (Fits : A → Type 0) → IsKind read spell Fits → (values : List A) → All Fits values → ArePlain (map spell values)
+pub plain_list : {A : Type 0} (read : List ℕ → Option A) (spell : A → List ℕ) (Fits : A → Type 0) → IsKind read spell Fits → (values : List A) → All Fits values → ArePlain (map spell values)
 plain_list read spell Fits kind [] fit = tt
 plain_list read spell Fits kind (value ∷ values) fit =
     (kind.plain value (All-head Fits value values fit), plain_list read spell Fits kind values (All-tail Fits value values fit))

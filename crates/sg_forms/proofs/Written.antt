@@ -4,7 +4,7 @@ use Rattle.std.proofs.Math.Seq.{set-append_seam}
 use Rattle.std.specs.List.{join_with_byte}
 use Rattle.sg_forms.specs.Said.{Said}
 use Rattle.sg_forms.specs.Spelling.{longest_line, words_of, spelling, IsInRange}
-use Rattle.sg_forms.specs.Writing.{spaced, HasRoom, IsWritten}
+use Rattle.sg_forms.specs.inside.Writing.{spaced, HasRoom, IsWritten}
 use Rattle.sg_forms.proofs.LineLaws.{lines_are_short}
 use Rattle.sg_forms.proofs.Overwriting.{spaced_some}
 use Rattle.sg_forms.proofs.Plain.{words_plain}

@@ -116,3 +116,19 @@ IsInRange version (DrawPublic digits) = AreDigits digits
 IsInRange version (Row opening) = IsRow opening
 IsInRange version (Dispute ballot race code word) = IsNumber ballot × IsNumber race × IsCode version code
 IsInRange version (Voided ballot) = IsNumber ballot
+
+-- the words of the line that no type of the program holds to their kind are of it: the version, names, bits, digits and
+-- codes, and how many races or codes there are
+abbrev pub FitsForm : ℕ → Said → Type 0
+FitsForm version (Version number) = (number ≡ 1) ⊎ (number ≡ 2)
+FitsForm version (Election name) = IsName name
+FitsForm version (Race name candidates votes) = IsName name
+FitsForm version (Cand name) = IsName name
+FitsForm version (Style name races) = IsName name × (1 ≤ length races) × (length races ≤ 32)
+FitsForm version (Code code) = IsCode version code.code
+FitsForm version (Paper race list) = All (IsCode version) list × (1 ≤ length list) × (length list ≤ 16)
+FitsForm version (Flags race instance bits) = AreFewBits bits
+FitsForm version (Places race bits) = AreFewBits bits
+FitsForm version (DrawPublic digits) = AreDigits digits
+FitsForm version (Dispute ballot race code word) = IsCode version code
+FitsForm version _ = Unit {0}

@@ -12,6 +12,7 @@ mod plan;
 mod read;
 mod results;
 mod rows;
+mod types;
 mod words;
 mod write;
 
@@ -19,6 +20,7 @@ pub use draw::draw_bytes;
 pub use laws::{no_form_law, spelling_law};
 pub use line::{CodeLine, Line, RowOpening};
 pub use read::read_form;
+pub use types::{know_bytes, know_digest, know_key, know_line, know_numbers, know_row};
 pub use write::write_line;
 
 #[cfg(test)]

@@ -1,3 +1,4 @@
+//! The forms of a line of the public record, as values.
 use sg_commit::{Digest, Key, Opening};
 use sg_plan::ClaimWord;
 

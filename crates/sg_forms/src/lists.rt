@@ -1,4 +1,4 @@
-//! Lists of numbers and of codes that end a line, read into arrays.
+//! Lists of numbers and of codes that end a line, read into arrays, and the front of an array.
 ghost use Rattle.std.specs.Prelude.{◌≡◌, ℕ, List, take, IfSome};
 ghost use Rattle.std.specs.Option.{option_map};
 ghost use Rattle.sg_lines.specs.Words.{decimal_of, code_of};
@@ -56,4 +56,11 @@ pub(crate) fn few_codes(version: u32, mut words: Words) -> Option<([u16; 16], u3
     } else {
         Some((codes, count as u32))
     }
+}
+
+/// The first elements of a list, up to so many.
+pub(crate) fn front<T>(list: &[T], count: u32) -> &[T]
+    ensures { result.now ≡ take count list.now }
+{
+    &list[..list.len().min(count as usize)]
 }

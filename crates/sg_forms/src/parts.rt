@@ -1,7 +1,7 @@
 //! The parts of a line, each written as one word with a space behind it.
 ghost use Rattle.std.specs.Prelude.{◌≡◌, ◌⊎◌, ◌+◌, ◌<◌, ◌≤◌, ◌++◌, ◌∷◌, [], length, drop, map, All};
 ghost use Rattle.sg_forms.specs.Spelling.{IsCode};
-ghost use Rattle.sg_forms.specs.Writing.{spaced, overwritten, HasRoom, IsWritten, part_word, IsPart, AreParts};
+ghost use Rattle.sg_forms.specs.inside.Writing.{spaced, overwritten, HasRoom, IsWritten, part_word, IsPart, AreParts};
 ghost use Rattle.sg_lines.specs.Words.{decimal, code_word, encode_lower};
 
 use sg_lines::{write_code, write_decimal, write_hex};

@@ -1,22 +1,17 @@
 //! A line of the record, written.
-ghost use Rattle.std.specs.Prelude.{◌≡◌, ◌⊎◌, ◌≤◌, ◌++◌, All, length, take, drop};
+ghost use Rattle.std.specs.Prelude.{◌≡◌, ◌⊎◌, ◌≤◌, ◌++◌, All, length, drop};
 ghost use Rattle.sg_forms.specs.Said.{said};
 ghost use Rattle.sg_forms.specs.Said.Said.{Race, Style, Ballots, CodeCommit, RowCommit, Seal, Code, Paper, Flags, Places, Total, Row, Dispute};
-ghost use Rattle.sg_forms.specs.Spelling.{IsInRange, IsCode, longest_line, words_of, claim_word, spelling};
-ghost use Rattle.sg_forms.specs.Writing.{HasRoom, IsWritten};
+ghost use Rattle.sg_forms.specs.Spelling.{FitsForm, IsInRange, IsCode, longest_line, words_of, claim_word, spelling};
+ghost use Rattle.sg_forms.specs.inside.Writing.{HasRoom, IsWritten};
 
 use crate::line::{CodeLine, Line, RowOpening};
+use crate::lists::front;
 use crate::parts::Part::{Hex, Number, Text};
 use crate::parts::{Part, put_codes, put_numbers, put_parts};
+use crate::types::know_line;
 use sg_commit::Digest;
 use sg_plan::ClaimWord;
-
-/// The first elements of a list, up to so many.
-fn front<T>(list: &[T], count: u32) -> &[T]
-    ensures { result.now ≡ take count list.now }
-{
-    &list[..list.len().min(count as usize)]
-}
 
 /// The word of a dispute's answer.
 fn claim_word(word: ClaimWord) -> &'static [u8]
@@ -307,12 +302,13 @@ fn write_words(version: u32, line: &Line, out: &mut [u8]) -> usize
 /// its length. The rest of `out` stays as it is. Takes no memory.
 pub fn write_line(version: u32, line: &Line, out: &mut [u8]) -> usize
     requires version { (version ≡ 1) ⊎ (version ≡ 2) }
-    requires line { IsInRange version (said line.now) }
+    requires line { FitsForm version (said line.now) }
     requires room { longest_line ≤ length out.old }
     ensures len { result ≡ length (spelling version (said line.now)) }
     ensures written { out.new ≡ spelling version (said line.now) ++ drop result out.old }
     ensures short { result ≤ longest_line }
 {
+    know_line(version, line);
     let end = write_words(version, line, out);
     out[end - 1] = b'\n';
     end

@@ -1,7 +1,8 @@
 -- What one more line in its place makes of each table, over plain lists.
 use Rattle.std.specs.Prelude.{ℕ, nat_lt, ◌==◌, if◌then◌else◌, Bool, true, false, ◌&&◌, ◌||◌, List, ◌++◌, slice_set, Option, Some}
 use Rattle.std.specs.Option.{option_map, option_map_or, option_or}
-use Rattle.sg_check.specs.Facts.{is_audit, is_both, is_cast, is_dispute, left_of, right_of}
+use Rattle.sg_grammar.specs.Lines.{is_audit, is_cast, is_dispute}
+use Rattle.sg_check.specs.Facts.{is_both, left_of, right_of}
 use Rattle.sg_check.specs.Verdict.{total_on}
 use Rattle.sg_commit.specs.declared.Digest.{Digest}
 use Rattle.sg_commit.specs.declared.Opening.{Opening}

@@ -1,7 +1,10 @@
 pub mod BallotLists
 pub mod Counting
+pub mod FateLists
+pub mod IndexLists
 pub mod LimitLaws
 pub mod LimitTests
 pub mod Lists
 pub mod NameTests
 pub mod PlanLaws
+pub mod Walking

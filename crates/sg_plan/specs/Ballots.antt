@@ -28,6 +28,10 @@ style_has plan race style = list_any (λ r. r == race) (races_of_style plan styl
 abbrev pub style_of_ballot : Plan → ℕ → Option ℕ
 style_of_ballot plan ballot = (if ballot == 0 then None else slice_get (ballot_styles plan.runs) (ballot - 1))
 
+-- the races of a ballot: none where the plan has no such ballot
+abbrev pub races_of_ballot : Plan → ℕ → List ℕ
+races_of_ballot plan ballot = option_map_or (races_of_style plan) (style_of_ballot plan ballot) []
+
 -- the ballot is in the plan, and its style has the race
 abbrev pub ballot_has : Plan → ℕ → ℕ → Bool
 ballot_has plan ballot race = option_map_or (style_has plan race) (style_of_ballot plan ballot) false

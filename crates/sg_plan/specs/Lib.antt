@@ -1,5 +1,8 @@
 pub mod Ballots
 pub mod Codes
+pub mod Fates
 pub mod Laws
 pub mod Limits
 pub mod Names
+pub mod Walking
+pub mod inside

@@ -1,11 +1,10 @@
 //! The numbering of ballots, entries and places, which follows from the plan alone.
 ghost use Rattle.std.specs.Prelude.{◌≡◌, ◌%◌, ◌<◌, ◌≤◌, true, length, None, Some};
-ghost use Rattle.sg_plan.specs.Ballots.{IsBallotOf, ballot_has, ballot_row, ballots_of, candidates_of, entries_of, entry_in, is_over, rows_of, style_has, style_of_ballot};
+ghost use Rattle.sg_plan.specs.Ballots.{IsBallotOf, ballot_has, ballot_row, ballots_of, candidates_of, entries_of, entry_in, is_over, rows_of, style_has, style_of_ballot, votes_of};
 ghost use Rattle.sg_plan.specs.Limits.{fault_of};
 
 use crate::ballots::{
-    count_ballots, count_candidates, count_entries, count_rows, count_rows_before, place_of_row,
-    style_at,
+    count_ballots, count_entries, count_rows, count_rows_before, place_of_row, style_at,
 };
 use crate::items::Items;
 use crate::plan::{Mark, Plan};
@@ -60,6 +59,26 @@ impl Plan {
         }
     }
 
+    /// How many candidates the race has: none where the plan has no such race.
+    pub fn candidates(&self, race: u32) -> usize
+        ensures { result ≡ candidates_of self.now race }
+    {
+        if race as usize >= self.races.len() {
+            return 0;
+        }
+        self.races.get(race as usize).candidates.len()
+    }
+
+    /// How many votes a voter has in the race: none where the plan has no such race.
+    pub fn votes(&self, race: u32) -> u32
+        ensures { result ≡ votes_of self.now race }
+    {
+        if race as usize >= self.races.len() {
+            return 0;
+        }
+        self.races.get(race as usize).votes
+    }
+
     /// How many ballots have the race.
     pub fn rows(&self, race: u32) -> u32
         requires limits { fault_of self.now ≡ None }
@@ -95,7 +114,7 @@ impl Plan {
         requires race { race < length self.now.races }
         ensures { result ≡ entry_in self.now race ballot column }
     {
-        let candidates = count_candidates(self, race);
+        let candidates = self.candidates(race);
         if column as usize >= candidates {
             return None;
         }
@@ -112,7 +131,7 @@ impl Plan {
         requires entry { entry < entries_of self.now race }
         ensures { IsBallotOf self.now race entry result }
     {
-        place_of_row(self, race, entry / count_candidates(self, race) as u32) + 1
+        place_of_row(self, race, entry / self.candidates(race) as u32) + 1
     }
 
     /// The candidate in whose column a place of a race stands.
@@ -121,7 +140,7 @@ impl Plan {
         requires race { race < length self.now.races }
         ensures { result ≡ place % candidates_of self.now race }
     {
-        place % count_candidates(self, race) as u32
+        place % self.candidates(race) as u32
     }
 
     /// More of the marks name the race than a voter has votes in it.
@@ -129,7 +148,7 @@ impl Plan {
         requires { race < length self.now.races }
         ensures { result ≡ is_over self.now marks.now race }
     {
-        let votes = self.races.get(race as usize).votes;
+        let votes = self.votes(race);
         let marked = marks
             .as_slice()
             .iter()

@@ -6,14 +6,6 @@ ghost use Rattle.sg_plan.specs.Ballots.{all_entries, ballot_styles, candidates_o
 use crate::items::Items;
 use crate::plan::{Plan, Run};
 
-/// How many candidates the race has.
-pub fn count_candidates(plan: &Plan, race: u32) -> usize
-    requires { race < length plan.now.races }
-    ensures { result ≡ candidates_of plan.now race }
-{
-    plan.races.get(race as usize).candidates.len()
-}
-
 /// How many ballots the runs give.
 pub fn count_ballots(runs: &Items<Run>) -> u32
     requires { length (ballot_styles runs.now) < 2 ^ 32 }
@@ -57,7 +49,7 @@ pub fn count_rows_before(plan: &Plan, race: u32, ballots: u32) -> u32
 }
 
 /// How many of so many ballots of a style have the race: all or none.
-fn rows_of_run(plan: &Plan, race: u32, style: u32, count: u32) -> u32
+pub fn rows_of_run(plan: &Plan, race: u32, style: u32, count: u32) -> u32
     ensures { result ≡ (if style_has plan.now race style then count else 0) }
 {
     if plan.style_carries(style, race) {
@@ -104,7 +96,7 @@ pub fn count_entries(plan: &Plan, race: u32) -> u32
     requires few_candidates { candidates_of plan.now race ≤ 16 }
     ensures { result ≡ entries_of plan.now race }
 {
-    count_rows(plan, race) * count_candidates(plan, race) as u32
+    count_rows(plan, race) * plan.candidates(race) as u32
 }
 
 /// How many entries all races have.

@@ -8,7 +8,8 @@ use std::mem;
 
 /// A list that contracts see as the list of its items.
 ///
-/// It keeps its allocator. Only `push`, `push_times`, `filled` and `insert` take memory.
+/// It keeps its allocator. Only `push`, `extend`, `push_times`, `insert`, `reserve`, `with_room`, `filled` and `copy`
+/// take memory.
 #[derive(Debug, Drop)]
 pub struct Items<T> {
     items: Vec<T>,
@@ -63,6 +64,23 @@ impl<T> Items<T> {
 }
 
 impl<T: Drop> Items<T> {
+    /// The empty list, with room for so many items: pushing them takes no more memory.
+    pub fn with_room(alloc: Global, count: usize) -> Result<Items<T>, NoMemory>
+        ensures { IfOk result (λ items. items ≡ []) }
+    {
+        let mut items = Vec::new(alloc);
+        items.try_reserve_exact(count)?;
+        Ok(Items { items })
+    }
+
+    /// Makes room for so many more items: pushing them takes no more memory.
+    pub fn reserve(&mut self, more: usize) -> Result<(), NoMemory>
+        ensures { self.new ≡ self.old }
+    {
+        self.items.try_reserve(more)?;
+        Ok(())
+    }
+
     /// Puts `item` behind the last one.
     pub fn push(&mut self, item: T) -> Result<(), NoMemory>
         ensures ok { OnOk result (self.new ≡ self.old ++ item ∷ []) }
@@ -122,5 +140,23 @@ impl<T: Copy + Drop> Items<T> {
         };
         self.items.resize(len, value)?;
         Ok(())
+    }
+
+    /// Puts all of `more` behind the last item, in their order.
+    pub fn extend(&mut self, more: &[T]) -> Result<(), NoMemory>
+        ensures ok { OnOk result (self.new ≡ self.old ++ more.now) }
+        ensures err { OnErr result (self.new ≡ self.old) }
+    {
+        self.items.extend_from_slice(more)?;
+        Ok(())
+    }
+
+    /// A list equal to this one, with room for no more.
+    pub fn copy(&self, alloc: Global) -> Result<Items<T>, NoMemory>
+        ensures { IfOk result (λ copy. copy ≡ self.now) }
+    {
+        let mut copy = Items::with_room(alloc, self.len())?;
+        copy.extend(self.as_slice())?;
+        Ok(copy)
     }
 }

@@ -1,4 +1,4 @@
-//! The limits of a plan, and its first fault.
+//! The limits of an election, and the first fault of a plan.
 ghost use Rattle.std.specs.Prelude.{◌≡◌, ℕ, ◌<◌, ◌+◌, ◌^◌, ◌≤◌, [], None, Some, MatchResult, length, nat_lt, nat_le, ◌&&◌};
 ghost use Rattle.sg_plan.specs.Ballots.{ballot_styles, candidates_of, r_rows};
 ghost use Rattle.sg_plan.specs.Limits.{candidate_keeps, each_keeps, fault_of, first_bad, race_fault, race_fits, race_head_keeps, race_keeps, races_have, rises, run_fault, run_keeps, style_fault, style_fits, style_keeps, styles_have};
@@ -28,17 +28,53 @@ pub enum PlanFault {
     TooLarge(u64),
 }
 
-/// The most races, and the most styles.
-const MOST_KINDS: usize = 32;
+/// The most races of an election. It has one or more.
+pub const MOST_RACES: usize = 32;
 
-/// The most instances of table R.
-const MOST_INSTANCES: u32 = 16;
+/// The fewest candidates of a race.
+pub const LEAST_CANDIDATES: usize = 2;
+
+/// The most candidates of a race, and so the most votes that a voter has in one.
+pub const MOST_CANDIDATES: usize = 16;
+
+/// The most styles of paper. A plan has one or more.
+pub const MOST_STYLES: usize = 32;
+
+/// The most ballots. A plan has one or more.
+pub const MOST_BALLOTS: u32 = 20_000;
+
+/// The most instances of table R. Each race has one or more.
+pub const MOST_INSTANCES: u32 = 16;
 
 /// The most rows of table R, over all races and instances.
-const MOST_ROWS: u64 = 200_000;
+pub const MOST_ROWS: u64 = 200_000;
 
-/// The most ballots.
-const MOST_BALLOTS: u32 = 20_000;
+/// The longest name, in bytes. A name has one byte or more.
+pub const LONGEST_NAME: usize = 64;
+
+/// The most stations of an office. It has one or more.
+pub const MOST_STATIONS: usize = 32;
+
+/// The most public bytes of a draw. A draw by public bytes has one or more.
+pub const MOST_PUBLIC_BYTES: usize = 4_096;
+
+/// The most claims that an office takes, and so the most disputes of a record.
+pub const MOST_CLAIMS: usize = 10_000;
+
+/// The longest line of a record, in bytes, its line feed included.
+pub const LONGEST_LINE: usize = 16_384;
+
+/// The most bits on a line of flags or places.
+pub const MOST_BITS: usize = 64;
+
+/// The longest election file, in bytes.
+pub const LONGEST_ELECTION: usize = 1_048_576;
+
+/// The most lines of asks that are read.
+pub const MOST_ASKS: u32 = 100_000;
+
+/// The longest line of an ask, in bytes, its line feed included; and the longest body of a request.
+pub const LONGEST_ASK: usize = 65_536;
 
 /// All candidates' names are names, and no two are the same.
 fn are_candidates(names: &Items<Word>) -> bool
@@ -69,7 +105,7 @@ pub fn is_race_head(earlier: &[Race], name: &[u8], candidates: usize, votes: u32
     if has_race_named(earlier, name) {
         return false;
     }
-    if !(2..=16).contains(&candidates) {
+    if !(LEAST_CANDIDATES..=MOST_CANDIDATES).contains(&candidates) {
         return false;
     }
     (1..=candidates).contains(&(votes as usize))
@@ -91,7 +127,7 @@ fn is_race(earlier: &[Race], race: &Race) -> bool
 fn is_fitting_race(earlier: &[Race], race: &Race) -> bool
     ensures { result ≡ race_fits earlier.now race.now }
 {
-    if earlier.len() >= MOST_KINDS {
+    if earlier.len() >= MOST_RACES {
         return false;
     }
     is_race(earlier, race)
@@ -166,7 +202,7 @@ pub fn is_style(end: usize, earlier: &[Style], name: &[u8], races: &[u32]) -> bo
 fn is_fitting_style(races: usize, earlier: &[Style], style: &Style) -> bool
     ensures { result ≡ style_fits races earlier.now style.now }
 {
-    if earlier.len() >= MOST_KINDS {
+    if earlier.len() >= MOST_STYLES {
         return false;
     }
     is_style(races, earlier, style.name.bytes(), style.races.as_slice())

@@ -3,10 +3,8 @@ ghost use Rattle.std.specs.Prelude.{◌≡◌, ◌↔◌, IsTrue};
 ghost use Rattle.std.specs.List.{list_all};
 ghost use Rattle.sg_plan.specs.Names.{IsName, is_among, is_name_word, is_within, name_keeps};
 
+use crate::limits::LONGEST_NAME;
 use crate::word::Word;
-
-/// The longest name, in bytes.
-const LONGEST_NAME: usize = 64;
 
 /// The byte may stand in a name: a printable ASCII character other than the space.
 fn is_name_byte(byte: u8) -> bool

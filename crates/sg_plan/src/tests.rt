@@ -1,5 +1,8 @@
 //! Plans with each fault, at the edges of each limit, and the numbers of a small plan worked out by hand.
-use crate::{Items, Mark, NoMemory, Plan, Race, Run, Style, Word};
+use crate::{
+    BallotIndex, BallotWalk, Draw, Fate, Items, Mark, NoMemory, Plan, Race, Run, Style, Word,
+    codes_of, copy_words, same_races,
+};
 use std::alloc::Global;
 use std::process::Abort;
 use std::test::Fail;
@@ -261,5 +264,103 @@ fn fills_lists(rt: HostRuntime) -> Result<(), Fail> {
     assert!(rt; list.as_slice() == [7, 7, 8, 8, 8].as_slice());
     list.push_times(9, 0)?;
     assert!(rt; list.len() == 5);
+    Ok(())
+}
+
+/// The index of a plan's ballots.
+fn index_of(alloc: Global, text: &str) -> Result<BallotIndex, Fail> {
+    let (plan, _) = plan_of(alloc, text)?;
+    plan.check()?;
+    Ok(BallotIndex::make(alloc, &plan)?)
+}
+
+#[test]
+fn indexes_ballots(rt: HostRuntime) -> Result<(), Fail> {
+    let index = index_of(rt.alloc(), SMALL)?;
+    assert!(rt; index.ballots() == 5);
+    assert!(rt; index.plan().races.len() == 2);
+    assert!(rt; index.style(3) == 1);
+    assert!(rt; index.races(4).len() == 2);
+    assert!(rt; index.row(0, 4) == 2);
+    assert!(rt; index.plan().rows(0) == 3);
+    assert!(rt; index.ballot(0, 2) == 4);
+    assert!(rt; index.has(4, 0));
+    assert!(rt; !index.has(3, 0));
+    Ok(())
+}
+
+/// A fate of one mark.
+fn cast_of(alloc: Global, race: u32, candidate: u32) -> Result<Fate, NoMemory> {
+    let mut marks = Items::with_room(alloc, 1)?;
+    marks.push(Mark { race, candidate })?;
+    Ok(Fate::Cast(marks))
+}
+
+/// A fate of a paper with one list of so many codes.
+fn audited_of(alloc: Global, code: u16, count: usize) -> Result<Fate, NoMemory> {
+    let mut paper = Items::new(alloc);
+    paper.push(Items::filled(alloc, code, count)?)?;
+    Ok(Fate::Audited(paper))
+}
+
+#[test]
+fn judges_fates(rt: HostRuntime) -> Result<(), Fail> {
+    let index = index_of(rt.alloc(), SMALL)?;
+    assert!(rt; index.fits(5, &Fate::Voided));
+    assert!(rt; !index.fits(6, &Fate::Spoiled));
+    let cast = cast_of(rt.alloc(), 0, 2)?;
+    assert!(rt; index.fits(1, &cast));
+    assert!(rt; !index.fits(3, &cast));
+    let audited = audited_of(rt.alloc(), 999, 2)?;
+    assert!(rt; index.fits(3, &audited));
+    assert!(rt; !index.fits(1, &audited));
+    Ok(())
+}
+
+#[test]
+fn walks_over_ballots(rt: HostRuntime) -> Result<(), Fail> {
+    let (plan, _) = plan_of(rt.alloc(), SMALL)?;
+    plan.check()?;
+    assert!(rt; plan.ballots() == 5);
+    let mut walk = BallotWalk::start();
+    assert!(rt; walk.races_of(&plan, 3).len() == 1);
+    assert!(rt; plan.candidates(0) == 3);
+    assert!(rt; plan.votes(1) == 2);
+    assert!(rt; plan.is_code(999));
+    assert!(rt; codes_of(2) == 32_768);
+    Ok(())
+}
+
+#[test]
+fn copies_a_plan(rt: HostRuntime) -> Result<(), Fail> {
+    let (plan, _) = plan_of(rt.alloc(), SMALL)?;
+    let copy = plan.copy(rt.alloc())?;
+    assert!(rt; same_races(&plan.races, &copy.races));
+    assert!(rt; plan.name.equals(&copy.name));
+    Ok(())
+}
+
+#[test]
+fn copies_fates(rt: HostRuntime) -> Result<(), Fail> {
+    let fate = audited_of(rt.alloc(), 7, 3)?;
+    let text = format!(in rt.alloc(); "{:?}", fate)?;
+    let same = format!(in rt.alloc(); "{:?}", fate.copy(rt.alloc())?)?;
+    assert_eq!(rt; text.as_str(), same.as_str());
+    let draw = Draw::Public(word_of(rt.alloc(), b"ab".as_slice())?);
+    let text = format!(in rt.alloc(); "{:?}", draw)?;
+    let same = format!(in rt.alloc(); "{:?}", draw.copy(rt.alloc())?)?;
+    assert_eq!(rt; text.as_str(), same.as_str());
+    Ok(())
+}
+
+#[test]
+fn extends_lists(rt: HostRuntime) -> Result<(), Fail> {
+    let mut numbers = Items::with_room(rt.alloc(), 2)?;
+    numbers.extend([1u32, 2, 3].as_slice())?;
+    numbers.reserve(4)?;
+    let copy = numbers.copy(rt.alloc())?;
+    assert!(rt; copy.as_slice() == [1, 2, 3].as_slice());
+    let words: Items<Word> = Items::new(rt.alloc());
+    assert!(rt; copy_words(&words, rt.alloc())?.len() == 0);
     Ok(())
 }

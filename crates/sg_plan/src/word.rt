@@ -1,5 +1,5 @@
 //! A text that contracts see as the list of its bytes.
-ghost use Rattle.std.specs.Prelude.{◌≡◌, ◌+◌, [], ◌∷◌, ◌++◌, ◌<◌, ◌≤◌, length, take, drop, slice_get, slice_set, insert, remove, Some, OnOk, OnErr};
+ghost use Rattle.std.specs.Prelude.{◌≡◌, ◌+◌, [], ◌∷◌, ◌++◌, ◌<◌, ◌≤◌, length, take, drop, slice_get, slice_set, insert, remove, Some, IsTrue, ◌↔◌, IfOk, OnOk, OnErr};
 
 use crate::memory::NoMemory;
 use std::alloc::Global;
@@ -8,7 +8,7 @@ use std::mem;
 
 /// A text that contracts see as the list of its bytes.
 ///
-/// It keeps its allocator. Only `push`, `insert` and `extend` take memory.
+/// It keeps its allocator. Only `push`, `insert`, `extend`, `with_room` and `copy` take memory.
 #[derive(Debug, Drop)]
 pub struct Word {
     bytes: Vec<u8>,
@@ -31,6 +31,31 @@ impl Word {
         Word {
             bytes: Vec::new(alloc),
         }
+    }
+
+    /// The empty text, with room for so many bytes: pushing them takes no more memory.
+    pub fn with_room(alloc: Global, count: usize) -> Result<Word, NoMemory>
+        ensures { IfOk result (λ word. word ≡ []) }
+    {
+        let mut bytes = Vec::new(alloc);
+        bytes.try_reserve_exact(count)?;
+        Ok(Word { bytes })
+    }
+
+    /// A text equal to this one, with room for no more.
+    pub fn copy(&self, alloc: Global) -> Result<Word, NoMemory>
+        ensures { IfOk result (λ copy. copy ≡ self.now) }
+    {
+        let mut copy = Word::with_room(alloc, self.len())?;
+        copy.extend(self.bytes())?;
+        Ok(copy)
+    }
+
+    /// The texts are the same, byte for byte.
+    pub fn equals(&self, other: &Word) -> bool
+        ensures { IsTrue result ↔ (self.now ≡ other.now) }
+    {
+        self.bytes() == other.bytes()
     }
 
     /// The number of bytes.

@@ -23,12 +23,16 @@ pub mod HeadBack
 pub mod HeadOut
 pub mod Limits
 pub mod Marks
+pub mod PlacedBlocks
+pub mod PlacedSections
+pub mod PlacesLaw
+pub mod Placing
 pub mod Putting
 pub mod ReadLaw
+pub mod RecordWords
 pub mod SaidWalk
 pub mod SectionLines
 pub mod SlotLines
 pub mod Telling
 pub mod TextLaw
-pub mod Walking
 pub mod WholeLaw

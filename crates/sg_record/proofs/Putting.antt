@@ -1,8 +1,8 @@
 -- Lines that are written one after another.
-use Rattle.std.proofs.Common.{◌≡◌, ℕ, ◌≤◌, List, [], ◌∷◌, ◌++◌, ◌+◌, ◌-◌, ◌<◌, length, map, drop, All, slice_get, Some, Result, Ok, Err, refl, sym, ap, ◌∙◌, append_assoc, append-nil, arith}
+use Rattle.std.proofs.Common.{◌≡◌, ℕ, ◌≤◌, List, [], ◌∷◌, ◌++◌, ◌+◌, ◌-◌, ◌<◌, length, map, drop, All, slice_get, Option, Some, None, Result, Ok, Err, refl, sym, subst, ap, ◌∙◌, append_assoc, append-nil, arith}
 use Rattle.std.specs.Io.KnownBytes.{Appends}
 use Rattle.std.specs.List.{concat}
-use Rattle.std.specs.Prelude.{IsErr}
+use Rattle.std.specs.Prelude.{IsErr, IsSome}
 use Rattle.std.proofs.lemmas.Bool.{true≢false}
 use Rattle.std.proofs.lemmas.Option.{get_or_from_slice_get, slice_get_within}
 use Rattle.std.proofs.lemmas.List.{drop_all, drop_more, map-append}
@@ -15,7 +15,11 @@ use Rattle.sg_forms.specs.Spelling.{spelling}
 use Rattle.sg_grammar.proofs.Each.{each-first, each-none}
 use Rattle.sg_grammar.specs.Due.{each}
 use Rattle.sg_record.specs.Lines.{indexed, seal_line}
-use Rattle.sg_record.specs.Writing.{Puts, Seen, text_in}
+use Rattle.sg_commit.specs.Seals.{StandsFor}
+use Rattle.sg_commit.specs.declared.Sealer.{Sealer}
+use Rattle.sg_outside.specs.Streams.{AppendsFront}
+use Rattle.sg_record.specs.Pens.{IsSealOf, Moment, Puts, TakesIn}
+use Rattle.sg_record.specs.Writing.{text_in}
 
 -- the text of one line
 pub one_line : (version : ℕ) (line : Said) → text_in version (line ∷ []) ≡ spelling version line
@@ -26,87 +30,119 @@ pub text-append : (version : ℕ) (lines more : List Said) → text_in version (
 text-append version lines more =
     ap concat (map-append (spelling version) lines more) ∙ concat-append (map (spelling version) lines) (map (spelling version) more)
 
--- a front of the lines was appended, and these are left
-pub record Left (version : ℕ) (before now : Seen) (lines rest : List Said) : Type 0 where
-  pub done : List Said
-  pub is : lines ≡ done ++ rest
-  pub appended : Appends before.bytes now.bytes (text_in version done)
-  pub later : before.faults ≤ now.faults
+-- SEALS THAT TAKE BYTES IN
 
--- nothing was appended yet
-pub left_all : (version : ℕ) (now : Seen) (lines : List Said) → Left version now now lines lines
-left_all version now lines = record { done = []; is = refl; appended = Appends-nil now.bytes; later = omega arith }
+-- no bytes
+takes_nothing : (seal : Option Sealer) → TakesIn seal seal []
+takes_nothing None = tt
+takes_nothing (Some sealer) = λ taken stands. subst (λ (l : List ℕ). StandsFor sealer l) (sym (append-nil taken)) stands
 
--- the next of the lines were appended
-pub left_behind : {T E : Type 0} (version : ℕ) (before now then : Seen) (value : T) (lines rest put more : List Said)
-    → Left version before now lines rest → rest ≡ put ++ more → Puts {E = E} version now then (Ok value) put → Left version before then lines more
-left_behind version before now then value lines rest put more left split puts =
-    let joined = Appends-trans before.bytes now.bytes then.bytes (text_in version left.done) (text_in version put) left.appended puts.bytes in
-    record {
-      done = left.done ++ put;
-      is = left.is ∙ (ap (λ l. left.done ++ l) split ∙ sym (append_assoc left.done put more));
-      appended = rw (text-append version left.done put) joined;
-      later = omega (arith, left.later, puts.cause.later);
-    }
+-- bytes, and then others
+takes_then : (a b c : Option Sealer) (first second : List ℕ) → TakesIn a b first → TakesIn b c second → TakesIn a c (first ++ second)
+takes_then None None None first second one two = tt
+takes_then None None (Some c) first second one two = absurd two
+takes_then None (Some b) c first second one two = absurd one
+takes_then (Some a) None c first second one two = absurd one
+takes_then (Some a) (Some b) None first second one two = absurd two
+takes_then (Some a) (Some b) (Some c) first second one two =
+    λ taken stands. subst (λ (l : List ℕ). StandsFor c l) (append_assoc taken first second) (two (taken ++ first) (one taken stands))
 
--- none of the lines is left
-pub left_none : {T E : Type 0} (version : ℕ) (before now : Seen) (value : T) (lines : List Said) → Left version before now lines [] → Puts {E = E} version before now (Ok value) lines
-left_none version before now value lines left =
-    record {
-      bytes = rw (left.is ∙ append-nil left.done) left.appended;
-      cause = record { later = left.later; failed = tt };
-    }
+-- a seal that takes bytes in is one still
+pub takes_some : (a b : Option Sealer) (bytes : List ℕ) → TakesIn a b bytes → IsSome a → IsSome b
+takes_some None None bytes takes is = is
+takes_some None (Some b) bytes takes is = absurd takes
+takes_some (Some a) None bytes takes is = absurd takes
+takes_some (Some a) (Some b) bytes takes is = refl
 
--- a front of the lines, and the sink's fault
-stopped_at : {S T E F : Type 0} (version : ℕ) (before now : Seen) (fault : E) (result : Result S F) (lines more : List Said)
-    → IsErr result → Puts {T = T} version before now (Err fault) lines → Puts version before now result (lines ++ more)
-stopped_at version before now fault (Ok value) lines more is puts = absurd (true≢false (sym is))
-stopped_at version before now fault (Err other) lines more is puts =
-    record {
-      bytes = rw (text-append version lines more) (AppendsFront-more before.bytes now.bytes (text_in version lines) (text_in version more) puts.bytes);
-      cause = record { later = puts.cause.later; failed = puts.cause.failed };
-    }
+-- and stands for the bytes before and these
+pub takes_behind : (a b : Option Sealer) (before bytes : List ℕ) → TakesIn a b bytes → IsSealOf a before → IsSealOf b (before ++ bytes)
+takes_behind None None before bytes takes is = absurd is
+takes_behind None (Some b) before bytes takes is = absurd takes
+takes_behind (Some a) None before bytes takes is = absurd takes
+takes_behind (Some a) (Some b) before bytes takes is = takes before is
+
+-- LINES, ONE AFTER ANOTHER
+
+-- no line
+pub puts_none : {T E : Type 0} (now : Moment) (value : T) → Puts {E = E} now now (Ok value) []
+puts_none now value = record { bytes = Appends-nil now.out.bytes; cause = record { later = omega arith; failed = tt }; version = refl; seal = takes_nothing now.pen.seal }
 
 -- the sink failed in the first of the lines
-pub puts_stop : {S T E F : Type 0} (version : ℕ) (before now : Seen) (fault : E) (result : Result S F) (lines more : List Said)
-    → IsErr result → Puts {T = T} version before now (Err fault) lines → Puts version before now result (lines ++ more)
-puts_stop = stopped_at
+pub puts_stop : {S T E F : Type 0} (before now : Moment) (fault : E) (result : Result S F) (lines more : List Said)
+    → IsErr result → Puts {T = T} before now (Err fault) lines → Puts before now result (lines ++ more)
+puts_stop before now fault (Ok value) lines more is puts = absurd (true≢false (sym is))
+puts_stop before now fault (Err other) lines more is puts =
+    let version = before.pen.version in
+    record {
+      bytes = rw (text-append version lines more) (AppendsFront-more before.out.bytes now.out.bytes (text_in version lines) (text_in version more) puts.bytes);
+      cause = record { later = puts.cause.later; failed = puts.cause.failed };
+      version = puts.version;
+      seal = tt;
+    }
 
 -- the first of the lines, and then the others
-pub puts_then : {S T E F : Type 0} (version : ℕ) (before now then : Seen) (value : T) (result : Result S F) (lines more : List Said)
-    → Puts {E = E} version before now (Ok value) lines → Puts version now then result more → Puts version before then result (lines ++ more)
-puts_then version before now then value (Ok last) lines more first puts =
+pub puts_then : {S T E F : Type 0} (before now then : Moment) (value : T) (result : Result S F) (lines more : List Said)
+    → Puts {E = E} before now (Ok value) lines → Puts now then result more → Puts before then result (lines ++ more)
+puts_then before now then value (Ok last) lines more first puts =
+    let version = before.pen.version in
+    let bytes = subst (λ (v : ℕ). Appends now.out.bytes then.out.bytes (text_in v more)) first.version puts.bytes in
+    let seal = subst (λ (v : ℕ). TakesIn now.pen.seal then.pen.seal (text_in v more)) first.version puts.seal in
     record {
-      bytes = rw (text-append version lines more) (Appends-trans before.bytes now.bytes then.bytes (text_in version lines) (text_in version more) first.bytes puts.bytes);
+      bytes = rw (text-append version lines more) (Appends-trans before.out.bytes now.out.bytes then.out.bytes (text_in version lines) (text_in version more) first.bytes bytes);
       cause = record { later = omega (arith, first.cause.later, puts.cause.later); failed = tt };
+      version = puts.version ∙ first.version;
+      seal = subst (λ (l : List ℕ). TakesIn before.pen.seal then.pen.seal l) (sym (text-append version lines more)) (takes_then before.pen.seal now.pen.seal then.pen.seal (text_in version lines) (text_in version more) first.seal seal);
     }
-puts_then version before now then value (Err fault) lines more first puts =
+puts_then before now then value (Err fault) lines more first puts =
+    let version = before.pen.version in
+    let bytes = subst (λ (v : ℕ). AppendsFront now.out.bytes then.out.bytes (text_in v more)) first.version puts.bytes in
     record {
-      bytes = rw (text-append version lines more) (AppendsFront-trans before.bytes now.bytes then.bytes (text_in version lines) (text_in version more) first.bytes puts.bytes);
+      bytes = rw (text-append version lines more) (AppendsFront-trans before.out.bytes now.out.bytes then.out.bytes (text_in version lines) (text_in version more) first.bytes bytes);
       cause = record { later = omega (arith, first.cause.later, puts.cause.later); failed = omega (arith, first.cause.later, puts.cause.failed) };
+      version = puts.version ∙ first.version;
+      seal = tt;
     }
 
 -- another value for it
-pub puts_as : {S T E F : Type 0} (version : ℕ) (before now : Seen) (value : T) (other : S) (lines : List Said) → Puts {E = E} version before now (Ok value) lines → Puts {E = F} version before now (Ok other) lines
-puts_as version before now value other lines puts = record { bytes = puts.bytes; cause = record { later = puts.cause.later; failed = tt } }
+pub puts_as : {S T E F : Type 0} (before now : Moment) (value : T) (other : S) (lines : List Said) → Puts {E = E} before now (Ok value) lines → Puts {E = F} before now (Ok other) lines
+puts_as before now value other lines puts = record { bytes = puts.bytes; cause = record { later = puts.cause.later; failed = tt }; version = puts.version; seal = puts.seal }
 
 -- the sink failed in the last of the lines
-pub puts_fault : {S T E F : Type 0} (version : ℕ) (before now : Seen) (fault : E) (result : Result S F) (lines : List Said)
-    → IsErr result → Puts {T = T} version before now (Err fault) lines → Puts version before now result lines
-puts_fault version before now fault (Ok value) lines is puts = absurd (true≢false (sym is))
-puts_fault version before now fault (Err other) lines is puts = record { bytes = puts.bytes; cause = record { later = puts.cause.later; failed = puts.cause.failed } }
+pub puts_fault : {S T E F : Type 0} (before now : Moment) (fault : E) (result : Result S F) (lines : List Said)
+    → IsErr result → Puts {T = T} before now (Err fault) lines → Puts before now result lines
+puts_fault before now fault (Ok value) lines is puts = absurd (true≢false (sym is))
+puts_fault before now fault (Err other) lines is puts = record { bytes = puts.bytes; cause = record { later = puts.cause.later; failed = puts.cause.failed }; version = puts.version; seal = tt }
 
--- no line
-pub puts_none : {T E : Type 0} (version : ℕ) (now : Seen) (value : T) → Puts {E = E} version now now (Ok value) []
-puts_none version now value = record { bytes = Appends-nil now.bytes; cause = record { later = omega arith; failed = tt } }
+-- a front of the lines was appended, and these are left
+pub record Left (before now : Moment) (lines rest : List Said) : Type 0 where
+  pub done : List Said
+  pub is : lines ≡ done ++ rest
+  pub puts : Puts {T = Unit {0}} {E = Unit {0}} before now (Ok tt) done
+
+-- nothing was appended yet
+pub left_all : (now : Moment) (lines : List Said) → Left now now lines lines
+left_all now lines = record { done = []; is = refl; puts = puts_none now tt }
+
+-- the next of the lines were appended
+pub left_behind : {T E : Type 0} (before now then : Moment) (value : T) (lines rest put more : List Said)
+    → Left before now lines rest → rest ≡ put ++ more → Puts {E = E} now then (Ok value) put → Left before then lines more
+left_behind before now then value lines rest put more left split puts =
+    record {
+      done = left.done ++ put;
+      is = left.is ∙ (ap (λ l. left.done ++ l) split ∙ sym (append_assoc left.done put more));
+      puts = puts_then before now then tt (Ok tt) left.done put left.puts (puts_as now then value tt put puts);
+    }
+
+-- none of the lines is left
+pub left_none : {T E : Type 0} (before now : Moment) (value : T) (lines : List Said) → Left before now lines [] → Puts {E = E} before now (Ok value) lines
+left_none before now value lines left = rw (left.is ∙ append-nil left.done) (puts_as before now tt value left.done left.puts)
 
 -- the sink failed at the next of the lines
-pub left_at_fault : {S T E F : Type 0} (version : ℕ) (before now then : Seen) (fault : E) (result : Result S F) (lines rest put more : List Said)
-    → Left version before now lines rest → rest ≡ put ++ more → IsErr result → Puts {T = T} version now then (Err fault) put → Puts version before then result lines
-left_at_fault version before now then fault result lines rest put more left split is puts =
-    let stands : Puts {T = Unit {0}} {E = Unit {0}} version before now (Ok tt) left.done = record { bytes = left.appended; cause = record { later = left.later; failed = tt } } in
-    let stops = stopped_at version now then fault result put more is puts in
-    let whole = puts_then version before now then tt result left.done (put ++ more) stands stops in
+pub left_at_fault : {S T E F : Type 0} (before now then : Moment) (fault : E) (result : Result S F) (lines rest put more : List Said)
+    → Left before now lines rest → rest ≡ put ++ more → IsErr result → Puts {T = T} now then (Err fault) put → Puts before then result lines
+left_at_fault before now then fault result lines rest put more left split is puts =
+    let stops = puts_stop now then fault result put more is puts in
+    let whole = puts_then before now then tt result left.done (put ++ more) left.puts stops in
     rw (left.is, split) whole
 
 -- LISTS
@@ -122,28 +158,28 @@ unfolding indexed
 indexed-end f at xs end = rw (drop_all at xs end) refl
 
 -- the items of a list from a number on are left
-abbrev pub LeftFrom : {A : Type 0} → ℕ → Seen → Seen → (ℕ → A → List Said) → List A → ℕ → Type 0
-LeftFrom version before now f xs at = Left version before now (indexed f 0 xs) (indexed f at (drop at xs))
+abbrev pub LeftFrom : {A : Type 0} → Moment → Moment → (ℕ → A → List Said) → List A → ℕ → Type 0
+LeftFrom before now f xs at = Left before now (indexed f 0 xs) (indexed f at (drop at xs))
 
-pub list_start : {A : Type 0} (version : ℕ) (now : Seen) (f : ℕ → A → List Said) (xs : List A) → LeftFrom version now now f xs 0
-list_start version now f xs = left_all version now (indexed f 0 xs)
+pub list_start : {A : Type 0} (now : Moment) (f : ℕ → A → List Said) (xs : List A) → LeftFrom now now f xs 0
+list_start now f xs = left_all now (indexed f 0 xs)
 
-pub list_next : {A T E : Type 0} (version : ℕ) (before now then : Seen) (value : T) (f : ℕ → A → List Said) (xs : List A) (at : ℕ) (x : A)
-    → LeftFrom version before now f xs at → drop at xs ≡ x ∷ drop (at + 1) xs → Puts {E = E} version now then (Ok value) (f at x) → LeftFrom version before then f xs (at + 1)
-list_next version before now then value f xs at x left split puts =
-    left_behind version before now then value (indexed f 0 xs) (indexed f at (drop at xs)) (f at x) (indexed f (at + 1) (drop (at + 1) xs)) left
+pub list_next : {A T E : Type 0} (before now then : Moment) (value : T) (f : ℕ → A → List Said) (xs : List A) (at : ℕ) (x : A)
+    → LeftFrom before now f xs at → drop at xs ≡ x ∷ drop (at + 1) xs → Puts {E = E} now then (Ok value) (f at x) → LeftFrom before then f xs (at + 1)
+list_next before now then value f xs at x left split puts =
+    left_behind before now then value (indexed f 0 xs) (indexed f at (drop at xs)) (f at x) (indexed f (at + 1) (drop (at + 1) xs)) left
     (indexed-step f at (drop at xs) x (drop (at + 1) xs) split) puts
 
-pub list_fault : {A S T E F : Type 0} (version : ℕ) (before now then : Seen) (fault : E) (result : Result S F) (f : ℕ → A → List Said) (xs : List A) (at : ℕ) (x : A)
-    → LeftFrom version before now f xs at → drop at xs ≡ x ∷ drop (at + 1) xs → IsErr result → Puts {T = T} version now then (Err fault) (f at x) → Puts version before then result (indexed f 0 xs)
-list_fault version before now then fault result f xs at x left split is puts =
-    left_at_fault version before now then fault result (indexed f 0 xs) (indexed f at (drop at xs)) (f at x) (indexed f (at + 1) (drop (at + 1) xs)) left
+pub list_fault : {A S T E F : Type 0} (before now then : Moment) (fault : E) (result : Result S F) (f : ℕ → A → List Said) (xs : List A) (at : ℕ) (x : A)
+    → LeftFrom before now f xs at → drop at xs ≡ x ∷ drop (at + 1) xs → IsErr result → Puts {T = T} now then (Err fault) (f at x) → Puts before then result (indexed f 0 xs)
+list_fault before now then fault result f xs at x left split is puts =
+    left_at_fault before now then fault result (indexed f 0 xs) (indexed f at (drop at xs)) (f at x) (indexed f (at + 1) (drop (at + 1) xs)) left
     (indexed-step f at (drop at xs) x (drop (at + 1) xs) split) is puts
 
-pub list_end : {A T E : Type 0} (version : ℕ) (before now : Seen) (value : T) (f : ℕ → A → List Said) (xs : List A) (at : ℕ)
-    → LeftFrom version before now f xs at → length xs ≤ at → Puts {E = E} version before now (Ok value) (indexed f 0 xs)
-list_end version before now value f xs at left end =
-    left_none version before now value (indexed f 0 xs) (rw (indexed-end f at xs end) at left)
+pub list_end : {A T E : Type 0} (before now : Moment) (value : T) (f : ℕ → A → List Said) (xs : List A) (at : ℕ)
+    → LeftFrom before now f xs at → length xs ≤ at → Puts {E = E} before now (Ok value) (indexed f 0 xs)
+list_end before now value f xs at left end =
+    left_none before now value (indexed f 0 xs) (rw (indexed-end f at xs end) at left)
 
 -- what holds of each item holds of the one at this place
 pub item_of : {A : Type 0} (P : A → Type 0) (xs : List A) (at : ℕ) (x : A) → All P xs → slice_get xs at ≡ Some x → P x
@@ -164,42 +200,42 @@ seal_is number seals digest e =
 -- LISTS THAT ANOTHER FUNCTION PUTS TOGETHER
 
 -- the items from a number on are left
-abbrev pub LeftOf : {A : Type 0} → ℕ → Seen → Seen → (List A → List Said) → List A → ℕ → Type 0
-LeftOf version before now whole xs at = Left version before now (whole xs) (whole (drop at xs))
+abbrev pub LeftOf : {A : Type 0} → Moment → Moment → (List A → List Said) → List A → ℕ → Type 0
+LeftOf before now whole xs at = Left before now (whole xs) (whole (drop at xs))
 
-pub items_next : {A T E : Type 0} (version : ℕ) (before now then : Seen) (value : T) (whole : List A → List Said) (xs : List A) (at : ℕ) (put : List Said)
-    → LeftOf version before now whole xs at → whole (drop at xs) ≡ put ++ whole (drop (at + 1) xs) → Puts {E = E} version now then (Ok value) put → LeftOf version before then whole xs (at + 1)
-items_next version before now then value whole xs at put left split puts =
-    left_behind version before now then value (whole xs) (whole (drop at xs)) put (whole (drop (at + 1) xs)) left split puts
+pub items_next : {A T E : Type 0} (before now then : Moment) (value : T) (whole : List A → List Said) (xs : List A) (at : ℕ) (put : List Said)
+    → LeftOf before now whole xs at → whole (drop at xs) ≡ put ++ whole (drop (at + 1) xs) → Puts {E = E} now then (Ok value) put → LeftOf before then whole xs (at + 1)
+items_next before now then value whole xs at put left split puts =
+    left_behind before now then value (whole xs) (whole (drop at xs)) put (whole (drop (at + 1) xs)) left split puts
 
-pub items_fault : {A S T E F : Type 0} (version : ℕ) (before now then : Seen) (fault : E) (result : Result S F) (whole : List A → List Said) (xs : List A) (at : ℕ) (put : List Said)
-    → LeftOf version before now whole xs at → whole (drop at xs) ≡ put ++ whole (drop (at + 1) xs) → IsErr result → Puts {T = T} version now then (Err fault) put → Puts version before then result (whole xs)
-items_fault version before now then fault result whole xs at put left split is puts =
-    left_at_fault version before now then fault result (whole xs) (whole (drop at xs)) put (whole (drop (at + 1) xs)) left split is puts
+pub items_fault : {A S T E F : Type 0} (before now then : Moment) (fault : E) (result : Result S F) (whole : List A → List Said) (xs : List A) (at : ℕ) (put : List Said)
+    → LeftOf before now whole xs at → whole (drop at xs) ≡ put ++ whole (drop (at + 1) xs) → IsErr result → Puts {T = T} now then (Err fault) put → Puts before then result (whole xs)
+items_fault before now then fault result whole xs at put left split is puts =
+    left_at_fault before now then fault result (whole xs) (whole (drop at xs)) put (whole (drop (at + 1) xs)) left split is puts
 
-pub items_end : {A T E : Type 0} (version : ℕ) (before now : Seen) (value : T) (whole : List A → List Said) (xs : List A) (at : ℕ)
-    → whole [] ≡ [] → LeftOf version before now whole xs at → length xs ≤ at → Puts {E = E} version before now (Ok value) (whole xs)
-items_end version before now value whole xs at none left end =
+pub items_end : {A T E : Type 0} (before now : Moment) (value : T) (whole : List A → List Said) (xs : List A) (at : ℕ)
+    → whole [] ≡ [] → LeftOf before now whole xs at → length xs ≤ at → Puts {E = E} before now (Ok value) (whole xs)
+items_end before now value whole xs at none left end =
     let over : whole (drop at xs) ≡ [] = rw (drop_all at xs end) none in
-    left_none version before now value (whole xs) (rw over at left)
+    left_none before now value (whole xs) (rw over at left)
 
 -- NUMBERED LINES
 
 -- the lines of the numbers from one on are left
-abbrev pub LeftEach : ℕ → Seen → Seen → (ℕ → List Said) → ℕ → ℕ → Type 0
-LeftEach version before now f at end = Left version before now (each f 0 end) (each f at end)
+abbrev pub LeftEach : Moment → Moment → (ℕ → List Said) → ℕ → ℕ → Type 0
+LeftEach before now f at end = Left before now (each f 0 end) (each f at end)
 
-pub each_next : {T E : Type 0} (version : ℕ) (before now then : Seen) (value : T) (f : ℕ → List Said) (at end : ℕ)
-    → at < end → LeftEach version before now f at end → Puts {E = E} version now then (Ok value) (f at) → LeftEach version before then f (at + 1) end
-each_next version before now then value f at end within left puts =
-    left_behind version before now then value (each f 0 end) (each f at end) (f at) (each f (at + 1) end) left (each-first f at end within) puts
+pub each_next : {T E : Type 0} (before now then : Moment) (value : T) (f : ℕ → List Said) (at end : ℕ)
+    → at < end → LeftEach before now f at end → Puts {E = E} now then (Ok value) (f at) → LeftEach before then f (at + 1) end
+each_next before now then value f at end within left puts =
+    left_behind before now then value (each f 0 end) (each f at end) (f at) (each f (at + 1) end) left (each-first f at end within) puts
 
-pub each_fault : {S T E F : Type 0} (version : ℕ) (before now then : Seen) (fault : E) (result : Result S F) (f : ℕ → List Said) (at end : ℕ)
-    → at < end → LeftEach version before now f at end → IsErr result → Puts {T = T} version now then (Err fault) (f at) → Puts version before then result (each f 0 end)
-each_fault version before now then fault result f at end within left is puts =
-    left_at_fault version before now then fault result (each f 0 end) (each f at end) (f at) (each f (at + 1) end) left (each-first f at end within) is puts
+pub each_fault : {S T E F : Type 0} (before now then : Moment) (fault : E) (result : Result S F) (f : ℕ → List Said) (at end : ℕ)
+    → at < end → LeftEach before now f at end → IsErr result → Puts {T = T} now then (Err fault) (f at) → Puts before then result (each f 0 end)
+each_fault before now then fault result f at end within left is puts =
+    left_at_fault before now then fault result (each f 0 end) (each f at end) (f at) (each f (at + 1) end) left (each-first f at end within) is puts
 
-pub each_end : {T E : Type 0} (version : ℕ) (before now : Seen) (value : T) (f : ℕ → List Said) (at end : ℕ)
-    → LeftEach version before now f at end → end ≤ at → Puts {E = E} version before now (Ok value) (each f 0 end)
-each_end version before now value f at end left over =
-    left_none version before now value (each f 0 end) (rw (each-none f at end over) at left)
+pub each_end : {T E : Type 0} (before now : Moment) (value : T) (f : ℕ → List Said) (at end : ℕ)
+    → LeftEach before now f at end → end ≤ at → Puts {E = E} before now (Ok value) (each f 0 end)
+each_end before now value f at end left over =
+    left_none before now value (each f 0 end) (rw (each-none f at end over) at left)

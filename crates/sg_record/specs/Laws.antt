@@ -1,10 +1,13 @@
 -- The laws of records and their texts.
-use Rattle.std.specs.Prelude.{◌≡◌, ℕ, true, false, List, All}
+use Rattle.std.specs.Prelude.{◌≡◌, ℕ, true, false, List, All, Some}
 use Rattle.std.specs.Option.{option_map_or}
+use Rattle.sg_outside.specs.TextLines.{lines_of}
 use Rattle.sg_forms.specs.Spelling.{IsInRange}
 use Rattle.sg_grammar.specs.Walk.{Walked, start, is_whole, walk}
 use Rattle.sg_record.specs.Formed.{is_formed}
 use Rattle.sg_record.specs.Lines.{lines_in, text_of, texts_in}
+use Rattle.sg_record.specs.Places.{walk_of}
+use Rattle.sg_record.specs.Typed.{IsTyped}
 use Rattle.sg_record.specs.declared.record.Record.{Record}
 
 -- the lines are a whole record
@@ -33,3 +36,15 @@ WholeAreFormed = (lines : List (List ℕ)) → AreWhole lines → (posted : Reco
 -- different formed records have different texts
 abbrev pub TextsDiffer : Type 0
 TextsDiffer = (a b : Record) → HasWords a → HasWords b → is_formed a ≡ true → is_formed b ≡ true → text_of a ≡ text_of b → a ≡ b
+
+-- the walk over the lines of each formed record's text has each line in its place, and ends behind the record
+abbrev pub FormedAreWalked : Type 0
+FormedAreWalked = (posted : Record) → HasWords posted → is_formed posted ≡ true → walk start (texts_in posted) ≡ Some (walk_of posted)
+
+-- the lines of a record's text are its lines
+abbrev pub TextsHaveLines : Type 0
+TextsHaveLines = (posted : Record) → HasWords posted → lines_of (text_of posted) ≡ texts_in posted
+
+-- the words of each formed record are of their kinds, where its numbers are of the program's types
+abbrev pub TypedHaveWords : Type 0
+TypedHaveWords = (posted : Record) → IsTyped posted → is_formed posted ≡ true → HasWords posted

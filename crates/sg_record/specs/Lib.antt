@@ -1,7 +1,8 @@
 pub mod Lines
 pub mod Formed
 pub mod Laws
-pub mod Gathering
-pub mod Growing
-pub mod Walking
+pub mod Places
+pub mod Typed
 pub mod Writing
+pub mod Pens
+pub mod inside

@@ -1,5 +1,5 @@
 //! Laws of records and their texts. These functions do nothing: what they ensure is the law.
-ghost use Rattle.sg_record.specs.Laws.{FormedAreWhole, TextsDiffer, WholeAreFormed};
+ghost use Rattle.sg_record.specs.Laws.{FormedAreWalked, FormedAreWhole, TextsDiffer, TextsHaveLines, TypedHaveWords, WholeAreFormed};
 
 /// The lines of a formed record's text are a whole record.
 pub fn formed_law()
@@ -14,4 +14,20 @@ pub fn whole_law()
 /// Different formed records have different texts.
 pub fn text_law()
     ensures { TextsDiffer }
+{}
+
+/// The walk over the lines of a formed record's text: each line stands in its place, as the record's lists have it, and
+/// behind the last one the record is whole.
+pub fn walk_law()
+    ensures { FormedAreWalked }
+{}
+
+/// The lines of a record's text are those of the record.
+pub fn lines_law()
+    ensures { TextsHaveLines }
+{}
+
+/// The words of each formed record are of their kinds, where its numbers are of the program's types.
+pub fn words_law()
+    ensures { TypedHaveWords }
 {}

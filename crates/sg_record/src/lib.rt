@@ -2,7 +2,6 @@
 #![tactic(auto)]
 
 mod blocks;
-mod bytes;
 mod commits;
 mod formed;
 mod head;
@@ -12,17 +11,25 @@ mod lines;
 mod lists;
 mod nested;
 mod openings;
+mod pen;
 mod read;
 mod record;
 mod results;
-mod walk;
+mod typed;
 mod write;
 
-pub use laws::{formed_law, text_law, whole_law};
+pub use blocks::{put_block, put_dispute};
+pub use commits::{put_code_commit, put_row_commit};
+pub use head::put_plan;
+pub use laws::{formed_law, lines_law, text_law, walk_law, whole_law, words_law};
+pub use openings::{put_draw, put_row};
+pub use pen::Pen;
 pub use read::read_record;
 pub use record::{BallotBlock, BlockFate, DisputeBlock, Record, RowCommit};
+pub use results::{put_flag_lines, put_place_lines, put_totals};
 pub use sg_forms::{CodeLine, Line, RowOpening, write_line};
-pub use sg_grammar::{Expect, Spot, Told, read_line, tell};
+pub use sg_grammar::{Expect, Meaning, Spot, meaning_of, read_line};
+pub use typed::{know_types, know_words};
 pub use write::{Wrote, write_record};
 
 #[cfg(test)]

@@ -1,8 +1,8 @@
 //! Two small records, put together by hand, and their texts.
 
 use crate::{
-    BallotBlock, BlockFate, CodeLine, DisputeBlock, Record, RowCommit, RowOpening, Wrote,
-    read_record, write_record,
+    BallotBlock, BlockFate, CodeLine, DisputeBlock, Line, Pen, Record, RowCommit, RowOpening,
+    Wrote, read_record, write_record,
 };
 use sg_commit::{Digest, Key, Opening};
 use sg_outside::Page;
@@ -417,6 +417,50 @@ fn leaves_a_front(rt: HostRuntime) -> Result<(), Fail> {
         page.written(),
         b"scantegrity2 1\nelection Town\ninst".as_slice()
     );
+    Ok(())
+}
+
+/// How many line feeds there are.
+fn count_feeds(text: &[u8]) -> usize {
+    text.iter().filter(|byte| **byte == b'\n').count()
+}
+
+#[test]
+fn leaves_a_front_at_each_line(rt: HostRuntime) -> Result<(), Fail> {
+    let alloc = rt.alloc();
+    let posted = all_fates(alloc)?;
+    assert!(rt; posted.is_formed());
+    let text = text_of(alloc, &ALL_FATES)?;
+    for line in 0..count_feeds(&text) {
+        let mut page = Page::new(alloc, 30_000, vec![in alloc; line as u32]?, 4)?;
+        assert_eq!(rt; write_record(alloc, &posted, &mut page), Wrote::SinkFailed);
+        assert!(rt; text.starts_with(page.written()), "{line}");
+        assert_eq!(rt; count_feeds(page.written()), line);
+    }
+    Ok(())
+}
+
+/// A cast ballot and a seal over its line, which `sha256sum` made of the bytes before it.
+const SEALED: &str =
+    "cast 1\nseal 1 be5899f7ce1861413be3572673add4d58f7ecd74989d8c4ccb657b7b30516159\n";
+
+/// The sink takes both lines of [`SEALED`], each in one put.
+fn is_sealed(alloc: Global, page: &mut Page) -> Result<bool, Fail> {
+    let mut pen = Pen::sealing(alloc, 1)?;
+    Ok(pen.put_line(&Line::Cast(1), page).is_ok() && pen.put_seal(1, page).is_ok())
+}
+
+#[test]
+fn seals_what_it_writes(rt: HostRuntime) -> Result<(), Fail> {
+    let alloc = rt.alloc();
+    let mut page = Page::new(alloc, 100, Vec::new(alloc), 0)?;
+    assert!(rt; is_sealed(alloc, &mut page)?);
+    assert_eq!(rt; page.written(), SEALED.as_bytes());
+    for (call, front) in [(0, "cast"), (1, "cast 1\nseal")] {
+        let mut page = Page::new(alloc, 100, vec![in alloc; call]?, 4)?;
+        assert!(rt; !is_sealed(alloc, &mut page)?);
+        assert_eq!(rt; page.written(), front.as_bytes());
+    }
     Ok(())
 }
 

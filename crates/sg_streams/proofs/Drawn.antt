@@ -11,7 +11,8 @@ use Rattle.std.proofs.lemmas.List.Elements.{All-nil, All-push}
 use Rattle.std.proofs.lemmas.List.Sums.{sum_by_push, sum_by-cons, get_or-le-sum_by, count_by-le-length}
 use Rattle.sg_plan.specs.Codes.{codes_of}
 use Rattle.sg_streams.specs.Streams.{word_of}
-use Rattle.sg_streams.specs.RowCodes.{unused_codes, row_codes, draw_of, AreDrawn, RowsAreCodes}
+use Rattle.sg_streams.specs.RowCodes.{unused_codes, row_codes, draw_of, AreDrawn}
+use Rattle.sg_streams.specs.Laws.{RowsAreCodes}
 use Rattle.sg_streams.proofs.Counts.{count_below, count_at, IsOnce, count_at-none}
 use Rattle.sg_streams.proofs.WordFacts.{word_of-below}
 use Rattle.sg_streams.proofs.Unused.{unused_codes-at, unused_codes-sound, length-unused_codes}

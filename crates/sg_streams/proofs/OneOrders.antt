@@ -7,7 +7,8 @@ use Rattle.std.proofs.lemmas.Option.{slice_get_read, slice_get_within, get_or_fr
 use Rattle.std.proofs.lemmas.List.Kept.{AllPairs-cons}
 use Rattle.std.proofs.lemmas.List.Sorted.{IsPermutation-refl, IsPermutation-sym, IsPermutation-trans, IsPermutation-cons, IsPermutation-middle, All-permutation, Contains-permutation, length_permutation}
 use Rattle.sg_streams.specs.Numbers.{numbers_below}
-use Rattle.sg_streams.specs.Order.{sort_key, ComesBefore, comes_before, IsOrder, HasOnePlace, order_of, put_in_order, in_order, OneOrder, OrdersAreOneToOne}
+use Rattle.sg_streams.specs.Laws.{OneOrder, OrdersAreOneToOne}
+use Rattle.sg_streams.specs.Order.{sort_key, ComesBefore, comes_before, IsOrder, HasOnePlace, order_of, put_in_order, in_order}
 use Rattle.sg_streams.proofs.NumberLists.{get_or-numbers_below, length-numbers_below}
 use Rattle.sg_streams.proofs.Ordered.{permuted-differ}
 

@@ -1,4 +1,5 @@
 pub mod CoinSides
+pub mod Laws
 pub mod Numbers
 pub mod OpeningKeys
 pub mod Order

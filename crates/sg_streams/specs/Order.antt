@@ -1,5 +1,5 @@
 -- The order in which a stream puts the numbers below n (this project's rules for the record).
-use Rattle.std.specs.Prelude.{◌≡◌, ℕ, ◌+◌, ◌*◌, ◌^◌, ◌<◌, ◌⊎◌, ◌↔◌, Bool, if◌then◌else◌, ◌==◌, nat_lt, ◌&&◌, ◌||◌, List, [], ◌∷◌, length, All, IsPermutation, AllPairs, slice_get, Some}
+use Rattle.std.specs.Prelude.{◌≡◌, ℕ, ◌+◌, ◌*◌, ◌^◌, ◌<◌, ◌⊎◌, Bool, if◌then◌else◌, ◌==◌, nat_lt, ◌&&◌, ◌||◌, List, [], ◌∷◌, length, All, IsPermutation, AllPairs, slice_get, Some}
 use Rattle.sg_streams.specs.Numbers.{numbers_below}
 use Rattle.sg_streams.specs.Streams.{word_of}
 
@@ -51,14 +51,6 @@ in_order seed stream (x ∷ xs) = put_in_order seed stream x (in_order seed stre
 -- `OneOrder` says that it is the only order.
 unfoldable pub order_of : List ℕ → ℕ → ℕ → List ℕ
 order_of seed stream n = in_order seed stream (numbers_below n)
-
--- There is exactly one order of each stream and n.
-abbrev pub OneOrder : Type 0
-OneOrder = (seed : List ℕ) (stream n : ℕ) (list : List ℕ) → IsOrder seed stream n list ↔ (list ≡ order_of seed stream n)
-
--- Orders are one to one.
-abbrev pub OrdersAreOneToOne : Type 0
-OrdersAreOneToOne = (seed : List ℕ) (stream n : ℕ) (list : List ℕ) → IsOrder seed stream n list → IsOneToOne n list
 
 -- a number behind its sort key
 abbrev pub keyed : List ℕ → ℕ → ℕ → ℕ × ℕ

@@ -31,8 +31,3 @@ pub record AreCodes (version k : ℕ) (codes : List ℕ) : Type 0 where
 abbrev pub AreDrawn : ℕ → List ℕ → ℕ → List ℕ → Type 0
 AreDrawn version seed stream codes = (t : ℕ) → t < length codes
     → slice_get codes t ≡ slice_get (unused_codes version (take t codes)) (draw_of version (word_of seed stream t) t)
-
--- The codes of a row are codes of the version, all different, and each is drawn as the rule says.
-abbrev pub RowsAreCodes : Type 0
-RowsAreCodes = (version : ℕ) (seed : List ℕ) (stream k : ℕ) → k ≤ codes_of version
-    → AreCodes version k (row_codes version seed stream k) × AreDrawn version seed stream (row_codes version seed stream k)

@@ -1,3 +1,4 @@
+//! The coins that say which side of a row is opened.
 ghost use Rattle.std.specs.Prelude.{◌≡◌, ◌+◌, ◌^◌, ◌<◌, ◌≤◌, length};
 ghost use Rattle.sg_streams.specs.CoinSides.{coin_seed, coin_of, side_of_word as side_of, CoinPlace};
 

@@ -1,6 +1,6 @@
-//! What follows from the definitions alone.
-ghost use Rattle.sg_streams.specs.Order.{OneOrder, OrdersAreOneToOne};
-ghost use Rattle.sg_streams.specs.RowCodes.{RowsAreCodes};
+//! Laws of orders and codes: what follows from the definitions alone. Each function does nothing, and its contract is
+//! proved.
+ghost use Rattle.sg_streams.specs.Laws.{OneOrder, OrdersAreOneToOne, RowsAreCodes};
 
 /// There is exactly one order of each stream and number of numbers.
 pub fn one_order_law()

@@ -3,20 +3,21 @@
 #![tactic(auto)]
 
 mod coin_sides;
-mod laws;
+pub mod laws;
 mod opening_keys;
 mod ordering;
 mod reading;
 mod row_codes;
 mod seeds;
+mod short_orders;
 
 pub use coin_sides::{Coins, coin, coin_key, side_of_word};
-pub use laws::{one_order_law, one_to_one_law, row_codes_law};
 pub use opening_keys::{Keys, key_at};
 pub use ordering::order;
 pub use reading::{Words, word};
 pub use row_codes::codes;
 pub use seeds::{Seed, stream};
+pub use short_orders::short_order;
 
 #[cfg(test)]
 mod tests;

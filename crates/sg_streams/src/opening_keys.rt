@@ -1,3 +1,4 @@
+//! The keys with which commitments are opened.
 ghost use Rattle.std.specs.Prelude.{◌≡◌, ◌+◌, ◌^◌, ◌<◌};
 ghost use Rattle.sg_streams.specs.OpeningKeys.{four_words, item_key, KeyPlace};
 

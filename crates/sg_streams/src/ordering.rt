@@ -1,3 +1,4 @@
+//! The order in which a stream puts the numbers below a number.
 ghost use Rattle.std.specs.Prelude.{◌≡◌, ◌+◌, ◌*◌, ◌^◌, ◌≤◌, IfOk, map};
 ghost use Rattle.sg_streams.specs.Streams.{word_of};
 ghost use Rattle.sg_streams.specs.Numbers.{numbers_below};
@@ -40,7 +41,7 @@ fn keyed_numbers(
 }
 
 /// The next two words as a key, the first the higher.
-fn next_key(words: &mut Words) -> u64
+pub fn next_key(words: &mut Words) -> u64
     requires { words.old.place + 2 ≤ 2 ^ 64 }
     ensures key { result ≡ word_of words.old.seed words.old.stream words.old.place * 2 ^ 32
         + word_of words.old.seed words.old.stream (words.old.place + 1) }

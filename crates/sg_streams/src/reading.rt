@@ -1,3 +1,4 @@
+//! The words of a stream, one after another.
 ghost use Rattle.std.specs.Prelude.{◌≡◌, ◌+◌, ◌^◌, ◌<◌};
 ghost use Rattle.rand_chacha.specs.ChaCha.{key_of};
 ghost use Rattle.sg_streams.specs.Streams.{word_of, key_seed, WordPlace};

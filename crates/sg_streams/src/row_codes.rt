@@ -1,18 +1,11 @@
+//! The confirmation codes of a ballot row.
 ghost use Rattle.std.specs.Prelude.{◌≡◌, ◌+◌, ◌-◌, ◌*◌, ◌/◌, ◌^◌, ◌<◌, ◌≤◌, ◌⊎◌, ◌==◌, ◌++◌, false, length, take, replicate, count_by, nat_lt, nat_le};
 ghost use Rattle.std.specs.List.{list_any};
-ghost use Rattle.sg_plan.specs.Codes.{codes_of};
 ghost use Rattle.sg_streams.specs.RowCodes.{row_codes, AreCodes};
 
 use crate::reading::Words;
 use crate::seeds::Seed;
-
-/// How many codes a version has.
-fn number_of_codes(version: u32) -> u32
-    requires { (version ≡ 1) ⊎ (version ≡ 2) }
-    ensures { result ≡ codes_of version }
-{
-    if version == 1 { 1_000 } else { 32_768 }
-}
+use sg_plan::codes_of;
 
 /// The first `k` codes of a ballot row, different and below the number of codes of the version. The rest
 /// of the array is 0.
@@ -26,7 +19,7 @@ pub fn codes(version: u32, seed: &Seed, stream: u64, k: u32) -> [u16; 16]
     ensures value { result ≡ row_codes version seed.now.0 stream k ++ replicate (16 - k) 0 }
     ensures codes { AreCodes version k (take k result) }
 {
-    let number = number_of_codes(version);
+    let number = codes_of(version);
     let mut words = Words::at(seed, stream, 0);
     let mut row = [0; 16];
     for at in 0..k {

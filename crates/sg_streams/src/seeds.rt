@@ -1,3 +1,4 @@
+//! Seeds, and the numbers of their streams.
 ghost use Rattle.std.specs.Prelude.{◌≡◌, ◌<◌, ◌≤◌, ◌^◌};
 ghost use Rattle.sg_streams.specs.Streams.{stream_number};
 

@@ -1,3 +1,4 @@
+//! Words, keys, orders, codes and coins worked out elsewhere.
 ghost use Rattle.std.specs.Prelude.{◌≡◌, ◌-◌, ◌^◌, ◌<◌, ◌≤◌, ◌⊎◌};
 
 use crate::{

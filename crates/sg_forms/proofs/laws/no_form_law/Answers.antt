@@ -1,3 +1,4 @@
+-- What has no form.
 use Rattle.sg_forms.proofs.LineLaws.{long_lines, open_lines, split_lines, cut_lines}
 use Rattle.sg_forms.proofs.laws.no_form_law.Goals as goal
 

@@ -1,3 +1,4 @@
+-- Lines and their spellings.
 use Rattle.sg_forms.proofs.LineLaws.{lines_are_spelled, lines_are_read, lines_differ, lines_are_short}
 use Rattle.sg_forms.proofs.laws.spelling_law.Goals as goal
 

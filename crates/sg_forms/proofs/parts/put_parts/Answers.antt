@@ -2,7 +2,7 @@
 use Rattle.std.proofs.Common.{drop, ap, arith, subst}
 use Rattle.std.specs.Prelude.{map}
 use Rattle.std.proofs.lemmas.List.{drop_more}
-use Rattle.sg_forms.specs.Writing.{part_word, AreParts}
+use Rattle.sg_forms.specs.inside.Writing.{part_word, AreParts}
 use Rattle.sg_forms.proofs.Overwriting.{way_step}
 use Rattle.sg_forms.proofs.parts.put_parts.Goals as goal
 

@@ -1,7 +1,7 @@
 -- What is written so far, and the words that are left, give all the words.
 use Rattle.std.proofs.Common.{drop}
 use Rattle.std.specs.Prelude.{map}
-use Rattle.sg_forms.specs.Writing.{part_word, AreParts}
+use Rattle.sg_forms.specs.inside.Writing.{part_word, AreParts}
 use Rattle.sg_forms.proofs.Overwriting.{IsOnTheWay}
 use Rattle.sg_forms.proofs.parts.put_parts.Given as goal
 

@@ -1,26 +1,26 @@
 -- The blocks follow one another.
-use Rattle.std.proofs.Common.{ap, refl, ◌+◌, drop, arith}
+use Rattle.std.proofs.Common.{ap, refl, ◌+◌, ◌∙◌, drop, arith}
 use Rattle.sg_record.proofs.Marks.{fates_behind, first_fate}
 use Rattle.sg_record.proofs.Putting.{items_end, items_fault, items_next}
 use Rattle.std.specs.List.{flat_map}
 use Rattle.sg_record.specs.Lines.{block_lines}
 use Rattle.sg_record.proofs.blocks.put_blocks.Goals as goal
 
-pub returns-in_err-put_fate : goal.returns-in_err-put_fate
-returns-in_err-put_fate g c =
-    items_fault c.args.plan.now.version _ _ _ _ _ (flat_map (block_lines c.args.plan.now)) c.args.blocks.now c.loop-at.at (block_lines c.args.plan.now c.get-block.result.now) c.loop-at.invariant.left (ap (flat_map (block_lines c.args.plan.now)) c.get-block.ensures.rest) c.from_residual.ensures.0 c.in_err-put_fate.ensures
+pub returns-in_err-put_block : goal.returns-in_err-put_block
+returns-in_err-put_block g c =
+    items_fault _ _ _ _ _ (flat_map (block_lines c.args.plan.now)) c.args.blocks.now c.loop-at.at (block_lines c.args.plan.now c.get-block.result.now) c.loop-at.invariant.left (ap (flat_map (block_lines c.args.plan.now)) c.get-block.ensures.rest) c.from_residual.ensures.0 c.in_err-put_block.ensures
 
 pub loop-at-preserved : goal.loop-at-preserved
 loop-at-preserved g c =
     let first = first_fate c.args.plan.now c.loop-at.walk.before (drop c.loop-at.at c.args.blocks.now) c.get-block.result.now (drop (c.loop-at.at + 1) c.args.blocks.now) c.get-block.ensures.rest c.loop-at.invariant.fates in
     record {
-      left = items_next c.args.plan.now.version _ _ _ _ (flat_map (block_lines c.args.plan.now)) c.args.blocks.now c.loop-at.at (block_lines c.args.plan.now c.get-block.result.now) c.loop-at.invariant.left (ap (flat_map (block_lines c.args.plan.now)) c.get-block.ensures.rest) c.in_ok-put_fate.ensures;
+      left = items_next _ _ _ _ (flat_map (block_lines c.args.plan.now)) c.args.blocks.now c.loop-at.at (block_lines c.args.plan.now c.get-block.result.now) c.loop-at.invariant.left (ap (flat_map (block_lines c.args.plan.now)) c.get-block.ensures.rest) c.in_ok-put_block.ensures;
       fates = fates_behind c.args.plan.now c.races_of-races.new.self.before c.get-block.result.now.ballot (drop (c.loop-at.at + 1) c.args.blocks.now) (omega (arith, c.races_of-races.ensures.before)) first.rest;
       stands = c.races_of-races.ensures.stands;
     }
 
 pub returns : goal.returns
-returns g c = items_end c.args.plan.now.version _ _ _ (flat_map (block_lines c.args.plan.now)) c.args.blocks.now c.loop-at.at refl c.loop-at.invariant.left (omega arith)
+returns g c = items_end _ _ _ (flat_map (block_lines c.args.plan.now)) c.args.blocks.now c.loop-at.at refl c.loop-at.invariant.left (omega arith)
 
 pub races_of-races-requires-clause-first : goal.races_of-races-requires-clause-first
 races_of-races-requires-clause-first g c = (first_fate c.args.plan.now c.loop-at.walk.before (drop c.loop-at.at c.args.blocks.now) c.get-block.result.now (drop (c.loop-at.at + 1) c.args.blocks.now) c.get-block.ensures.rest c.loop-at.invariant.fates).later
@@ -28,5 +28,8 @@ races_of-races-requires-clause-first g c = (first_fate c.args.plan.now c.loop-at
 pub races_of-races-requires-clause-last : goal.races_of-races-requires-clause-last
 races_of-races-requires-clause-last g c = (first_fate c.args.plan.now c.loop-at.walk.before (drop c.loop-at.at c.args.blocks.now) c.get-block.result.now (drop (c.loop-at.at + 1) c.args.blocks.now) c.get-block.ensures.rest c.loop-at.invariant.fates).within
 
-pub put_fate-requires-clause-fate : goal.put_fate-requires-clause-fate
-put_fate-requires-clause-fate g c = (first_fate c.args.plan.now c.loop-at.walk.before (drop c.loop-at.at c.args.blocks.now) c.get-block.result.now (drop (c.loop-at.at + 1) c.args.blocks.now) c.get-block.ensures.rest c.loop-at.invariant.fates).fate
+pub put_block-requires-clause-fate : goal.put_block-requires-clause-fate
+put_block-requires-clause-fate g c = (first_fate c.args.plan.now c.loop-at.walk.before (drop c.loop-at.at c.args.blocks.now) c.get-block.result.now (drop (c.loop-at.at + 1) c.args.blocks.now) c.get-block.ensures.rest c.loop-at.invariant.fates).fate
+
+pub put_block-requires-clause-version : goal.put_block-requires-clause-version
+put_block-requires-clause-version g c = c.loop-at.invariant.left.puts.version ∙ c.requires.version

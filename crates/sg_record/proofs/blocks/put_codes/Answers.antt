@@ -7,17 +7,17 @@ use Rattle.sg_record.proofs.blocks.put_codes.Goals as goal
 
 pub returns-in_err-put_code : goal.returns-in_err-put_code
 returns-in_err-put_code g c =
-    items_fault c.args.version _ _ _ _ _ (map Code) c.args.codes.now c.loop-at.at (Code c.get.result.now ∷ []) c.loop-at.invariant.left (ap (map Code) c.get.ensures.rest) c.from_residual.ensures.0 c.in_err-put_code.ensures
+    items_fault _ _ _ _ _ (map Code) c.args.codes.now c.loop-at.at (Code c.get.result.now ∷ []) c.loop-at.invariant.left (ap (map Code) c.get.ensures.rest) c.from_residual.ensures.0 c.in_err-put_code.ensures
 
 pub loop-at-preserved : goal.loop-at-preserved
 loop-at-preserved g c =
     record {
-      left = items_next c.args.version _ _ _ _ (map Code) c.args.codes.now c.loop-at.at (Code c.get.result.now ∷ []) c.loop-at.invariant.left (ap (map Code) c.get.ensures.rest) c.in_ok-put_code.ensures;
-      codes = (first_code c.args.version (drop c.loop-at.at c.args.codes.now) c.get.result.now (drop (c.loop-at.at + 1) c.args.codes.now) c.get.ensures.rest c.loop-at.invariant.codes).1;
+      left = items_next _ _ _ _ (map Code) c.args.codes.now c.loop-at.at (Code c.get.result.now ∷ []) c.loop-at.invariant.left (ap (map Code) c.get.ensures.rest) c.in_ok-put_code.ensures;
+      codes = (first_code c.args.pen.now.version (drop c.loop-at.at c.args.codes.now) c.get.result.now (drop (c.loop-at.at + 1) c.args.codes.now) c.get.ensures.rest c.loop-at.invariant.codes).1;
     }
 
 pub returns : goal.returns
-returns g c = items_end c.args.version _ _ _ (map Code) c.args.codes.now c.loop-at.at refl c.loop-at.invariant.left (omega arith)
+returns g c = items_end _ _ _ (map Code) c.args.codes.now c.loop-at.at refl c.loop-at.invariant.left (omega arith)
 
-pub put_code-requires-clause-code : goal.put_code-requires-clause-code
-put_code-requires-clause-code g c = (first_code c.args.version (drop c.loop-at.at c.args.codes.now) c.get.result.now (drop (c.loop-at.at + 1) c.args.codes.now) c.get.ensures.rest c.loop-at.invariant.codes).0
+pub put_code-requires : goal.put_code-requires
+put_code-requires g c = record { code = rw c.loop-at.invariant.left.puts.version (first_code c.args.pen.now.version (drop c.loop-at.at c.args.codes.now) c.get.result.now (drop (c.loop-at.at + 1) c.args.codes.now) c.get.ensures.rest c.loop-at.invariant.codes).0 }

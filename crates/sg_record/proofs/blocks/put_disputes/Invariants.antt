@@ -2,12 +2,12 @@ use Rattle.std.proofs.Common.{drop}
 use Rattle.sg_record.proofs.Putting.{LeftOf}
 use Rattle.std.specs.List.{flat_map}
 use Rattle.sg_record.specs.Lines.{dispute_lines}
-use Rattle.sg_record.specs.Writing.{HaveClaims}
-use Rattle.sg_record.specs.Writing.{seen}
+use Rattle.sg_record.specs.inside.Parts.{HaveClaims}
+use Rattle.sg_record.specs.Pens.{moment}
 use Rattle.sg_record.proofs.blocks.put_disputes.Given as goal
 
 abbrev pub invariant-loop-at : goal.invariant-loop-at
 invariant-loop-at g l = record {
-  left : LeftOf l.version (seen (g.O.Sink.written l.fn.out) (g.O.Sink.faults l.fn.out)) (seen (g.O.Sink.written l.out) (g.O.Sink.faults l.out)) (flat_map dispute_lines) l.disputes l.at;
-  claims : HaveClaims l.version (drop l.at l.disputes);
+  left : LeftOf (moment g.O.Sink.written g.O.Sink.faults l.fn.pen l.fn.out) (moment g.O.Sink.written g.O.Sink.faults l.pen l.out) (flat_map dispute_lines) l.disputes l.at;
+  claims : HaveClaims l.fn.pen.version (drop l.at l.disputes);
 }

@@ -9,4 +9,4 @@ returns-then-get-race-clause-puts g c =
     let rest = drop c.args.from c.args.overs.now in
     let order = later_races c.args.race rest c.get.result.now (drop (c.args.from + 1) c.args.overs.now) c.get.ensures.rest c.if-get-race.true c.requires.order in
     let none = has_no c.args.race (c.args.race + 1) rest (omega arith) order in
-    rw none (puts_none c.args.version _ c.args.from)
+    rw none (puts_none _ c.args.from)

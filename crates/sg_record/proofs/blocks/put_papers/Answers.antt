@@ -14,7 +14,7 @@ put_paper-requires-clause-codes g c =
     let list = c.get.result.now in
     let race = get_or races c.loop-at.at 0 in
     let first = drop_more races c.loop-at.at 0 (omega (arith, c.requires.len)) in
-    (first_paper c.args.version race list (drop (c.loop-at.at + 1) races) (drop (c.loop-at.at + 1) papers) (drop c.loop-at.at races) (drop c.loop-at.at papers) first c.get.ensures.rest c.loop-at.invariant.each).codes
+    rw c.loop-at.invariant.left.puts.version (first_paper c.args.pen.now.version race list (drop (c.loop-at.at + 1) races) (drop (c.loop-at.at + 1) papers) (drop c.loop-at.at races) (drop c.loop-at.at papers) first c.get.ensures.rest c.loop-at.invariant.each).codes
 
 pub put_paper-requires-clause-some : goal.put_paper-requires-clause-some
 put_paper-requires-clause-some g c =
@@ -23,7 +23,7 @@ put_paper-requires-clause-some g c =
     let list = c.get.result.now in
     let race = get_or races c.loop-at.at 0 in
     let first = drop_more races c.loop-at.at 0 (omega (arith, c.requires.len)) in
-    (first_paper c.args.version race list (drop (c.loop-at.at + 1) races) (drop (c.loop-at.at + 1) papers) (drop c.loop-at.at races) (drop c.loop-at.at papers) first c.get.ensures.rest c.loop-at.invariant.each).some
+    (first_paper c.args.pen.now.version race list (drop (c.loop-at.at + 1) races) (drop (c.loop-at.at + 1) papers) (drop c.loop-at.at races) (drop c.loop-at.at papers) first c.get.ensures.rest c.loop-at.invariant.each).some
 
 pub put_paper-requires-clause-most : goal.put_paper-requires-clause-most
 put_paper-requires-clause-most g c =
@@ -32,7 +32,7 @@ put_paper-requires-clause-most g c =
     let list = c.get.result.now in
     let race = get_or races c.loop-at.at 0 in
     let first = drop_more races c.loop-at.at 0 (omega (arith, c.requires.len)) in
-    (first_paper c.args.version race list (drop (c.loop-at.at + 1) races) (drop (c.loop-at.at + 1) papers) (drop c.loop-at.at races) (drop c.loop-at.at papers) first c.get.ensures.rest c.loop-at.invariant.each).most
+    (first_paper c.args.pen.now.version race list (drop (c.loop-at.at + 1) races) (drop (c.loop-at.at + 1) papers) (drop c.loop-at.at races) (drop c.loop-at.at papers) first c.get.ensures.rest c.loop-at.invariant.each).most
 
 pub returns-in_err-put_paper : goal.returns-in_err-put_paper
 returns-in_err-put_paper g c =
@@ -41,7 +41,7 @@ returns-in_err-put_paper g c =
     let list = c.get.result.now in
     let race = get_or races c.loop-at.at 0 in
     let first = drop_more races c.loop-at.at 0 (omega (arith, c.requires.len)) in
-    left_at_fault c.args.version _ _ _ _ _ (paper_lines races papers) (paper_lines (drop c.loop-at.at races) (drop c.loop-at.at papers)) (Paper race list ∷ []) (paper_lines (drop (c.loop-at.at + 1) races) (drop (c.loop-at.at + 1) papers)) c.loop-at.invariant.left (papers_step race list (drop (c.loop-at.at + 1) races) (drop (c.loop-at.at + 1) papers) (drop c.loop-at.at races) (drop c.loop-at.at papers) first c.get.ensures.rest) c.from_residual.ensures.0 c.in_err-put_paper.ensures
+    left_at_fault _ _ _ _ _ (paper_lines races papers) (paper_lines (drop c.loop-at.at races) (drop c.loop-at.at papers)) (Paper race list ∷ []) (paper_lines (drop (c.loop-at.at + 1) races) (drop (c.loop-at.at + 1) papers)) c.loop-at.invariant.left (papers_step race list (drop (c.loop-at.at + 1) races) (drop (c.loop-at.at + 1) papers) (drop c.loop-at.at races) (drop c.loop-at.at papers) first c.get.ensures.rest) c.from_residual.ensures.0 c.in_err-put_paper.ensures
 
 pub loop-at-preserved : goal.loop-at-preserved
 loop-at-preserved g c =
@@ -51,11 +51,11 @@ loop-at-preserved g c =
     let race = get_or races c.loop-at.at 0 in
     let first = drop_more races c.loop-at.at 0 (omega (arith, c.requires.len)) in
     record {
-      left = left_behind c.args.version _ _ _ _ (paper_lines races papers) (paper_lines (drop c.loop-at.at races) (drop c.loop-at.at papers)) (Paper race list ∷ []) (paper_lines (drop (c.loop-at.at + 1) races) (drop (c.loop-at.at + 1) papers)) c.loop-at.invariant.left (papers_step race list (drop (c.loop-at.at + 1) races) (drop (c.loop-at.at + 1) papers) (drop c.loop-at.at races) (drop c.loop-at.at papers) first c.get.ensures.rest) c.in_ok-put_paper.ensures;
-      each = (first_paper c.args.version race list (drop (c.loop-at.at + 1) races) (drop (c.loop-at.at + 1) papers) (drop c.loop-at.at races) (drop c.loop-at.at papers) first c.get.ensures.rest c.loop-at.invariant.each).rest;
+      left = left_behind _ _ _ _ (paper_lines races papers) (paper_lines (drop c.loop-at.at races) (drop c.loop-at.at papers)) (Paper race list ∷ []) (paper_lines (drop (c.loop-at.at + 1) races) (drop (c.loop-at.at + 1) papers)) c.loop-at.invariant.left (papers_step race list (drop (c.loop-at.at + 1) races) (drop (c.loop-at.at + 1) papers) (drop c.loop-at.at races) (drop c.loop-at.at papers) first c.get.ensures.rest) c.in_ok-put_paper.ensures;
+      each = (first_paper c.args.pen.now.version race list (drop (c.loop-at.at + 1) races) (drop (c.loop-at.at + 1) papers) (drop c.loop-at.at races) (drop c.loop-at.at papers) first c.get.ensures.rest c.loop-at.invariant.each).rest;
     }
 
 pub returns : goal.returns
 returns g c =
     let no_race = drop_all c.loop-at.at c.args.races.now (omega (arith, c.requires.len)) in
-    left_none c.args.version _ _ _ (paper_lines c.args.races.now c.args.papers.now) (rw no_race at c.loop-at.invariant.left)
+    left_none _ _ _ (paper_lines c.args.races.now c.args.papers.now) (rw no_race at c.loop-at.invariant.left)

@@ -6,11 +6,11 @@ use Rattle.sg_record.proofs.commits.put_code_commits.Goals as goal
 
 pub returns-in_err-put_race_code_commits : goal.returns-in_err-put_race_code_commits
 returns-in_err-put_race_code_commits g c =
-    list_fault c.args.version _ _ _ _ _ (race_code_commit_lines) c.args.lists.now c.loop-race.race c.get.result.now c.loop-race.invariant c.get.ensures.rest c.from_residual.ensures.0 c.in_err-put_race_code_commits.ensures
+    list_fault _ _ _ _ _ (race_code_commit_lines) c.args.lists.now c.loop-race.race c.get.result.now c.loop-race.invariant c.get.ensures.rest c.from_residual.ensures.0 c.in_err-put_race_code_commits.ensures
 
 pub loop-race-preserved : goal.loop-race-preserved
 loop-race-preserved g c =
-    list_next c.args.version _ _ _ _ (race_code_commit_lines) c.args.lists.now c.loop-race.race c.get.result.now c.loop-race.invariant c.get.ensures.rest c.in_ok-put_race_code_commits.ensures
+    list_next _ _ _ _ (race_code_commit_lines) c.args.lists.now c.loop-race.race c.get.result.now c.loop-race.invariant c.get.ensures.rest c.in_ok-put_race_code_commits.ensures
 
 pub returns : goal.returns
-returns g c = list_end c.args.version _ _ _ (race_code_commit_lines) c.args.lists.now c.loop-race.race c.loop-race.invariant (omega arith)
+returns g c = list_end _ _ _ (race_code_commit_lines) c.args.lists.now c.loop-race.race c.loop-race.invariant (omega arith)

@@ -6,11 +6,11 @@ use Rattle.sg_record.proofs.commits.put_race_code_commits.Goals as goal
 
 pub returns-in_err-put_code_commit : goal.returns-in_err-put_code_commit
 returns-in_err-put_code_commit g c =
-    list_fault c.args.version _ _ _ _ _ (code_commit_line c.args.race) c.args.digests.now c.loop-at.at c.get.result.now c.loop-at.invariant c.get.ensures.rest c.from_residual.ensures.0 c.in_err-put_code_commit.ensures
+    list_fault _ _ _ _ _ (code_commit_line c.args.race) c.args.digests.now c.loop-at.at c.get.result.now c.loop-at.invariant c.get.ensures.rest c.from_residual.ensures.0 c.in_err-put_code_commit.ensures
 
 pub loop-at-preserved : goal.loop-at-preserved
 loop-at-preserved g c =
-    list_next c.args.version _ _ _ _ (code_commit_line c.args.race) c.args.digests.now c.loop-at.at c.get.result.now c.loop-at.invariant c.get.ensures.rest c.in_ok-put_code_commit.ensures
+    list_next _ _ _ _ (code_commit_line c.args.race) c.args.digests.now c.loop-at.at c.get.result.now c.loop-at.invariant c.get.ensures.rest c.in_ok-put_code_commit.ensures
 
 pub returns : goal.returns
-returns g c = list_end c.args.version _ _ _ (code_commit_line c.args.race) c.args.digests.now c.loop-at.at c.loop-at.invariant (omega arith)
+returns g c = list_end _ _ _ (code_commit_line c.args.race) c.args.digests.now c.loop-at.at c.loop-at.invariant (omega arith)

@@ -8,14 +8,14 @@ use Rattle.sg_record.proofs.head.put_candidates.Goals as goal
 
 pub returns-in_err-put_candidate : goal.returns-in_err-put_candidate
 returns-in_err-put_candidate g c =
-    items_fault c.args.version _ _ _ _ _ (map Cand) c.args.names.now c.loop-at.at (Cand c.get.result.now ∷ []) c.loop-at.invariant (ap (map Cand) c.get.ensures.rest) c.from_residual.ensures.0 c.in_err-put_candidate.ensures
+    items_fault _ _ _ _ _ (map Cand) c.args.names.now c.loop-at.at (Cand c.get.result.now ∷ []) c.loop-at.invariant (ap (map Cand) c.get.ensures.rest) c.from_residual.ensures.0 c.in_err-put_candidate.ensures
 
 pub loop-at-preserved : goal.loop-at-preserved
 loop-at-preserved g c =
-    items_next c.args.version _ _ _ _ (map Cand) c.args.names.now c.loop-at.at (Cand c.get.result.now ∷ []) c.loop-at.invariant (ap (map Cand) c.get.ensures.rest) c.in_ok-put_candidate.ensures
+    items_next _ _ _ _ (map Cand) c.args.names.now c.loop-at.at (Cand c.get.result.now ∷ []) c.loop-at.invariant (ap (map Cand) c.get.ensures.rest) c.in_ok-put_candidate.ensures
 
 pub returns : goal.returns
-returns g c = items_end c.args.version _ _ _ (map Cand) c.args.names.now c.loop-at.at refl c.loop-at.invariant (omega arith)
+returns g c = items_end _ _ _ (map Cand) c.args.names.now c.loop-at.at refl c.loop-at.invariant (omega arith)
 
-pub put_candidate-requires-clause-name : goal.put_candidate-requires-clause-name
-put_candidate-requires-clause-name g c = item_of IsName c.args.names.now c.loop-at.at c.get.result.now c.requires.names c.get.ensures.item
+pub put_candidate-requires : goal.put_candidate-requires
+put_candidate-requires g c = record { name = item_of IsName c.args.names.now c.loop-at.at c.get.result.now c.requires.names c.get.ensures.item }

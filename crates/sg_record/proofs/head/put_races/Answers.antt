@@ -9,14 +9,14 @@ use Rattle.sg_record.proofs.head.put_races.Goals as goal
 
 pub returns-in_err-put_race : goal.returns-in_err-put_race
 returns-in_err-put_race g c =
-    items_fault c.args.version _ _ _ _ _ (flat_map race_lines) c.args.races.now c.loop-at.at (race_lines c.get.result.now) c.loop-at.invariant (ap (flat_map race_lines) c.get.ensures.rest) c.from_residual.ensures.0 c.in_err-put_race.ensures
+    items_fault _ _ _ _ _ (flat_map race_lines) c.args.races.now c.loop-at.at (race_lines c.get.result.now) c.loop-at.invariant (ap (flat_map race_lines) c.get.ensures.rest) c.from_residual.ensures.0 c.in_err-put_race.ensures
 
 pub loop-at-preserved : goal.loop-at-preserved
 loop-at-preserved g c =
-    items_next c.args.version _ _ _ _ (flat_map race_lines) c.args.races.now c.loop-at.at (race_lines c.get.result.now) c.loop-at.invariant (ap (flat_map race_lines) c.get.ensures.rest) c.in_ok-put_race.ensures
+    items_next _ _ _ _ (flat_map race_lines) c.args.races.now c.loop-at.at (race_lines c.get.result.now) c.loop-at.invariant (ap (flat_map race_lines) c.get.ensures.rest) c.in_ok-put_race.ensures
 
 pub returns : goal.returns
-returns g c = items_end c.args.version _ _ _ (flat_map race_lines) c.args.races.now c.loop-at.at refl c.loop-at.invariant (omega arith)
+returns g c = items_end _ _ _ (flat_map race_lines) c.args.races.now c.loop-at.at refl c.loop-at.invariant (omega arith)
 
-pub put_race-requires-clause-race : goal.put_race-requires-clause-race
-put_race-requires-clause-race g c = item_of KeepsRace c.args.races.now c.loop-at.at c.get.result.now c.requires.races c.get.ensures.item
+pub put_race-requires : goal.put_race-requires
+put_race-requires g c = record { race = item_of KeepsRace c.args.races.now c.loop-at.at c.get.result.now c.requires.races c.get.ensures.item }

@@ -6,11 +6,11 @@ use Rattle.sg_record.proofs.openings.put_instance_rows.Goals as goal
 
 pub returns-in_err-put_row : goal.returns-in_err-put_row
 returns-in_err-put_row g c =
-    list_fault c.args.version _ _ _ _ _ (row_line) c.args.rows.now c.loop-at.at c.get.result.now c.loop-at.invariant c.get.ensures.rest c.from_residual.ensures.0 c.in_err-put_row.ensures
+    list_fault _ _ _ _ _ (row_line) c.args.rows.now c.loop-at.at c.get.result.now c.loop-at.invariant c.get.ensures.rest c.from_residual.ensures.0 c.in_err-put_row.ensures
 
 pub loop-at-preserved : goal.loop-at-preserved
 loop-at-preserved g c =
-    list_next c.args.version _ _ _ _ (row_line) c.args.rows.now c.loop-at.at c.get.result.now c.loop-at.invariant c.get.ensures.rest c.in_ok-put_row.ensures
+    list_next _ _ _ _ (row_line) c.args.rows.now c.loop-at.at c.get.result.now c.loop-at.invariant c.get.ensures.rest c.in_ok-put_row.ensures
 
 pub returns : goal.returns
-returns g c = list_end c.args.version _ _ _ (row_line) c.args.rows.now c.loop-at.at c.loop-at.invariant (omega arith)
+returns g c = list_end _ _ _ (row_line) c.args.rows.now c.loop-at.at c.loop-at.invariant (omega arith)

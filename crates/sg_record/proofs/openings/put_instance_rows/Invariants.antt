@@ -1,7 +1,7 @@
 use Rattle.sg_record.proofs.Putting.{LeftFrom}
 use Rattle.sg_record.specs.Lines.{row_line}
-use Rattle.sg_record.specs.Writing.{seen}
+use Rattle.sg_record.specs.Pens.{moment}
 use Rattle.sg_record.proofs.openings.put_instance_rows.Given as goal
 
 abbrev pub invariant-loop-at : goal.invariant-loop-at
-invariant-loop-at g l = LeftFrom l.version (seen (g.O.Sink.written l.fn.out) (g.O.Sink.faults l.fn.out)) (seen (g.O.Sink.written l.out) (g.O.Sink.faults l.out)) (row_line) l.rows l.at
+invariant-loop-at g l = LeftFrom (moment g.O.Sink.written g.O.Sink.faults l.fn.pen l.fn.out) (moment g.O.Sink.written g.O.Sink.faults l.pen l.out) (row_line) l.rows l.at

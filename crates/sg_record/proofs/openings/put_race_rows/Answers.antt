@@ -6,11 +6,11 @@ use Rattle.sg_record.proofs.openings.put_race_rows.Goals as goal
 
 pub returns-in_err-put_instance_rows : goal.returns-in_err-put_instance_rows
 returns-in_err-put_instance_rows g c =
-    list_fault c.args.version _ _ _ _ _ (instance_row_lines) c.args.instances.now c.loop-instance.instance c.get.result.now c.loop-instance.invariant c.get.ensures.rest c.from_residual.ensures.0 c.in_err-put_instance_rows.ensures
+    list_fault _ _ _ _ _ (instance_row_lines) c.args.instances.now c.loop-instance.instance c.get.result.now c.loop-instance.invariant c.get.ensures.rest c.from_residual.ensures.0 c.in_err-put_instance_rows.ensures
 
 pub loop-instance-preserved : goal.loop-instance-preserved
 loop-instance-preserved g c =
-    list_next c.args.version _ _ _ _ (instance_row_lines) c.args.instances.now c.loop-instance.instance c.get.result.now c.loop-instance.invariant c.get.ensures.rest c.in_ok-put_instance_rows.ensures
+    list_next _ _ _ _ (instance_row_lines) c.args.instances.now c.loop-instance.instance c.get.result.now c.loop-instance.invariant c.get.ensures.rest c.in_ok-put_instance_rows.ensures
 
 pub returns : goal.returns
-returns g c = list_end c.args.version _ _ _ (instance_row_lines) c.args.instances.now c.loop-instance.instance c.loop-instance.invariant (omega arith)
+returns g c = list_end _ _ _ (instance_row_lines) c.args.instances.now c.loop-instance.instance c.loop-instance.invariant (omega arith)

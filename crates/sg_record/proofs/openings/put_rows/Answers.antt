@@ -6,11 +6,11 @@ use Rattle.sg_record.proofs.openings.put_rows.Goals as goal
 
 pub returns-in_err-put_race_rows : goal.returns-in_err-put_race_rows
 returns-in_err-put_race_rows g c =
-    list_fault c.args.version _ _ _ _ _ (race_row_lines) c.args.lists.now c.loop-race.race c.get.result.now c.loop-race.invariant c.get.ensures.rest c.from_residual.ensures.0 c.in_err-put_race_rows.ensures
+    list_fault _ _ _ _ _ (race_row_lines) c.args.lists.now c.loop-race.race c.get.result.now c.loop-race.invariant c.get.ensures.rest c.from_residual.ensures.0 c.in_err-put_race_rows.ensures
 
 pub loop-race-preserved : goal.loop-race-preserved
 loop-race-preserved g c =
-    list_next c.args.version _ _ _ _ (race_row_lines) c.args.lists.now c.loop-race.race c.get.result.now c.loop-race.invariant c.get.ensures.rest c.in_ok-put_race_rows.ensures
+    list_next _ _ _ _ (race_row_lines) c.args.lists.now c.loop-race.race c.get.result.now c.loop-race.invariant c.get.ensures.rest c.in_ok-put_race_rows.ensures
 
 pub returns : goal.returns
-returns g c = list_end c.args.version _ _ _ (race_row_lines) c.args.lists.now c.loop-race.race c.loop-race.invariant (omega arith)
+returns g c = list_end _ _ _ (race_row_lines) c.args.lists.now c.loop-race.race c.loop-race.invariant (omega arith)

@@ -6,11 +6,11 @@ use Rattle.sg_record.proofs.results.put_all_results.Goals as goal
 
 pub returns-in_err-put_race_results : goal.returns-in_err-put_race_results
 returns-in_err-put_race_results g c =
-    each_fault c.args.version _ _ _ _ _ (race_result_lines c.args.posted.now) c.loop-race.race (length c.args.posted.now.plan.races) (omega arith) c.loop-race.invariant c.from_residual.ensures.0 c.in_err-put_race_results.ensures
+    each_fault _ _ _ _ _ (race_result_lines c.args.posted.now) c.loop-race.race (length c.args.posted.now.plan.races) (omega arith) c.loop-race.invariant c.from_residual.ensures.0 c.in_err-put_race_results.ensures
 
 pub loop-race-preserved : goal.loop-race-preserved
 loop-race-preserved g c =
-    each_next c.args.version _ _ _ _ (race_result_lines c.args.posted.now) c.loop-race.race (length c.args.posted.now.plan.races) (omega arith) c.loop-race.invariant c.in_ok-put_race_results.ensures
+    each_next _ _ _ _ (race_result_lines c.args.posted.now) c.loop-race.race (length c.args.posted.now.plan.races) (omega arith) c.loop-race.invariant c.in_ok-put_race_results.ensures
 
 pub returns : goal.returns
-returns g c = each_end c.args.version _ _ _ (race_result_lines c.args.posted.now) c.loop-race.race (length c.args.posted.now.plan.races) c.loop-race.invariant (omega arith)
+returns g c = each_end _ _ _ (race_result_lines c.args.posted.now) c.loop-race.race (length c.args.posted.now.plan.races) c.loop-race.invariant (omega arith)

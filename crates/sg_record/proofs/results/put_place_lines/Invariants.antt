@@ -2,8 +2,8 @@ use Rattle.std.proofs.Common.{length}
 use Rattle.sg_record.proofs.Putting.{LeftEach}
 use Rattle.sg_grammar.specs.Due.{lines_for}
 use Rattle.sg_record.specs.Lines.{place_line}
-use Rattle.sg_record.specs.Writing.{seen}
+use Rattle.sg_record.specs.Pens.{moment}
 use Rattle.sg_record.proofs.results.put_place_lines.Given as goal
 
 abbrev pub invariant-loop-line : goal.invariant-loop-line
-invariant-loop-line g l = LeftEach l.version (seen (g.O.Sink.written l.fn.out) (g.O.Sink.faults l.fn.out)) (seen (g.O.Sink.written l.out) (g.O.Sink.faults l.out)) (place_line l.race l.bits) l.line (lines_for (length l.bits))
+invariant-loop-line g l = LeftEach (moment g.O.Sink.written g.O.Sink.faults l.fn.pen l.fn.out) (moment g.O.Sink.written g.O.Sink.faults l.pen l.out) (place_line l.race l.bits) l.line (lines_for (length l.bits))

@@ -8,21 +8,21 @@ use Rattle.sg_record.proofs.results.put_race_results.Goals as goal
 pub returns-in_err-put_race_flags : goal.returns-in_err-put_race_flags
 returns-in_err-put_race_flags g c =
     rw (get_or_from_slice_get c.args.posted.now.flags c.args.race c.get-flags.result.now [] c.get-flags.ensures.item, get_or_from_slice_get c.args.posted.now.places c.args.race c.get-places.result.now [] c.get-places.ensures.item, get_or_from_slice_get c.args.posted.now.totals c.args.race c.get-totals.result.now [] c.get-totals.ensures.item)
-    (puts_stop c.args.version _ _ _ _ (indexed (flag_lines c.args.race) 0 c.get-flags.result.now) (place_lines c.args.race c.get-places.result.now ++ (indexed (total_line c.args.race) 0 c.get-totals.result.now)) c.from_residual.ensures.0 c.in_err-put_race_flags.ensures)
+    (puts_stop _ _ _ _ (indexed (flag_lines c.args.race) 0 c.get-flags.result.now) (place_lines c.args.race c.get-places.result.now ++ (indexed (total_line c.args.race) 0 c.get-totals.result.now)) c.from_residual.ensures.0 c.in_err-put_race_flags.ensures)
 
 pub returns-in_err-put_place_lines : goal.returns-in_err-put_place_lines
 returns-in_err-put_place_lines g c =
     rw (get_or_from_slice_get c.args.posted.now.flags c.args.race c.get-flags.result.now [] c.get-flags.ensures.item, get_or_from_slice_get c.args.posted.now.places c.args.race c.get-places.result.now [] c.get-places.ensures.item, get_or_from_slice_get c.args.posted.now.totals c.args.race c.get-totals.result.now [] c.get-totals.ensures.item)
-    (puts_then c.args.version _ _ _ _ _ (indexed (flag_lines c.args.race) 0 c.get-flags.result.now) (place_lines c.args.race c.get-places.result.now ++ (indexed (total_line c.args.race) 0 c.get-totals.result.now)) c.in_ok-put_race_flags.ensures
-    (puts_stop c.args.version _ _ _ _ (place_lines c.args.race c.get-places.result.now) (indexed (total_line c.args.race) 0 c.get-totals.result.now) c.from_residual-in_err-put_place_lines.ensures.0 c.in_err-put_place_lines.ensures))
+    (puts_then _ _ _ _ _ (indexed (flag_lines c.args.race) 0 c.get-flags.result.now) (place_lines c.args.race c.get-places.result.now ++ (indexed (total_line c.args.race) 0 c.get-totals.result.now)) c.in_ok-put_race_flags.ensures
+    (puts_stop _ _ _ _ (place_lines c.args.race c.get-places.result.now) (indexed (total_line c.args.race) 0 c.get-totals.result.now) c.from_residual-in_err-put_place_lines.ensures.0 c.in_err-put_place_lines.ensures))
 
 pub returns : goal.returns
 returns g c =
     rw (get_or_from_slice_get c.args.posted.now.flags c.args.race c.get-flags.result.now [] c.get-flags.ensures.item, get_or_from_slice_get c.args.posted.now.places c.args.race c.get-places.result.now [] c.get-places.ensures.item, get_or_from_slice_get c.args.posted.now.totals c.args.race c.get-totals.result.now [] c.get-totals.ensures.item)
-    (puts_then c.args.version _ _ _ _ _ (indexed (flag_lines c.args.race) 0 c.get-flags.result.now) (place_lines c.args.race c.get-places.result.now ++ (indexed (total_line c.args.race) 0 c.get-totals.result.now)) c.in_ok-put_race_flags.ensures
-    (puts_then c.args.version _ _ _ _ _ (place_lines c.args.race c.get-places.result.now) (indexed (total_line c.args.race) 0 c.get-totals.result.now) c.in_ok-put_place_lines.ensures
+    (puts_then _ _ _ _ _ (indexed (flag_lines c.args.race) 0 c.get-flags.result.now) (place_lines c.args.race c.get-places.result.now ++ (indexed (total_line c.args.race) 0 c.get-totals.result.now)) c.in_ok-put_race_flags.ensures
+    (puts_then _ _ _ _ _ (place_lines c.args.race c.get-places.result.now) (indexed (total_line c.args.race) 0 c.get-totals.result.now) c.in_ok-put_place_lines.ensures
     (c.put_totals.ensures)))
 
 -- the race's totals are few
-pub put_totals-requires-clause-few : goal.put_totals-requires-clause-few
-put_totals-requires-clause-few g c = item_of (λ totals. length totals < 2 ^ 32) c.args.posted.now.totals c.args.race c.get-totals.result.now c.requires.lists.few_totals c.get-totals.ensures.item
+pub put_totals-requires : goal.put_totals-requires
+put_totals-requires g c = record { few = item_of (λ totals. length totals < 2 ^ 32) c.args.posted.now.totals c.args.race c.get-totals.result.now c.requires.lists.few_totals c.get-totals.ensures.item }

@@ -18,8 +18,8 @@ loop-at-preserved c =
     let word : c.next.result ≡ word_of seed c.args.stream at = search rules in
     let draw : c.drawn-draw.result ≡ draw_of c.args.version (word_of seed c.args.stream at) at =
     c.drawn-draw.ensures.value
-    ∙ ap (λ w. w * (c.number_of_codes-number.result - at) / 2 ^ 32) word
-    ∙ ap (λ n. word_of seed c.args.stream at * (n - at) / 2 ^ 32) c.number_of_codes-number.ensures in
+    ∙ ap (λ w. w * (c.codes_of-number.result - at) / 2 ^ 32) word
+    ∙ ap (λ n. word_of seed c.args.stream at * (n - at) / 2 ^ 32) c.codes_of-number.ensures in
     record {
       row = row_codes-set c.args.version seed c.args.stream at c.unused_at.result c.loop-at.row (omega arith) (omega arith)
           c.loop-at.invariant.row c.unused_at.ensures.unused

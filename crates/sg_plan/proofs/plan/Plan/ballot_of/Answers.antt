@@ -2,8 +2,8 @@ use Rattle.std.proofs.Common.{arith}
 use Rattle.sg_plan.proofs.PlanLaws.{bounds}
 use Rattle.sg_plan.proofs.plan.Plan.ballot_of.Goals as goal
 
-pub overflow_cast-count_candidates : goal.overflow_cast-count_candidates
-overflow_cast-count_candidates c = omega (arith, (bounds c.args.self.now c.requires.limits).few_candidates c.args.race)
+pub overflow_cast-candidates : goal.overflow_cast-candidates
+overflow_cast-candidates c = omega (arith, (bounds c.args.self.now c.requires.limits).few_candidates c.args.race)
 
 pub place_of_row-requires-clause-few : goal.place_of_row-requires-clause-few
 place_of_row-requires-clause-few c = omega (arith, (bounds c.args.self.now c.requires.limits).few_ballots)

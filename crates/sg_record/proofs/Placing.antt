@@ -1,0 +1,240 @@
+-- Lines that may stand one after another, each in its place.
+use Rattle.std.proofs.Common.{◌≡◌, ℕ, zero, suc, ◌+◌, ◌<◌, ◌≤◌, ◌⊎◌, inl, inr, List, [], ◌∷◌, ◌++◌, length, map, Option, Some, None, refl, sym, subst, ap, ◌∙◌, arith}
+use Rattle.std.specs.Option.{is_some}
+use Rattle.sg_plan.specs.Limits.{fault_of}
+use Rattle.sg_plan.specs.declared.plan.Plan.{Plan}
+use Rattle.sg_forms.proofs.LineLaws.{lines_are_read}
+use Rattle.sg_forms.specs.Reading.{line_of}
+use Rattle.sg_forms.specs.Said.{Said}
+use Rattle.sg_forms.specs.Said.Said.{Ballots, Version}
+use Rattle.sg_forms.specs.Spelling.{spelling}
+use Rattle.sg_grammar.proofs.Claims.{option_map-some}
+use Rattle.sg_grammar.specs.Due.{commits, numbered, results}
+use Rattle.sg_grammar.specs.Head.{head_line}
+use Rattle.sg_grammar.specs.Placed.{Placed}
+use Rattle.sg_grammar.specs.Placed.Placed.{OfPlan}
+use Rattle.sg_grammar.specs.Walk.{Next, Taken, Walked, after_run, behind, body_line, first_of, headed, in_head, place, start, take_at, take_bytes, take_line, taking, took, walk, walked_on}
+use Rattle.sg_grammar.specs.declared.state.Head.{Head}
+use Rattle.sg_grammar.specs.declared.state.Head.TheVariants as head
+use Rattle.sg_grammar.specs.declared.state.Part.{Part}
+use Rattle.sg_grammar.specs.declared.state.Part.TheVariants as part
+use Rattle.sg_grammar.specs.declared.state.Slot.{Slot}
+use Rattle.sg_record.proofs.BodyOut.{commits-some, run-other, run_state}
+use Rattle.sg_record.proofs.BytesWalk.{Stays, body-behind, first_line, take_line-stays}
+use Rattle.sg_record.proofs.Filling.{AreIn, Each, Fills}
+use Rattle.sg_record.proofs.HeadOut.{plan-out}
+use Rattle.sg_record.proofs.SaidWalk.{Goes, fits-block, fits-no_run, block-other, results-some}
+use Rattle.sg_record.specs.Lines.{indexed, plan_lines}
+use Rattle.sg_record.specs.Places.{posts}
+
+-- THE LINES THAT ARE DUE
+
+-- each line stands in its slot, in this place
+abbrev pub FillsAs : List Slot → List Said → List Placed → Type 0
+FillsAs [] [] [] = Unit {0}
+FillsAs [] [] (placed ∷ places) = ⊥
+FillsAs [] (said ∷ lines) places = ⊥
+FillsAs (slot ∷ due) [] places = ⊥
+FillsAs (slot ∷ due) (said ∷ lines) [] = ⊥
+FillsAs (slot ∷ due) (said ∷ lines) (placed ∷ places) = (place slot said ≡ Some placed) × FillsAs due lines places
+
+pub as-append : (due more : List Slot) (lines behind_them : List Said) (places others : List Placed)
+    → FillsAs due lines places → FillsAs more behind_them others → FillsAs (due ++ more) (lines ++ behind_them) (places ++ others)
+as-append [] more [] bs [] os here there = there
+as-append [] more [] bs (p ∷ ps) os here there = absurd here
+as-append [] more (s ∷ ls) bs ps os here there = absurd here
+as-append (d ∷ due) more [] bs ps os here there = absurd here
+as-append (d ∷ due) more (s ∷ ls) bs [] os here there = absurd here
+as-append (d ∷ due) more (s ∷ ls) bs (p ∷ ps) os here there = (here.0, as-append due more ls bs ps os here.1 there)
+
+pub as-each : (f : ℕ → List Slot) (g : ℕ → List Said) (h : ℕ → List Placed) (at count : ℕ)
+    → ((k : ℕ) → at ≤ k → k < at + count → FillsAs (f k) (g k) (h k)) → FillsAs (numbered f at count) (numbered g at count) (numbered h at count)
+unfolding numbered
+as-each f g h at zero fills = tt
+as-each f g h at (suc count) fills =
+    as-append (f at) (numbered f (at + 1) count) (g at) (numbered g (at + 1) count) (h at) (numbered h (at + 1) count) (fills at (omega arith) (omega arith))
+    (as-each f g h (at + 1) count (λ k after before. fills k (omega arith) (omega arith)))
+
+-- the lines of each item of a list
+pub as-items : {A : Type 0} (P : ℕ → A → Type 0) (f : ℕ → List Slot) (g : ℕ → A → List Said) (h : ℕ → A → List Placed) → ((k : ℕ) (x : A) → P k x → FillsAs (f k) (g k x) (h k x))
+    → (at count : ℕ) (xs : List A) → Each P at count xs → FillsAs (numbered f at count) (indexed g at xs) (indexed h at xs)
+unfolding numbered indexed
+as-items P f g h fills at zero [] passes = tt
+as-items P f g h fills at zero (x ∷ xs) passes = absurd passes
+as-items P f g h fills at (suc count) [] passes = absurd passes
+as-items P f g h fills at (suc count) (x ∷ xs) passes =
+    as-append (f at) (numbered f (at + 1) count) (g at x) (indexed g (at + 1) xs) (h at x) (indexed h (at + 1) xs) (fills at x passes.0)
+    (as-items P f g h fills (at + 1) count xs passes.1)
+
+-- one line in one slot
+pub as-one : (slot : Slot) (said : Said) (placed : Placed) → place slot said ≡ Some placed → FillsAs (slot ∷ []) (said ∷ []) (placed ∷ [])
+as-one slot said placed is = (is, tt)
+
+-- without the places
+pub as-fills : (due : List Slot) (lines : List Said) (places : List Placed) → FillsAs due lines places → Fills due lines
+as-fills [] [] [] fills = tt
+as-fills [] [] (p ∷ ps) fills = absurd fills
+as-fills [] (s ∷ ls) ps fills = absurd fills
+as-fills (d ∷ due) [] ps fills = absurd fills
+as-fills (d ∷ due) (s ∷ ls) [] fills = absurd fills
+as-fills (d ∷ due) (s ∷ ls) (p ∷ ps) fills = (ap is_some fills.0, as-fills due ls ps fills.1)
+
+-- THE WALK
+
+-- the lines, taken one after another in these places, lead from one state to another
+abbrev pub GoesAs : Next → List Said → List Placed → Next → Type 0
+GoesAs next [] [] end = next ≡ end
+GoesAs next [] (placed ∷ places) end = ⊥
+GoesAs next (said ∷ lines) [] end = ⊥
+GoesAs next (said ∷ lines) (placed ∷ places) end = (after : Next) × (take_line next said ≡ Some (took placed after)) × GoesAs after lines places end
+
+-- without the places
+pub as-goes : (next end : Next) (lines : List Said) (places : List Placed) → GoesAs next lines places end → Goes next lines end
+as-goes next end [] [] goes = goes
+as-goes next end [] (p ∷ ps) goes = absurd goes
+as-goes next end (s ∷ ls) [] goes = absurd goes
+as-goes next end (s ∷ ls) (p ∷ ps) goes = (took p goes.0, goes.1, as-goes goes.0 end ls ps goes.2)
+
+-- as many places as lines
+pub goes_as-length : (next end : Next) (lines : List Said) (places : List Placed) → GoesAs next lines places end → length lines ≡ length places
+goes_as-length next end [] [] goes = refl
+goes_as-length next end [] (p ∷ ps) goes = absurd goes
+goes_as-length next end (s ∷ ls) [] goes = absurd goes
+goes_as-length next end (s ∷ ls) (p ∷ ps) goes = omega (arith, goes_as-length goes.0 end ls ps goes.2)
+
+pub goes_as-append : (next mid end : Next) (lines more : List Said) (places others : List Placed) → GoesAs next lines places mid → GoesAs mid more others end
+    → GoesAs next (lines ++ more) (places ++ others) end
+goes_as-append next mid end [] more [] others here there = subst (λ (n : Next). GoesAs n more others end) (sym here) there
+goes_as-append next mid end [] more (p ∷ ps) others here there = absurd here
+goes_as-append next mid end (s ∷ ls) more [] others here there = absurd here
+goes_as-append next mid end (s ∷ ls) more (p ∷ ps) others here there = (here.0, here.1, goes_as-append here.0 mid end ls more ps others here.2 there)
+
+-- lines that fill what is due
+pub goes_as-due : (plan : Plan) (due : List Slot) (may_begin : Part) (lines rest : List Said) (places others : List Placed) (end : Next)
+    → FillsAs due lines places → GoesAs (behind plan [] may_begin) rest others end → GoesAs (behind plan due may_begin) (lines ++ rest) (places ++ others) end
+unfolding take_line
+goes_as-due plan [] may_begin [] rest [] others end fills goes = goes
+goes_as-due plan [] may_begin [] rest (p ∷ ps) others end fills goes = absurd fills
+goes_as-due plan [] may_begin (s ∷ ls) rest ps others end fills goes = absurd fills
+goes_as-due plan (d ∷ due) may_begin [] rest ps others end fills goes = absurd fills
+goes_as-due plan (d ∷ due) may_begin (s ∷ ls) rest [] others end fills goes = absurd fills
+goes_as-due plan (d ∷ due) may_begin (s ∷ ls) rest (p ∷ ps) others end fills goes =
+    (behind plan due may_begin, ap (λ (o : Option Placed). taking plan due may_begin o) fills.0, goes_as-due plan due may_begin ls rest ps others end fills.1 goes)
+
+-- THE COMMITMENTS, behind the plan's lines
+
+pub goes_as-commits : (plan : Plan) (lines rest : List Said) (places others : List Placed) (end : Next)
+    → FillsAs (commits plan) lines places → GoesAs (behind plan [] (part.Ballots 0)) rest others end → GoesAs (run_state plan) (lines ++ rest) (places ++ others) end
+unfolding take_line
+goes_as-commits plan lines rest places others end fills goes =
+    from (commits plan) lines places refl (commits-some plan) fills (goes_as-due plan (commits plan) (part.Ballots 0) lines rest places others end fills goes)
+  where
+    from : (slots : List Slot) (front : List Said) (ps : List Placed) → commits plan ≡ slots → 0 < length slots → FillsAs slots front ps
+        → GoesAs (behind plan slots (part.Ballots 0)) (front ++ rest) (ps ++ others) end → GoesAs (run_state plan) (front ++ rest) (ps ++ others) end
+    from [] front ps are some filled on = absurd (omega arith)
+    from (d ∷ due) [] ps are some filled on = absurd filled
+    from (d ∷ due) (s ∷ front) [] are some filled on = absurd filled
+    from (d ∷ due) (s ∷ front) (p ∷ ps) are some filled on =
+        (on.0, run-other plan s (fits-no_run d s (ap is_some filled.0)) ∙ (ap (λ l. body_line plan l (part.Ballots 0) s) are ∙ on.1), on.2)
+
+-- THE RESULTS, behind the last ballot
+
+pub goes_as-results : (plan : Plan) (last : ℕ) (lines rest : List Said) (places others : List Placed) (end : Next)
+    → FillsAs (results plan) lines places → GoesAs (behind plan [] (part.Disputes 0)) rest others end → GoesAs (behind plan [] (part.Ballots last)) (lines ++ rest) (places ++ others) end
+unfolding take_line
+goes_as-results plan last lines rest places others end fills goes =
+    from (results plan) lines places refl (results-some plan) fills (goes_as-due plan (results plan) (part.Disputes 0) lines rest places others end fills goes)
+  where
+    from : (slots : List Slot) (front : List Said) (ps : List Placed) → results plan ≡ slots → 0 < length slots → FillsAs slots front ps
+        → GoesAs (behind plan slots (part.Disputes 0)) (front ++ rest) (ps ++ others) end → GoesAs (behind plan [] (part.Ballots last)) (front ++ rest) (ps ++ others) end
+    from [] front ps are some filled on = absurd (omega arith)
+    from (d ∷ due) [] ps are some filled on = absurd filled
+    from (d ∷ due) (s ∷ front) [] are some filled on = absurd filled
+    from (d ∷ due) (s ∷ front) (p ∷ ps) are some filled on =
+        (on.0, block-other plan last s (fits-block d s (ap is_some filled.0)) ∙ (ap (λ l. first_of plan l s) are ∙ on.1), on.2)
+
+-- THE PLAN'S LINES
+
+-- a line is one of the plan, or the plan is whole behind it
+abbrev pub EndsPlan : Said → Taken → Type 0
+EndsPlan said taken = (taken.next.head ≡ head.Whole) ⊎ (taken.placed ≡ OfPlan said)
+
+in_head-ends : (plan : Plan) (stage : Head) (said : Said) (t : Taken) → in_head plan stage said ≡ Some t → EndsPlan said t
+in_head-ends plan stage said t e =
+    let from = option_map-some (headed said) (head_line plan stage said) t e in
+    inr (sym (ap (λ (x : Taken). x.placed) from.2))
+
+after_run-ends : (plan : Plan) (said : Said) (t : Taken) → after_run plan said ≡ Some t → EndsPlan said t
+after_run-ends plan (Ballots style count) t e = in_head-ends plan head.Runs (Ballots style count) t e
+after_run-ends plan said t e = inl (body-behind plan (commits plan) (part.Ballots 0) said t e).1
+
+take_at-ends : (plan : Plan) (stage : Head) (due : List Slot) (may_begin : Part) (said : Said) (t : Taken) → take_at plan stage due may_begin said ≡ Some t → EndsPlan said t
+take_at-ends plan head.Whole due may_begin said t e = inl (body-behind plan due may_begin said t e).1
+take_at-ends plan head.Runs due may_begin said t e = after_run-ends plan said t e
+take_at-ends plan stage due may_begin said t e = in_head-ends plan stage said t e
+
+pub take_line-ends : (next : Next) (said : Said) (t : Taken) → take_line next said ≡ Some t → EndsPlan said t
+unfolding take_line
+take_line-ends next said t e = take_at-ends next.plan next.head next.due next.part said t e
+
+whole-step : (next : Next) (said : Said) (t : Taken) → next.head ≡ head.Whole → take_line next said ≡ Some t → t.next.head ≡ head.Whole
+unfolding take_line
+whole-step next said t whole e =
+    (body-behind next.plan next.due next.part said t (sym (ap (λ (h : Head). take_at next.plan h next.due next.part said) whole) ∙ e)).1
+
+-- a whole plan stays whole
+whole-stays : (next end : Next) (lines : List Said) → next.head ≡ head.Whole → Goes next lines end → end.head ≡ head.Whole
+whole-stays next end [] whole goes = ap (λ (n : Next). n.head) (sym goes) ∙ whole
+whole-stays next end (said ∷ lines) whole goes = whole-stays goes.0.next end lines (whole-step next said goes.0 whole goes.1) goes.2
+
+-- so lines behind which it is not are lines of the plan
+goes_as-head : (next end : Next) (lines : List Said) → (end.head ≡ head.Whole → ⊥) → Goes next lines end → GoesAs next lines (map OfPlan lines) end
+goes_as-head next end [] other goes = goes
+goes_as-head next end (said ∷ lines) other goes =
+    elim (take_line-ends next said goes.0 goes.1) [
+      | inl whole ↦ absurd (other (whole-stays goes.0.next end lines whole goes.2))
+      | inr of_plan ↦ (
+        goes.0.next,
+        goes.1 ∙ ap (λ (p : Placed). Some (took p goes.0.next)) of_plan,
+        goes_as-head goes.0.next end lines other goes.2,
+      )
+    ]
+
+pub goes_as-plan : (plan : Plan) → fault_of plan ≡ None → GoesAs start (plan_lines plan) (map OfPlan (plan_lines plan)) (run_state plan)
+goes_as-plan plan fine =
+    let goes : Goes start (plan_lines plan) (run_state plan) = subst (λ (l : List Said). Goes start l (run_state plan)) (append-none (plan_lines plan)) (plan-out plan [] (run_state plan) fine refl) in
+    goes_as-head start (run_state plan) (plan_lines plan) (λ e. cc) goes
+  where
+    append-none : (l : List Said) → l ++ [] ≡ l
+    append-none [] = refl
+    append-none (x ∷ xs) = ap (λ l. x ∷ l) (append-none xs)
+
+-- THE BYTES
+
+walk-step : (next : Next) (bytes : List ℕ) (said : Said) (t : Taken) (lines : List (List ℕ)) (w : Walked)
+    → line_of next.plan.version bytes ≡ Some said → take_line next said ≡ Some t → walk t.next lines ≡ Some w → walk next (bytes ∷ lines) ≡ Some (walked_on bytes t w)
+unfolding walk take_bytes
+walk-step next bytes said t lines w read taken on = rw (read, taken, on) refl
+
+goes_as-walks : (version : ℕ) (next end : Next) (lines : List Said) (places : List Placed) → Stays version next → AreIn version lines → GoesAs next lines places end
+    → walk next (map (spelling version) lines) ≡ Some (record { posted = posts version lines places; next = end })
+unfolding walk
+goes_as-walks version next end [] [] stays all goes = ap (λ (n : Next). Some (let w : Walked = record { posted = []; next = n } in w)) goes
+goes_as-walks version next end [] (p ∷ ps) stays all goes = absurd goes
+goes_as-walks version next end (s ∷ ls) [] stays all goes = absurd goes
+goes_as-walks version next end (s ∷ ls) (p ∷ ps) stays all goes =
+    let read : line_of next.plan.version (spelling version s) ≡ Some s = ap (λ v. line_of v (spelling version s)) stays.0 ∙ lines_are_read version s all.0 in
+    let on = take_line-stays next s (took p goes.0) stays.1 goes.1 in
+    walk-step next (spelling version s) s (took p goes.0) (map (spelling version) ls) (record { posted = posts version ls ps; next = end }) read goes.1
+    (goes_as-walks version goes.0 end ls ps (on.0 ∙ stays.0, on.1) all.1 goes.2)
+
+-- lines that may stand from the start on, in their places, are the walk over their bytes
+pub start_as-walks : (version : ℕ) (end : Next) (lines : List Said) (places : List Placed) → AreIn version (Version version ∷ lines) → GoesAs start (Version version ∷ lines) places end
+    → walk start (map (spelling version) (Version version ∷ lines)) ≡ Some (record { posted = posts version (Version version ∷ lines) places; next = end })
+start_as-walks version end lines [] all goes = absurd goes
+start_as-walks version end lines (p ∷ ps) all goes =
+    let first = first_line (Version version) (took p goes.0) goes.1 in
+    let same : first.version ≡ version = let both : Version version ≡ Version first.version = first.is in cc in
+    walk-step start (spelling version (Version version)) (Version version) (took p goes.0) (map (spelling version) lines) (record { posted = posts version lines ps; next = end })
+    (lines_are_read 0 (Version version) all.0) goes.1
+    (goes_as-walks version goes.0 end lines ps (first.stays.0 ∙ same, first.stays.1) all.1 goes.2)

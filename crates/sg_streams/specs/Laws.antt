@@ -1,0 +1,18 @@
+-- What follows from the definitions of orders and of codes alone (this project's rules for the record).
+use Rattle.std.specs.Prelude.{◌≡◌, ℕ, ◌≤◌, ◌↔◌, List}
+use Rattle.sg_plan.specs.Codes.{codes_of}
+use Rattle.sg_streams.specs.Order.{IsOneToOne, IsOrder, order_of}
+use Rattle.sg_streams.specs.RowCodes.{AreCodes, AreDrawn, row_codes}
+
+-- there is exactly one order of each stream and n.
+abbrev pub OneOrder : Type 0
+OneOrder = (seed : List ℕ) (stream n : ℕ) (list : List ℕ) → IsOrder seed stream n list ↔ (list ≡ order_of seed stream n)
+
+-- orders are one to one
+abbrev pub OrdersAreOneToOne : Type 0
+OrdersAreOneToOne = (seed : List ℕ) (stream n : ℕ) (list : List ℕ) → IsOrder seed stream n list → IsOneToOne n list
+
+-- the codes of a row are codes of the version, all different, and each is drawn as the rule says
+abbrev pub RowsAreCodes : Type 0
+RowsAreCodes = (version : ℕ) (seed : List ℕ) (stream k : ℕ) → k ≤ codes_of version
+    → AreCodes version k (row_codes version seed stream k) × AreDrawn version seed stream (row_codes version seed stream k)
