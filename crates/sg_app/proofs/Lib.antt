@@ -1,3 +1,4 @@
+mod Endings
 mod Forms
 mod Judging
 mod Reporting

@@ -1,4 +1,4 @@
 pub mod Audit
 pub mod Command
-pub mod Feeding
 pub mod Report
+pub mod inside
