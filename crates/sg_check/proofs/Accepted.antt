@@ -1,7 +1,7 @@
 -- A yes is sound: each law of the bound holds of what it accepts.
-use Rattle.std.proofs.Common.{◌≡◌, ℕ, Bool, true, false, List, [], ◌∷◌, length, take, Option, None, Some, refl, sym, subst, ap, ◌∙◌, arith}
-use Rattle.std.specs.Option.{is_none, option_map_or}
-use Rattle.std.specs.Prelude.{IfOk, IfSome, Result, Ok, Err, find}
+use Rattle.std.proofs.Common.{◌≡◌, ℕ, true, false, List, length, Option, None, Some, refl, sym, subst, ap, ◌∙◌, arith}
+use Rattle.std.specs.Option.{option_map_or}
+use Rattle.std.specs.Prelude.{IfOk, IfSome, Result, Ok, Err}
 use Rattle.std.proofs.lemmas.List.{take_all}
 use Rattle.sg_outside.specs.TextLines.{lines_of}
 use Rattle.sg_grammar.specs.Lines.{placed_of}
@@ -14,7 +14,7 @@ use Rattle.sg_check.proofs.PrintingLaw.{has_printing, version_room}
 use Rattle.sg_check.specs.Bounds.{IsSound, IsSoundIfYes}
 use Rattle.sg_check.specs.Kinds.{kinds}
 use Rattle.sg_check.specs.Laws.{IsAccepted, PrintingExists}
-use Rattle.sg_check.specs.Verdict.{AreFine, IsGood, IsVerdict, are_whole, breaks, least_broken}
+use Rattle.sg_check.specs.Verdict.{AreFine, IsGood, IsVerdict, breaks, least_broken}
 use Rattle.sg_check.specs.declared.judged.Judged.{Judged}
 use Rattle.sg_check.specs.declared.judged.Judged.TheVariants as judged
 use Rattle.sg_check.specs.declared.judged.Kind.{Kind}

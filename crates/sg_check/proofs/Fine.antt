@@ -19,7 +19,7 @@ use Rattle.sg_check.proofs.OfPlan.{plan_lines-none}
 use Rattle.sg_check.specs.Judging.{AreOfPlan, IsOfPlan, first_late, later_kinds}
 use Rattle.sg_check.specs.Kinds.{is_bad}
 use Rattle.sg_check.specs.Laws.{NoneBadAreFine}
-use Rattle.sg_check.specs.Verdict.{AreFine, late, least_broken}
+use Rattle.sg_check.specs.Verdict.{AreFine, late}
 use Rattle.sg_check.specs.declared.judged.Kind.TheVariants as kind
 
 -- FRONTS OF A WALK

@@ -7,7 +7,7 @@ ghost use Rattle.sg_grammar.specs.Meaning.{meant_line};
 
 use sg_commit::Digest;
 use sg_forms::{CodeLine, Line, RowOpening};
-use sg_grammar::{Block, Spot, Meaning, meaning_of};
+use sg_grammar::{Block, Meaning, Spot, meaning_of};
 use sg_plan::ClaimWord;
 
 /// A line in its place: its coordinates, and their values.
