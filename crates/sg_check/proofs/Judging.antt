@@ -40,10 +40,6 @@ first_late-push plan lines line e =
     find-same (λ k. late (is_bad k plan) [] (lines ++ line ∷ [])) (λ k. late (is_bad k plan) [] lines || is_bad k plan lines line) later_kinds (λ k. late-push (is_bad k plan) [] lines line)
     ∙ find-or (λ k. late (is_bad k plan) [] lines) (λ k. is_bad k plan lines line) later_kinds e
 
--- a seal is judged first, and then the line in its place
-pub bad_in-parts : (plan : Plan) (before : List Posted) (line : Posted) → bad_in plan before line ≡ cond (bad_seal (bytes_of before) line.line) (Some kind.Seal) (first_bad plan (placed_of before) line.line)
-bad_in-parts plan before line = refl
-
 -- a bad seal breaks kind seal
 pub bad_in-seal : (plan : Plan) (before : List Posted) (line : Posted) → bad_seal (bytes_of before) line.line ≡ true → bad_in plan before line ≡ Some kind.Seal
 bad_in-seal plan before line e = ap (λ (b : Bool). cond b (Some kind.Seal) (first_bad plan (placed_of before) line.line)) e

@@ -38,9 +38,6 @@ use Rattle.sg_plan.specs.declared.plan.Plan.{Plan}
 pub taken_there : (next : Next) (said : Said) (placed : Placed) → placed_next next said ≡ Some placed → (t : Taken) × (take_line next said ≡ Some t) × (t.placed ≡ placed)
 taken_there next said placed e = option_map-some (λ (t : Taken). t.placed) (take_line next said) placed e
 
-pub taken_some : (next : Next) (said : Said) (placed : Placed) → placed_next next said ≡ Some placed → IsSome (take_line next said)
-taken_some next said placed e = let there = taken_there next said placed e in subst (λ (o : Option Taken). IsSome o) (sym there.1) refl
-
 pub no_place : (next : Next) (said : Said) → placed_next next said ≡ None → IsSome (take_line next said) → ⊥
 no_place next said e some =
     let there = some_there (take_line next said) some in

@@ -18,7 +18,7 @@ use Rattle.sg_forms.specs.Said.{Said}
 use Rattle.sg_ledger.specs.declared.ledger.Ledger.{Ledger}
 use Rattle.sg_ledger.specs.Tells.{Tells}
 use Rattle.sg_pass.proofs.Placing.{found_refused, found_taken, plan_taken, taken_there}
-use Rattle.sg_pass.specs.Taking.{Advances, IsRefused, IsTaken, Keeps, Stands}
+use Rattle.sg_pass.specs.inside.Taking.{Advances, IsRefused, IsTaken, Keeps, Stands}
 use Rattle.sg_plan.specs.declared.plan.Plan.{Plan}
 use Rattle.sg_grammar.proofs.Counting.{most_lines_stand, start-made}
 use Rattle.sg_grammar.proofs.Walking.{take_bytes-not_read, take_bytes-read, take_line-behind, take_line-head, walk-push}

@@ -4,7 +4,7 @@ ghost use Rattle.sg_check.specs.Kinds.{first_bad};
 ghost use Rattle.sg_check.specs.Verdict.{total_on};
 ghost use Rattle.sg_forms.specs.Said.{said};
 ghost use Rattle.sg_ledger.specs.Tells.{HasDigits, Tells, TellsSome, totals_kept};
-ghost use Rattle.sg_pass.specs.Taking.{Advances, IsNoPlanLine, Stands, StandsSome, is_behind};
+ghost use Rattle.sg_pass.specs.inside.Taking.{Advances, IsNoPlanLine, Stands, StandsSome, is_behind};
 ghost use Rattle.sg_plan.specs.Limits.{fault_of};
 ghost use Rattle.sg_grammar.specs.Left.{lines_left};
 ghost use Rattle.sg_grammar.specs.Placed.{Placed};
