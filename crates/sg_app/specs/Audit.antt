@@ -5,6 +5,7 @@ use Rattle.std.specs.Io.KnownBytes.{Appends, Consumes, IsAtEnd, Keeps}
 use Rattle.sg_outside.specs.Faults.{Rose}
 use Rattle.sg_outside.specs.Streams.{AppendsFront, Seen}
 use Rattle.sg_outside.specs.TextLines.{AreLines, HasNoFeed, lines_of}
+use Rattle.sg_check.specs.Bounds.{IsSound}
 use Rattle.sg_check.specs.Verdict.{AreFine, IsVerdict}
 use Rattle.sg_check.specs.declared.judged.Judged.{Judged}
 use Rattle.sg_check.specs.declared.judged.Judged.TheVariants.{Yes, No}
@@ -16,6 +17,11 @@ use Rattle.sg_app.specs.Report.{report_of}
 -- where the source tells its bytes, this is the verdict on their lines
 abbrev pub Judges : Option (List ℕ) → Judged → Type 0
 Judges known judged = IfSome known (λ bytes. IsVerdict (lines_of bytes) judged)
+
+-- where the source tells its bytes, what a yes with these totals promises holds of their lines: the bound on altered rows,
+-- over every printing and every completion that opens no commitment twice
+abbrev pub AreSound : Option (List ℕ) → List Total → Type 0
+AreSound known totals = IfSome known (λ bytes. IsSound (lines_of bytes) totals)
 
 -- what was taken ends, where the bytes are told, fewer than 16,384 bytes behind the end of the line of this number; a
 -- number past the last line stands for that one
@@ -50,10 +56,12 @@ pub record TookHeader (before now : Option (List ℕ)) : Type 0 where
 
 -- WHAT EACH STATUS SAYS
 
--- 0: the verdict on the input's bytes is yes, the input was read to its end, and the report was written whole
+-- 0: the verdict on the input's bytes is yes, and what it promises holds of the totals in the report; the input was read to
+-- its end, and the report was written whole
 pub record SaysYes (input input' out out' : Seen) : Type 0 where
   pub totals : List Total
   pub judged : Judges input.bytes (Yes totals)
+  pub sound : AreSound input.bytes totals
   pub read : IsAtEnd input'.bytes
   pub written : Appends out.bytes out'.bytes (report_of (Yes totals))
 
