@@ -15,7 +15,7 @@ use Rattle.sg_check.proofs.OneMore.{fine-empty}
 use Rattle.sg_check.specs.Verdict.{AreFine, IsVerdict}
 use Rattle.sg_check.specs.declared.judged.Judged.{Judged}
 use Rattle.sg_pass.specs.Pass.{StandsFor, is_behind_plan, is_open, is_ready}
-use Rattle.sg_pass.specs.Taking.{is_behind}
+use Rattle.sg_pass.specs.inside.Taking.{is_behind}
 use Rattle.sg_pass.specs.declared.pass.Pass.{Pass}
 use Rattle.sg_app.specs.Audit.{Hears, Judges, TookHeader}
 use Rattle.sg_app.specs.Feeding.{IsFed}

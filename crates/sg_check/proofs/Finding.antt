@@ -24,3 +24,12 @@ find-or {A} p q (x ∷ xs) e =
     let parts = cond_none (p x) x (find p xs) e in
     ap (λ (b : Bool). cond (b || q x) (Some x) (find (λ (z : A). p z || q z) xs)) parts.0
     ∙ ap (λ (found : Option A). cond (q x) (Some x) found) (find-or p q xs parts.1)
+
+-- a test that finds nothing fails on each
+abbrev pub Fails : {A : Type 0} → (A → Bool) → List A → Type 0
+Fails p [] = Unit {0}
+Fails p (x ∷ xs) = (p x ≡ false) × Fails p xs
+
+pub find-fails : {A : Type 0} (p : A → Bool) (xs : List A) → find p xs ≡ None → Fails p xs
+find-fails p [] e = tt
+find-fails p (x ∷ xs) e = let parts = cond_none (p x) x (find p xs) e in (parts.0, find-fails p xs parts.1)

@@ -9,12 +9,13 @@ use Rattle.std.proofs.lemmas.List.Sums.{sum_by_push}
 use Rattle.sg_streams.specs.CoinSides.{coin_of, coin_seed}
 use Rattle.sg_commit.specs.declared.CommitKind.{CommitKind}
 use Rattle.sg_commit.specs.declared.Digest.{Digest}
+use Rattle.sg_grammar.specs.Lines.{IsAmong, placed_of}
 use Rattle.sg_check.proofs.Judging.{walked-least}
 use Rattle.sg_check.proofs.OneMore.{fine-all}
 use Rattle.sg_check.specs.Facts.{audited_code, audited_entries, both_rows, is_audited, is_both, is_flagged, is_full_draw, is_marked, is_set, left_commitment, left_of, opens_both, opens_left, opens_right, paper_code, points_to, public_bytes, right_commitment, right_of, votes_for}
 use Rattle.sg_check.specs.Judging.{first_late, later_kinds}
-use Rattle.sg_check.specs.Kinds.{bad_left_pointer, bad_placed, bad_pointer_opening, bad_right_pointer, clashes_with, differ, is_bad, is_off_coin, is_on_side, is_there, opens_digest, placed_of, shows_against, wrong_audit, wrong_left_flag, wrong_number, wrong_right_flag}
-use Rattle.sg_check.specs.Laws.{AreCodesKnown, ArePointersOnce, AreSidesDrawn, AreTotalsCounted, CodesAreKnown, DoFlagsAgree, DoOpeningsOpen, DoPathsAgree, DoPrintsAgree, FlagsAgree, IsAmong, IsBefore, IsFineWalk, OpeningsOpen, PathsAgree, PointersStandOnce, PrintsAgree, SidesAreDrawn, TotalsCount}
+use Rattle.sg_check.specs.Kinds.{bad_left_pointer, bad_placed, bad_pointer_opening, bad_right_pointer, clashes_with, differ, is_bad, is_off_coin, is_on_side, is_there, opens_digest, shows_against, wrong_audit, wrong_left_flag, wrong_number, wrong_right_flag}
+use Rattle.sg_check.specs.Laws.{AreCodesKnown, ArePointersOnce, AreSidesDrawn, AreTotalsCounted, CodesAreKnown, DoFlagsAgree, DoOpeningsOpen, DoPathsAgree, DoPrintsAgree, FlagsAgree, IsBefore, IsFineWalk, OpeningsOpen, PathsAgree, PointersStandOnce, PrintsAgree, SidesAreDrawn, TotalsCount}
 use Rattle.sg_check.specs.Verdict.{late}
 use Rattle.sg_check.specs.declared.judged.Kind.{Kind}
 use Rattle.sg_check.specs.declared.judged.Kind.TheVariants as kind

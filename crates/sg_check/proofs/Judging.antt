@@ -3,11 +3,12 @@ use Rattle.std.proofs.Common.{◌≡◌, ℕ, Bool, true, false, ◌||◌, cond,
 use Rattle.std.specs.Prelude.{find, is_none}
 use Rattle.std.specs.Option.{option_map_or}
 use Rattle.sg_plan.specs.declared.plan.Plan.{Plan}
+use Rattle.sg_grammar.specs.Lines.{placed_of}
 use Rattle.sg_grammar.specs.Walk.{Posted, Walked, start, walk}
 use Rattle.sg_check.proofs.Finding.{find-or, find-same}
 use Rattle.sg_check.proofs.Late.{late-push}
 use Rattle.sg_check.specs.Judging.{bad_in, first_late, later_kinds}
-use Rattle.sg_check.specs.Kinds.{bad_seal, bytes_of, first_bad, is_bad, kinds, placed_of}
+use Rattle.sg_check.specs.Kinds.{bad_seal, bytes_of, first_bad, is_bad, kinds}
 use Rattle.sg_check.specs.Verdict.{breaks_walked, late, least_broken}
 use Rattle.sg_check.specs.declared.judged.Kind.{Kind}
 use Rattle.sg_check.specs.declared.judged.Kind.TheVariants as kind
@@ -38,10 +39,6 @@ pub first_late-push : (plan : Plan) (lines : List Posted) (line : Posted) → fi
 first_late-push plan lines line e =
     find-same (λ k. late (is_bad k plan) [] (lines ++ line ∷ [])) (λ k. late (is_bad k plan) [] lines || is_bad k plan lines line) later_kinds (λ k. late-push (is_bad k plan) [] lines line)
     ∙ find-or (λ k. late (is_bad k plan) [] lines) (λ k. is_bad k plan lines line) later_kinds e
-
--- a seal is judged first, and then the line in its place
-pub bad_in-parts : (plan : Plan) (before : List Posted) (line : Posted) → bad_in plan before line ≡ cond (bad_seal (bytes_of before) line.line) (Some kind.Seal) (first_bad plan (placed_of before) line.line)
-bad_in-parts plan before line = refl
 
 -- a bad seal breaks kind seal
 pub bad_in-seal : (plan : Plan) (before : List Posted) (line : Posted) → bad_seal (bytes_of before) line.line ≡ true → bad_in plan before line ≡ Some kind.Seal

@@ -1,15 +1,15 @@
 -- The lines of the plan are bad in no kind, by whatever plan they are judged.
 use Rattle.std.proofs.Common.{◌≡◌, ℕ, Bool, false, ◌||◌, List, [], ◌∷◌, ◌++◌, None, refl, ap, ◌∙◌}
+use Rattle.sg_grammar.specs.Lines.{placed_of}
 use Rattle.sg_forms.specs.Said.{Said}
 use Rattle.sg_plan.specs.declared.plan.Plan.{Plan}
 use Rattle.sg_grammar.specs.Placed.{Placed}
 use Rattle.sg_grammar.specs.Placed.Placed.{OfPlan}
 use Rattle.sg_grammar.specs.Walk.{Posted}
 use Rattle.sg_check.proofs.Finding.{find-none}
-use Rattle.sg_check.specs.Kinds.{is_bad, placed_of}
+use Rattle.sg_check.specs.Kinds.{is_bad}
 use Rattle.sg_check.specs.Verdict.{late, total_on, totals_in}
-use Rattle.sg_check.specs.Judging.{AreOfPlan, IsOfPlan, first_late, bad_in, later_kinds}
-use Rattle.sg_check.specs.Kinds.{kinds}
+use Rattle.sg_check.specs.Judging.{AreOfPlan, IsOfPlan, first_late, later_kinds}
 use Rattle.sg_check.specs.declared.judged.Kind.{Kind}
 use Rattle.sg_check.specs.declared.judged.Kind.TheVariants as kind
 use Rattle.sg_check.specs.declared.judged.Total.{Total}
@@ -25,9 +25,6 @@ placed-good k plan before bytes line of_plan = absurd of_plan
 -- a line of the plan is bad in no kind
 pub plan_line-good : (k : Kind) (plan : Plan) (before : List Posted) (line : Posted) → IsOfPlan line.line → is_bad k plan before line ≡ false
 plan_line-good k plan before line of_plan = placed-good k plan before line.bytes line.line of_plan
-
-pub plan_line-none : (plan : Plan) (before : List Posted) (line : Posted) → IsOfPlan line.line → bad_in plan before line ≡ None
-plan_line-none plan before line of_plan = find-none (λ k. is_bad k plan before line) kinds (λ k. plan_line-good k plan before line of_plan)
 
 late-good : (k : Kind) (plan : Plan) (before lines : List Posted) → AreOfPlan (placed_of lines) → late (is_bad k plan) before lines ≡ false
 late-good k plan before [] of_plan = refl

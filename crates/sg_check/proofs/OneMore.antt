@@ -3,13 +3,13 @@ use Rattle.std.proofs.Common.{◌≡◌, ℕ, ◌+◌, ◌≤◌, ◌⊎◌, inl
 use Rattle.std.proofs.lemmas.Bool.{cases_lt}
 use Rattle.std.proofs.lemmas.List.{length-append, length_push, take-append-le, take_all}
 use Rattle.sg_plan.specs.declared.plan.Plan.{Plan}
+use Rattle.sg_grammar.specs.Lines.{placed_of}
 use Rattle.sg_forms.specs.Reading.{line_of}
 use Rattle.sg_grammar.proofs.Walking.{read_next-no_line, take_bytes-not_read, walk-empty, walk-push, walk-push_none}
 use Rattle.sg_grammar.specs.Walk.{Taken, Walked, start, take_bytes, walk}
 use Rattle.sg_check.proofs.Judging.{first_late-push, unwalked-least, walked-least}
 use Rattle.sg_check.proofs.OfPlan.{plan_lines-none}
 use Rattle.sg_check.specs.Judging.{AreOfPlan, bad_in, first_late}
-use Rattle.sg_check.specs.Kinds.{placed_of}
 use Rattle.sg_check.specs.Laws.{FormIsJudged, IsPlanKnown, LineIsJudged}
 use Rattle.sg_check.specs.Verdict.{AreFine, IsFirstBad, IsVerdict, least_broken}
 use Rattle.sg_check.specs.declared.judged.Judged.TheVariants as judged

@@ -4,11 +4,11 @@ use Rattle.std.specs.Option.{option_map_or}
 use Rattle.std.specs.Prelude.{IfOk, Result, Ok, Err}
 use Rattle.std.proofs.Math.Seq.{take-add}
 use Rattle.std.proofs.lemmas.List.{drop_all, length_push}
+use Rattle.sg_grammar.specs.Lines.{placed_of}
 use Rattle.sg_check.proofs.OneMore.{fine-empty, verdict-more}
 use Rattle.sg_check.proofs.Verdicts.{cut_end, good_end}
-use Rattle.sg_check.specs.Kinds.{placed_of}
-use Rattle.sg_check.specs.Notes.{lines_noted}
-use Rattle.sg_check.specs.Plain.{Advances, HasRead, Stands, totals_placed}
+use Rattle.sg_check.specs.inside.Notes.{lines_noted}
+use Rattle.sg_check.specs.inside.Plain.{Advances, HasRead, Stands, totals_placed}
 use Rattle.sg_check.specs.Verdict.{IsFirstBad, IsVerdict, total_on, totals_in}
 use Rattle.sg_check.specs.declared.judged.Judged.TheVariants as judged
 use Rattle.sg_check.specs.declared.judged.Kind.{Kind}

@@ -4,13 +4,14 @@ use Rattle.std.specs.Option.{is_some, option_map}
 use Rattle.std.specs.Prelude.{IsSome}
 use Rattle.std.proofs.lemmas.List.{append-nil, map_push}
 use Rattle.std.proofs.lemmas.Option.{none-some, same_Some}
+use Rattle.sg_grammar.specs.Lines.{placed_of}
 use Rattle.sg_check.proofs.Judging.{bad_in-placed, bad_in-seal}
 use Rattle.sg_check.proofs.OfPlan.{plan_lines-push}
 use Rattle.sg_check.proofs.OneMore.{form_over, kind_over, still_fine}
 use Rattle.sg_check.specs.Judging.{AreOfPlan, IsOfPlan}
-use Rattle.sg_check.specs.Kinds.{bad_seal, bytes_of, first_bad, placed_of}
-use Rattle.sg_check.specs.Notes.{lines_noted, noted}
-use Rattle.sg_check.specs.Plain.{Advances, IsBehind, IsRefused, IsTaken, Stands, Takes}
+use Rattle.sg_check.specs.Kinds.{bad_seal, bytes_of, first_bad}
+use Rattle.sg_check.specs.inside.Notes.{lines_noted, noted}
+use Rattle.sg_check.specs.inside.Plain.{Advances, IsBehind, IsRefused, IsTaken, Stands, Takes}
 use Rattle.sg_check.specs.Verdict.{IsFirstBad}
 use Rattle.sg_check.specs.declared.judged.Kind.{Kind}
 use Rattle.sg_check.specs.declared.judged.Kind.TheVariants as kind
@@ -36,9 +37,6 @@ use Rattle.sg_plan.specs.declared.plan.Plan.{Plan}
 -- a line that has a place is taken there
 pub taken_there : (next : Next) (said : Said) (placed : Placed) → placed_next next said ≡ Some placed → (t : Taken) × (take_line next said ≡ Some t) × (t.placed ≡ placed)
 taken_there next said placed e = option_map-some (λ (t : Taken). t.placed) (take_line next said) placed e
-
-pub taken_some : (next : Next) (said : Said) (placed : Placed) → placed_next next said ≡ Some placed → IsSome (take_line next said)
-taken_some next said placed e = let there = taken_there next said placed e in subst (λ (o : Option Taken). IsSome o) (sym there.1) refl
 
 pub no_place : (next : Next) (said : Said) → placed_next next said ≡ None → IsSome (take_line next said) → ⊥
 no_place next said e some =

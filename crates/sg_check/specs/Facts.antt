@@ -11,10 +11,9 @@ use Rattle.sg_forms.specs.declared.line.RowOpening.TheVariants as row
 use Rattle.sg_plan.specs.Ballots.{ballot_row, candidates_of, entry_at}
 use Rattle.sg_plan.specs.declared.plan.ClaimWord.{ClaimWord}
 use Rattle.sg_plan.specs.declared.plan.Plan.{Plan}
+use Rattle.sg_grammar.specs.Lines.{is_audit, is_cast, is_dispute}
 use Rattle.sg_grammar.specs.Placed.{Placed}
 use Rattle.sg_grammar.specs.Placed.Placed.{CodeCommitAt, RowCommitAt, CodeAt, PaperAt, FlagsAt, PlacesAt, DrawnFull, DrawnPublic, RowAt, Disputed}
-use Rattle.sg_grammar.specs.declared.state.Block.{Block}
-use Rattle.sg_grammar.specs.declared.state.Block.TheVariants as block
 
 -- the first value that a line gives
 abbrev pub first_given : {A B : Type 0} → (A → Option B) → List A → Option B
@@ -58,21 +57,6 @@ shows_code plan race entry line = None
 -- the code that is known of an entry: the first that is shown
 abbrev pub known_code : Plan → ℕ → ℕ → List Placed → Option ℕ
 known_code plan race entry lines = first_given (shows_code plan race entry) lines
-
-abbrev pub is_cast : Block → Bool
-is_cast block.Cast = true
-is_cast block.Audited = false
-is_cast block.Dispute = false
-
-abbrev pub is_audit : Block → Bool
-is_audit block.Cast = false
-is_audit block.Audited = true
-is_audit block.Dispute = false
-
-abbrev pub is_dispute : Block → Bool
-is_dispute block.Cast = false
-is_dispute block.Audited = false
-is_dispute block.Dispute = true
 
 -- the line marks this entry: it shows its code in the block of a cast ballot
 abbrev pub marks_entry : Plan → ℕ → ℕ → Placed → Bool

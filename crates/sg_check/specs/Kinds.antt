@@ -1,6 +1,6 @@
 -- What is judged at each line, kind by kind, against the lines before it (this project's rules for the record).
 -- Each test is true where the line is bad. What is judged of pairs of lines is judged at the later one.
-use Rattle.std.specs.Prelude.{ℕ, ◌+◌, ◌/◌, ◌%◌, ◌==◌, nat_le, nat_lt, if◌then◌else◌, Bool, true, false, ◌&&◌, ◌||◌, not, List, [], ◌∷◌, ◌++◌, map, find, Option, is_some, count_by, bytes_eq}
+use Rattle.std.specs.Prelude.{ℕ, ◌+◌, ◌/◌, ◌%◌, ◌==◌, nat_le, nat_lt, if◌then◌else◌, Bool, true, false, ◌&&◌, ◌||◌, not, List, [], ◌∷◌, ◌++◌, find, Option, is_some, count_by, bytes_eq}
 use Rattle.std.specs.List.{list_any}
 use Rattle.std.specs.Option.{option_map_or}
 use Rattle.sha2.specs.Sha256.{sha256}
@@ -19,10 +19,11 @@ use Rattle.sg_plan.specs.declared.plan.Plan.{Plan}
 use Rattle.sg_plan.specs.declared.plan.Side.{Side}
 use Rattle.sg_plan.specs.declared.plan.Side.TheVariants as side
 use Rattle.sg_streams.specs.CoinSides.{coin_of, coin_seed}
+use Rattle.sg_grammar.specs.Lines.{is_cast, is_dispute, placed_of}
 use Rattle.sg_grammar.specs.Placed.{Placed}
 use Rattle.sg_grammar.specs.Placed.Placed.{CodeAt, OverAt, PaperAt, SealAt, TotalAt, RowAt}
 use Rattle.sg_grammar.specs.Walk.{Posted}
-use Rattle.sg_check.specs.Facts.{Claim, code_commitment, left_commitment, right_commitment, is_cast, is_dispute, is_marked, marks_ballot, marks_code, audited_code, audited_entries, is_audited, paper_code, is_flagged, is_set, votes_for, left_of, right_of, opens_left, opens_right, is_both, both_rows, is_full_draw, public_bytes, last_claim, shows_disputed}
+use Rattle.sg_check.specs.Facts.{Claim, code_commitment, left_commitment, right_commitment, is_marked, marks_ballot, marks_code, audited_code, audited_entries, is_audited, paper_code, is_flagged, is_set, votes_for, left_of, right_of, opens_left, opens_right, is_both, both_rows, is_full_draw, public_bytes, last_claim, shows_disputed}
 use Rattle.sg_check.specs.declared.judged.Kind.{Kind}
 use Rattle.sg_check.specs.declared.judged.Kind.TheVariants as kind
 
@@ -30,10 +31,6 @@ use Rattle.sg_check.specs.declared.judged.Kind.TheVariants as kind
 abbrev pub bytes_of : List Posted → List ℕ
 bytes_of [] = []
 bytes_of (line ∷ lines) = line.bytes ++ bytes_of lines
-
--- the lines in their places
-abbrev pub placed_of : List Posted → List Placed
-placed_of lines = map (λ line. line.line) lines
 
 -- one is true, and the other is not
 abbrev pub differ : Bool → Bool → Bool

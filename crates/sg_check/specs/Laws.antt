@@ -8,18 +8,21 @@ use Rattle.sg_forms.specs.declared.line.RowOpening.TheVariants as opened
 use Rattle.sg_plan.specs.Ballots.{candidates_of, entries_of, entry_at}
 use Rattle.sg_plan.specs.declared.plan.Plan.{Plan}
 use Rattle.sg_streams.specs.CoinSides.{coin_of, coin_seed}
+use Rattle.sg_grammar.specs.Lines.{IsAmong, placed_of}
 use Rattle.sg_grammar.specs.Placed.{Placed}
 use Rattle.sg_grammar.specs.Placed.Placed.{CodeAt, RowAt, TotalAt}
 use Rattle.sg_grammar.specs.Walk.{Taken, Walked, start, take_bytes, walk}
 use Rattle.sg_grammar.specs.declared.state.Block.{Block}
+use Rattle.sg_check.specs.Bounds.{AreAllTotalled, AreTotalsBound, AreTotalsEqual, HasCompletion, HasPrinting}
 use Rattle.sg_check.specs.Facts.{audited_code, audited_entries, both_rows, code_commitment, is_audited, is_both, is_flagged, is_full_draw, is_marked, is_set, left_commitment, left_of, paper_code, public_bytes, right_commitment, right_of, votes_for}
 use Rattle.sg_check.specs.Judging.{AreOfPlan, bad_in}
-use Rattle.sg_check.specs.Kinds.{code_opening, is_on_side, opens_digest, placed_of}
+use Rattle.sg_check.specs.Kinds.{code_opening, is_on_side, opens_digest}
 use Rattle.sg_check.specs.Verdict.{AreFine, IsFirstBad, IsVerdict, are_whole, least_broken, totals_of}
 use Rattle.sg_check.specs.declared.judged.Judged.{Judged}
 use Rattle.sg_check.specs.declared.judged.Judged.TheVariants as judged
 use Rattle.sg_check.specs.declared.judged.Kind.{Kind}
 use Rattle.sg_check.specs.declared.judged.Kind.TheVariants as kind
+use Rattle.sg_check.specs.declared.judged.Total.{Total}
 
 -- two verdicts on the same lines are the same
 abbrev pub OneVerdict : Type 0
@@ -66,10 +69,6 @@ LineIsJudged = (lines : List (List ℕ)) (walked : Walked) (bytes : List ℕ) (t
 pub record IsFineWalk (lines : List (List ℕ)) (walked : Walked) : Type 0 where
   pub walks : walk start lines ≡ Some walked
   pub fine : AreFine lines
-
--- one of the lines is this one
-abbrev pub IsAmong : List Placed → Placed → Type 0
-IsAmong lines line = (front rest : List Placed) × (lines ≡ front ++ line ∷ rest)
 
 -- one of them is this one, and a later one that one
 abbrev pub IsBefore : List Placed → Placed → Placed → Type 0
@@ -182,3 +181,39 @@ SidesAreDrawn = (lines : List (List ℕ)) (walked : Walked) → IsFineWalk lines
 
 abbrev pub PrintsAgree : Type 0
 PrintsAgree = (lines : List (List ℕ)) (walked : Walked) → IsFineWalk lines walked → DoPrintsAgree walked.next.plan (placed_of walked.posted)
+
+-- lines that break no kind are fine
+abbrev pub NoneBadAreFine : Type 0
+NoneBadAreFine = (lines : List (List ℕ)) → least_broken lines ≡ None → AreFine lines
+
+-- WHAT A YES PROMISES
+
+-- the lines have the verdict yes with these totals, and this is their walk
+pub record IsAccepted (lines : List (List ℕ)) (totals : List Total) (walked : Walked) : Type 0 where
+  pub walks : walk start lines ≡ Some walked
+  pub yes : IsVerdict lines (judged.Yes totals)
+
+-- each total differs from the count of posted codes by at most the altered rows of each instance
+abbrev pub TotalsBound : Type 0
+TotalsBound = (lines : List (List ℕ)) (totals : List Total) (walked : Walked) → IsAccepted lines totals walked
+    → AreTotalsBound walked.next.plan (placed_of walked.posted) totals
+
+-- each candidate of each race has a total
+abbrev pub TotalsStand : Type 0
+TotalsStand = (lines : List (List ℕ)) (totals : List Total) (walked : Walked) → IsAccepted lines totals walked
+    → AreAllTotalled walked.next.plan totals
+
+-- there is a printing that stands with the record
+abbrev pub PrintingExists : Type 0
+PrintingExists = (lines : List (List ℕ)) (totals : List Total) (walked : Walked) → IsAccepted lines totals walked
+    → HasPrinting walked.next.plan (placed_of walked.posted)
+
+-- there is a completion that opens no commitment twice
+abbrev pub CompletionExists : Type 0
+CompletionExists = (lines : List (List ℕ)) (totals : List Total) (walked : Walked) → IsAccepted lines totals walked
+    → HasCompletion walked.next.plan (placed_of walked.posted)
+
+-- where both sides of each row are drawn, each total is the count of posted codes
+abbrev pub FullDrawEquals : Type 0
+FullDrawEquals = (lines : List (List ℕ)) (totals : List Total) (walked : Walked) → IsAccepted lines totals walked
+    → is_full_draw (placed_of walked.posted) ≡ true → AreTotalsEqual walked.next.plan (placed_of walked.posted) totals

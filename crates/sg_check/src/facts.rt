@@ -5,8 +5,9 @@
 ghost use Rattle.std.specs.Prelude.{◌≡◌, ◌<◌, ◌≤◌, ◌^◌, ◌-◌, ◌==◌, ◌&&◌, if◌then◌else◌, min, None, Some, is_some, length, drop, take, count_by};
 ghost use Rattle.std.specs.List.{list_any};
 ghost use Rattle.std.specs.Option.{option_copied, option_map};
-ghost use Rattle.sg_check.specs.Facts.{commits_code, code_commitment, commits_left, left_commitment, commits_right, right_commitment, is_cast, is_audit, is_dispute, marks_entry, is_marked, marks_ballot, audits_entry, audited_code, is_audited, audits_race, audited_entries, shows_paper, paper_code, bit_at, flags_row, is_flagged, sets_place, is_set, left_of, right_of, points_to, opens_left, opens_right, is_both, opens_both, both_rows, draws_full, is_full_draw, draws_digits, first_given, public_bytes, marks_code, shows_disputed, last_claim};
-ghost use Rattle.sg_check.specs.Notes.{claim_in, lines_noted, noted};
+ghost use Rattle.sg_grammar.specs.Lines.{is_audit, is_cast, is_dispute};
+ghost use Rattle.sg_check.specs.Facts.{commits_code, code_commitment, commits_left, left_commitment, commits_right, right_commitment, marks_entry, is_marked, marks_ballot, audits_entry, audited_code, is_audited, audits_race, audited_entries, shows_paper, paper_code, bit_at, flags_row, is_flagged, sets_place, is_set, left_of, right_of, points_to, opens_left, opens_right, is_both, opens_both, both_rows, draws_full, is_full_draw, draws_digits, first_given, public_bytes, marks_code, shows_disputed, last_claim};
+ghost use Rattle.sg_check.specs.inside.Notes.{claim_in, lines_noted, noted};
 ghost use Rattle.sg_plan.specs.Ballots.{entry_at};
 ghost use Rattle.sg_plan.specs.Limits.{fault_of};
 

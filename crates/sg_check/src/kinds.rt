@@ -2,9 +2,10 @@
 ghost use Rattle.std.specs.Prelude.{◌≡◌, ◌+◌, ◌-◌, ◌<◌, ◌≤◌, ◌^◌, ◌==◌, not, min, nat_le, ◌&&◌, ◌||◌, IfOk, None, true, false, is_some, length, count_by, bytes_eq};
 ghost use Rattle.std.specs.List.{list_any};
 ghost use Rattle.std.specs.Option.{option_map_or};
-ghost use Rattle.sg_check.specs.Facts.{is_cast, marks_ballot, paper_code, public_bytes, votes_for, votes_in, votes_on};
+ghost use Rattle.sg_grammar.specs.Lines.{is_cast};
+ghost use Rattle.sg_check.specs.Facts.{marks_ballot, paper_code, public_bytes, votes_for, votes_in, votes_on};
 ghost use Rattle.sg_check.specs.Kinds.{bad_dispute, bad_flag, bad_left_pointer, bad_opening, bad_path, bad_path_of, bad_pointer, bad_print, bad_right_pointer, bad_rule, bad_seal, bad_side, bad_total, clashes_with, differ, first_bad, has_repeat, is_right, is_there, leads_elsewhere, shows_against, wrong_answer, wrong_audit, wrong_left_flag, wrong_number, wrong_paper, wrong_right_flag};
-ghost use Rattle.sg_check.specs.Notes.{claim_in, lines_noted, noted};
+ghost use Rattle.sg_check.specs.inside.Notes.{claim_in, lines_noted, noted};
 ghost use Rattle.sg_grammar.specs.Placed.Placed.{CodeAt, RowAt};
 ghost use Rattle.sg_grammar.specs.Spots.{IsPlacedIn};
 ghost use Rattle.sg_plan.specs.Ballots.{candidates_of, entries_of, votes_of};

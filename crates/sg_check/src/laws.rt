@@ -1,5 +1,5 @@
 //! Laws of verdicts: what follows from the definitions alone. Each function does nothing, and its contract is proved.
-ghost use Rattle.sg_check.specs.Laws.{CodesAreKnown, EndsAreJudged, FirstBadStays, FlagsAgree, FormIsJudged, FrontsAreFine, LineIsJudged, OneVerdict, OpeningsOpen, PathsAgree, PointersStandOnce, PrintsAgree, SidesAreDrawn, SomeVerdict, TotalsCount};
+ghost use Rattle.sg_check.specs.Laws.{CodesAreKnown, CompletionExists, EndsAreJudged, FirstBadStays, FlagsAgree, FormIsJudged, FrontsAreFine, FullDrawEquals, LineIsJudged, NoneBadAreFine, OneVerdict, OpeningsOpen, PathsAgree, PointersStandOnce, PrintingExists, PrintsAgree, SidesAreDrawn, SomeVerdict, TotalsBound, TotalsCount, TotalsStand};
 
 /// Lines have at most one verdict.
 pub fn one_verdict_law()
@@ -74,4 +74,35 @@ pub fn sides_law()
 /// Among fine lines rows agree with the audits of prints.
 pub fn prints_law()
     ensures { PrintsAgree }
+{}
+
+/// Lines that break no kind are fine.
+pub fn fine_law()
+    ensures { NoneBadAreFine }
+{}
+
+/// Behind a yes, for every printing and every completion that opens no commitment twice, each total differs from the count
+/// of posted codes by at most the altered rows of each instance.
+pub fn totals_law()
+    ensures { TotalsBound }
+{}
+
+/// Behind a yes each candidate of each race has a total.
+pub fn standing_law()
+    ensures { TotalsStand }
+{}
+
+/// Behind a yes there is a printing that stands with the record.
+pub fn printing_law()
+    ensures { PrintingExists }
+{}
+
+/// Behind a yes there is a completion that opens no commitment twice.
+pub fn completion_law()
+    ensures { CompletionExists }
+{}
+
+/// Behind a yes with a full draw each total is the count of posted codes.
+pub fn full_law()
+    ensures { FullDrawEquals }
 {}

@@ -4,7 +4,7 @@
 mod facts;
 mod judged;
 mod kinds;
-mod laws;
+pub mod laws;
 mod notes;
 mod numbering;
 mod openings;
@@ -13,9 +13,4 @@ mod plain;
 mod tests;
 
 pub use judged::{Judged, Kind, Total};
-pub use laws::{
-    codes_law, counts_law, ends_law, first_bad_law, flags_law, form_law, fronts_law, line_law,
-    one_verdict_law, openings_law, paths_law, pointers_law, prints_law, sides_law,
-    some_verdict_law,
-};
 pub use plain::verdict;

@@ -1,13 +1,13 @@
 //! Lines in their places, as the plain verdict keeps them.
 ghost use Rattle.std.specs.Prelude.{◌≡◌};
-ghost use Rattle.sg_check.specs.Notes.{noted};
+ghost use Rattle.sg_check.specs.inside.Notes.{noted};
 ghost use Rattle.sg_forms.specs.Said.{said};
 ghost use Rattle.sg_grammar.specs.Spots.{placed_at};
-ghost use Rattle.sg_grammar.specs.Told.{told_line};
+ghost use Rattle.sg_grammar.specs.Meaning.{meant_line};
 
 use sg_commit::Digest;
 use sg_forms::{CodeLine, Line, RowOpening};
-use sg_grammar::{Block, Spot, Told, tell};
+use sg_grammar::{Block, Meaning, Spot, meaning_of};
 use sg_plan::ClaimWord;
 
 /// A line in its place: its coordinates, and their values.
@@ -51,7 +51,7 @@ pub(crate) fn note_line<'a>(at: Spot, line: &Line<'a>) -> Note<'a>
 {
     match at {
         Spot::Begun { ballot } => note_begun(ballot, line),
-        _ => note_told(&tell(at, line), line),
+        _ => note_meaning(&meaning_of(at, line), line),
     }
 }
 
@@ -68,28 +68,28 @@ fn note_begun<'a>(ballot: u32, line: &Line<'a>) -> Note<'a>
     }
 }
 
-/// What is told of a line that begins no block; where that is nothing, a line of the plan.
-fn note_told<'a>(told: &Told<'a>, line: &Line<'a>) -> Note<'a>
-    ensures { noted result ≡ told_line told.now (said line.now) }
+/// What a line that begins no block says; where that is nothing, a line of the plan.
+fn note_meaning<'a>(meaning: &Meaning<'a>, line: &Line<'a>) -> Note<'a>
+    ensures { noted result ≡ meant_line meaning.now (said line.now) }
 {
-    match *told {
-        Told::CodeCommit(race, entry, digest) => Note::CodeCommit(race, entry, digest),
-        Told::RowCommit(race, instance, row, left, right) => {
+    match *meaning {
+        Meaning::CodeCommit(race, entry, digest) => Note::CodeCommit(race, entry, digest),
+        Meaning::RowCommit(race, instance, row, left, right) => {
             Note::RowCommit(race, instance, row, left, right)
         }
-        Told::Code(block, ballot, race, column, code) => {
+        Meaning::Code(block, ballot, race, column, code) => {
             Note::Code(block, ballot, race, column, code)
         }
-        Told::Over(ballot, race) => Note::Over(ballot, race),
-        Told::Paper(ballot, race, codes, count) => Note::Paper(ballot, race, codes, count),
-        Told::Flags(race, instance, from, bits) => Note::Flags(race, instance, from, bits),
-        Told::Places(race, from, bits) => Note::Places(race, from, bits),
-        Told::Total(race, candidate, count) => Note::Total(race, candidate, count),
-        Told::Seal(number, digest) => Note::Seal(number, digest),
-        Told::DrawFull => Note::DrawFull,
-        Told::DrawPublic(digits) => Note::DrawPublic(digits),
-        Told::Row(race, instance, row, opening) => Note::Row(race, instance, row, opening),
-        Told::Dispute(ballot, race, code, word) => Note::Dispute(ballot, race, code, word),
-        Told::Nothing => Note::OfPlan(*line),
+        Meaning::Over(ballot, race) => Note::Over(ballot, race),
+        Meaning::Paper(ballot, race, codes, count) => Note::Paper(ballot, race, codes, count),
+        Meaning::Flags(race, instance, from, bits) => Note::Flags(race, instance, from, bits),
+        Meaning::Places(race, from, bits) => Note::Places(race, from, bits),
+        Meaning::Total(race, candidate, count) => Note::Total(race, candidate, count),
+        Meaning::Seal(number, digest) => Note::Seal(number, digest),
+        Meaning::DrawFull => Note::DrawFull,
+        Meaning::DrawPublic(digits) => Note::DrawPublic(digits),
+        Meaning::Row(race, instance, row, opening) => Note::Row(race, instance, row, opening),
+        Meaning::Dispute(ballot, race, code, word) => Note::Dispute(ballot, race, code, word),
+        Meaning::Nothing => Note::OfPlan(*line),
     }
 }

@@ -3,8 +3,9 @@
 //! Each line is judged by going through the lines before it, so the time grows with the square of their number. The
 //! same verdict in one pass is that of another crate; this one says what it should be.
 ghost use Rattle.std.specs.Prelude.{◌≡◌, ℕ, List, IfOk, Some};
-ghost use Rattle.sg_check.specs.Notes.{lines_noted, noted};
-ghost use Rattle.sg_check.specs.Plain.{Advances, HasRead, IsBehind, Stands, Takes, totals_placed};
+ghost use Rattle.sg_check.specs.Bounds.{IsSoundIfYes};
+ghost use Rattle.sg_check.specs.inside.Notes.{lines_noted, noted};
+ghost use Rattle.sg_check.specs.inside.Plain.{Advances, HasRead, IsBehind, Stands, Takes, totals_placed};
 ghost use Rattle.sg_check.specs.Verdict.{IsVerdict};
 ghost use Rattle.sg_forms.specs.Said.{said};
 ghost use Rattle.sg_grammar.specs.Spots.{IsPlacedIn, placed_next};
@@ -18,10 +19,18 @@ use sg_outside::line_end;
 use sg_plan::{Items, NoMemory};
 use std::alloc::Global;
 
-/// The verdict on the bytes of a record. Only want of memory is refused.
+/// The verdict on the bytes of a record, with what a yes promises. Only want of memory is refused.
 ///
 /// A line ends at each line feed, and bytes behind the last one are a line of their own.
 pub fn verdict(alloc: Global, bytes: &[u8]) -> Result<Judged, NoMemory>
+    ensures verdict { IfOk result (λ judged. IsVerdict (lines_of bytes.now) judged) }
+    ensures sound { IfOk result (λ judged. IsSoundIfYes (lines_of bytes.now) judged) }
+{
+    judge_lines(alloc, bytes)
+}
+
+/// The verdict on the bytes, line by line.
+fn judge_lines(alloc: Global, bytes: &[u8]) -> Result<Judged, NoMemory>
     ensures { IfOk result (λ judged. IsVerdict (lines_of bytes.now) judged) }
 {
     let mut expect = Expect::start(alloc);

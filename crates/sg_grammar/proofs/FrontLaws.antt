@@ -1,5 +1,5 @@
 -- The laws of records.
-use Rattle.std.proofs.Common.{◌≡◌, ℕ, ◌≤◌, List, ◌++◌, length, Option, Some, None, refl}
+use Rattle.std.proofs.Common.{◌≡◌, ◌≤◌, ◌++◌, length, Option, Some, None, refl}
 use Rattle.std.specs.Option.{IsSome}
 use Rattle.sg_grammar.proofs.Counting.{most_lines_stand}
 use Rattle.sg_grammar.proofs.Totals.{front_totals}

@@ -13,7 +13,7 @@ use Rattle.sg_grammar.proofs.Claims.{option_and_then-some}
 use Rattle.sg_grammar.proofs.FirstLines.{walk-first}
 use Rattle.sg_grammar.proofs.Making.{complete-sizes, runs-fault, whole-fault}
 use Rattle.sg_grammar.proofs.PlanCounts.{some_value}
-use Rattle.sg_grammar.proofs.Standing.{if_then_claim}
+use Rattle.sg_grammar.proofs.DueLines.{if_then_claim}
 use Rattle.sg_grammar.specs.Due.{audit, commits, race_codes, results}
 use Rattle.sg_grammar.specs.Head.{Making, head_line, run_line}
 use Rattle.sg_grammar.specs.Made.{HasSizes, IsMade, has_runs}
@@ -89,11 +89,6 @@ placed_nowhere next said e = ap (option_map (λ (x : Taken). x.placed)) (sym e)
 pub stepped_in_head : (next : Next) (said : Said) (making : Making) → head_line next.plan next.head said ≡ Some making → option_map (λ (t : Taken). t.next) (take_line next said) ≡ Some (record { plan = making.plan; head = making.head; due = []; part = part.Ballots 0 })
 unfolding take_line
 stepped_in_head next said making e = ap (option_map (λ (t : Taken). t.next)) (take_at-head next.plan next.head next.due next.part said making e)
-
--- the step of another line
-pub stepped_behind : (next : Next) (said : Said) (t : Taken) → Some t ≡ take_at next.plan next.head next.due next.part said → option_map (λ (x : Taken). x.next) (take_line next said) ≡ Some t.next
-unfolding take_line
-stepped_behind next said t e = ap (option_map (λ (x : Taken). x.next)) (sym e)
 
 -- a line that may stand is taken
 pub not_taken : (next : Next) (said : Said) → IsSome (take_line next said) → None ≡ take_at next.plan next.head next.due next.part said → ⊥
@@ -269,3 +264,12 @@ walk-front next (line ∷ lines) more w e =
     let on = walk-first next line (lines ++ more) w e in
     let front = some_value (walk on.taken.next lines) (walk-front on.taken.next lines more on.rest on.others) in
     subst (λ (o : Option Walked). IsSome o) (sym (walk-one next line lines on.taken front.0 on.first front.1)) refl
+
+-- a line that is read, where what is read next is none of the plan's, is none of the plan's
+pub none_of_plan : (next : Next) (bytes : List ℕ) (said : Said) → line_of next.plan.version bytes ≡ Some said
+    → ((s : Said) → read_next next bytes ≡ Some s → head_line next.plan next.head s ≡ None) → head_line next.plan next.head said ≡ None
+none_of_plan next bytes said spelled no_plan = go (head_line next.plan next.head said) refl
+  where
+    go : (o : Option Making) → head_line next.plan next.head said ≡ o → head_line next.plan next.head said ≡ None
+    go None e = e
+    go (Some making) e = no_plan said (read_next-line next bytes said spelled (ap is_some (take_line-head next said making e)))

@@ -1,3 +1,4 @@
+//! Where a line behind the plan stands, and what may stand behind it.
 ghost use Rattle.std.specs.Prelude.{◌≡◌, ◌<◌, ◌≤◌, nat_lt, Bool, true, false, ◌&&◌, None, IfSome, length};
 ghost use Rattle.std.specs.Option.{option_map};
 ghost use Rattle.sg_plan.specs.Ballots.{ballots_of, ballot_has, candidates_of};
@@ -16,13 +17,13 @@ use crate::spots::spot_in;
 use crate::state::{Block, Head, Part, Slot, Spot};
 use sg_forms::{CodeLine, Line};
 use sg_plan::ClaimWord;
-
-/// The most disputes.
-const MOST_DISPUTES: u32 = 10_000;
+use sg_plan::limits::MOST_CLAIMS;
 
 /// Where a line behind the plan stands, and what may stand behind it.
+///
+/// `Expect::stand` gives it of a line, and `Expect::go_on` takes it.
 #[derive(Clone, Copy, Debug)]
-pub(crate) struct Standing {
+pub struct Standing {
     /// Where the line stands.
     pub spot: Spot,
     /// The line that is due behind it.
@@ -32,7 +33,7 @@ pub(crate) struct Standing {
 }
 
 /// The line in the place of the one that is due.
-#[tactic(auto, using(crate::proofs::Standing::standing))]
+#[tactic(auto, using(crate::proofs::DueLines::standing))]
 fn stand_due(plan: &CountedPlan, slot: Slot, part: Part, line: &Line) -> Option<Standing>
     requires sized { HasSizes plan.now }
     requires slot { IsIn plan.now slot }
@@ -284,7 +285,7 @@ fn stand_dispute(
     ensures stands { option_map (taken_at plan.now (Dispute ballot race code word)) result ≡ after_dispute plan.now count (Dispute ballot race code word) }
     ensures within { IfSome result (λ standing. IsStandingIn plan.now (Dispute ballot race code word) standing) }
 {
-    if count >= MOST_DISPUTES {
+    if count as usize >= MOST_CLAIMS {
         return None;
     }
     if !has_race(plan, ballot, race) {

@@ -1,3 +1,4 @@
+//! What is counted of a plan while its lines come.
 ghost use Rattle.std.specs.Prelude.{◌≡◌, ◌==◌, ◌+◌, ◌-◌, ◌^◌, ◌<◌, ◌≤◌, ◌++◌, ◌∷◌, [], if◌then◌else◌, length, replicate, slice_get, false, IfNone, IfOk, IfSome, IsSome, None, OnErr, OnOk, Some};
 ghost use Rattle.sg_plan.specs.Ballots.{ballot_has, ballots_of, candidates_of, entries_of, style_of_ballot};
 ghost use Rattle.sg_forms.specs.Said.{said};
@@ -101,6 +102,8 @@ fn run_of(line: &Line) -> Option<Run>
 
 /// A plan in the making, with what is counted of it as its lines come: each race's entries, and the
 /// style of each ballot.
+///
+/// An index of a whole plan's ballots has its lists race by race, and can't grow run by run.
 #[derive(Debug, Drop)]
 pub(crate) struct CountedPlan {
     plan: Plan,

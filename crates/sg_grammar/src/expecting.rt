@@ -1,4 +1,5 @@
-ghost use Rattle.std.specs.Prelude.{◌≡◌, ◌<◌, false, is_some, length, IfSome, IsSome, None, OnErr, OnOk, Some, true};
+//! What may stand next in a record, and how one line after another is taken.
+ghost use Rattle.std.specs.Prelude.{◌≡◌, ◌<◌, is_none, is_some, length, IfSome, IsSome, None, OnErr, OnOk, Some, true};
 ghost use Rattle.std.specs.Option.{option_map};
 ghost use Rattle.sg_plan.specs.Ballots.{entries_of};
 ghost use Rattle.sg_plan.specs.Limits.{fault_of};
@@ -6,9 +7,12 @@ ghost use Rattle.sg_forms.specs.Said.{said};
 ghost use Rattle.sg_grammar.specs.Head.{head_line};
 ghost use Rattle.sg_grammar.specs.Made.{HasSizes, IsMade, has_runs};
 ghost use Rattle.sg_grammar.specs.Spots.{IsPlacedIn, placed_at, placed_next};
-ghost use Rattle.sg_grammar.specs.Walk.{is_whole, start, take_line};
+ghost use Rattle.sg_grammar.specs.Slots.{due_of, IsInSome, IsPartIn};
+ghost use Rattle.sg_grammar.specs.Standing.{taken_at, IsStandingIn};
+ghost use Rattle.sg_grammar.specs.Walk.{behind, is_whole, start, take_line};
+ghost use Rattle.sg_grammar.specs.declared.state.Head.TheVariants as HeadIs;
 
-use crate::body::stand_behind;
+use crate::body::{Standing, stand_behind};
 use crate::counted::CountedPlan;
 use crate::head::may_stand_in_head;
 use crate::state::{Head, Part, Slot, Spot};
@@ -20,7 +24,8 @@ use std::marker::Model;
 /// What may stand next in a record.
 ///
 /// A caller asks by `spot` or `may` whether a line may stand, and then takes it by `plan_step`
-/// where `is_of_plan` says so, and else by `step`. Only `plan_step` takes memory.
+/// where `is_of_plan` says so, and else by `step`. Behind the plan `stand` and `go_on` do the same,
+/// and look at the line once. Only `plan_step` takes memory.
 #[derive(Debug, Drop)]
 pub struct Expect {
     alloc: Global,
@@ -35,7 +40,7 @@ impl Model for Expect {
 
     ghost Value = { Next };
 
-    ghost use Rattle.sg_grammar.specs.Expecting.{IsExpecting, next_at};
+    ghost use Rattle.sg_grammar.specs.inside.Expecting.{IsExpecting, next_at};
 
     ghost view = { λ expect. next_at expect.plan expect.head expect.slot expect.part };
 
@@ -106,14 +111,33 @@ impl Expect {
         requires behind { head_line self.old.plan self.old.head (said line.now) ≡ None }
         ensures { option_map (λ taken. taken.next) (take_line self.old (said line.now)) ≡ Some self.new }
     {
-        match stand_behind(&self.plan, self.head, self.slot, self.part, line) {
-            Some(standing) => {
-                self.head = Head::Whole;
-                self.slot = standing.slot;
-                self.part = standing.part;
-            }
+        match self.stand(line) {
+            Some(standing) => self.go_on(standing),
             None => unreachable!(),
         }
+    }
+
+    /// Where a line that is none of the plan stands, and what may stand behind it: `None` exactly where it may not stand
+    /// next.
+    pub fn stand(&self, line: &Line) -> Option<Standing>
+        requires behind { head_line self.now.plan self.now.head (said line.now) ≡ None }
+        ensures taken { option_map (taken_at self.now.plan (said line.now)) result ≡ take_line self.now (said line.now) }
+        ensures within { IfSome result (λ standing. IsStandingIn self.now.plan (said line.now) standing) }
+        ensures made { IsSome result → IsMade self.now.plan HeadIs.Whole }
+    {
+        stand_behind(&self.plan, self.head, self.slot, self.part, line)
+    }
+
+    /// Takes a line that stands there. It takes no memory.
+    pub fn go_on(&mut self, standing: Standing)
+        requires made { IsMade self.old.plan HeadIs.Whole }
+        requires slot { IsInSome self.old.plan standing.slot }
+        requires part { IsPartIn self.old.plan standing.part }
+        ensures { self.new ≡ behind self.old.plan (due_of self.old.plan standing.slot) standing.part }
+    {
+        self.head = Head::Whole;
+        self.slot = standing.slot;
+        self.part = standing.part;
     }
 
     /// All sections stand, and no line is due.
@@ -142,6 +166,7 @@ impl Expect {
         ensures is { result.now ≡ self.now.plan }
         ensures made { IsMade self.now.plan self.now.head }
         ensures keeps { has_runs self.now.head ≡ true → fault_of self.now.plan ≡ None }
+        ensures exactly { is_none (fault_of self.now.plan) ≡ has_runs self.now.head }
     {
         self.plan.plan()
     }

@@ -1,3 +1,4 @@
+//! The lines of the plan: where each may stand, and how it is taken.
 ghost use Rattle.std.specs.Prelude.{◌≡◌, ◌+◌, ◌<◌, ◌≤◌, ◌++◌, ◌∷◌, [], if◌then◌else◌, false, is_some, length, nat_lt, nat_le, ◌&&◌, take, IfOk, IsSome, OnErr, OnOk, Some};
 ghost use Rattle.sg_plan.specs.Ballots.{all_entries, ballots_of, r_rows};
 ghost use Rattle.sg_plan.specs.Limits.{is_version, race_head_keeps, run_keeps, style_keeps};
@@ -11,23 +12,12 @@ ghost use Rattle.sg_grammar.specs.Slots.{is_run};
 use crate::counted::CountedPlan;
 use crate::state::Head;
 use sg_forms::Line;
+use sg_plan::limits::{MOST_INSTANCES, MOST_RACES, MOST_ROWS, MOST_STYLES};
 use sg_plan::{
     Items, NoMemory, Plan, Race, Run, Style, Word, is_name, is_new_name, is_race_head, is_run,
     is_style,
 };
 use std::alloc::Global;
-
-/// The most instances: 16.
-const MOST_INSTANCES: u32 = 16;
-
-/// The most races: 32.
-const MOST_RACES: usize = 32;
-
-/// The most styles: 32.
-const MOST_STYLES: usize = 32;
-
-/// The most rows of table R, over all races and instances.
-const MOST_ROWS: u64 = 200_000;
 
 // WHICH LINE MAY STAND
 
@@ -346,19 +336,9 @@ fn push_style(alloc: Global, plan: &mut Plan, name: &[u8], races: &[u32]) -> Res
     ensures err { OnErr result (plan.new ≡ plan.old) }
 {
     let name = copy_word(alloc, name)?;
-    let races = copy_numbers(alloc, races)?;
-    plan.styles.push(Style { name, races })
-}
-
-/// A list of these numbers.
-fn copy_numbers(alloc: Global, numbers: &[u32]) -> Result<Items<u32>, NoMemory>
-    ensures { IfOk result (λ copy. copy ≡ numbers.now) }
-{
-    let mut copy = Items::new(alloc);
-    for number in numbers {
-        copy.push(*number)?;
-    }
-    Ok(copy)
+    let mut list = Items::new(alloc);
+    list.extend(races)?;
+    plan.styles.push(Style { name, races: list })
 }
 
 /// Adds a candidate of the last race, where so many are due.
@@ -432,13 +412,9 @@ mod tests {
     use std::process::Abort;
     use std::test::Fail;
 
-    #[test]
-    #[tactic(auto, using(crate::proofs::Making::made_so_far))]
-    fn each_line_is_added(rt: HostRuntime) -> Result<(), Fail> {
-        let alloc = rt.alloc();
-        let mut plan = CountedPlan::new(alloc);
-        let mut head = Head::Version;
-        let lines = [
+    /// The lines of a plan with two races and two styles.
+    fn plan_lines() -> [Line<'static>; 14] {
+        [
             Line::Version(1),
             Line::Election(b"E"),
             Line::Instances(16),
@@ -469,8 +445,16 @@ mod tests {
             },
             Line::Ballots { style: 1, count: 2 },
             Line::Ballots { style: 0, count: 3 },
-        ];
-        for line in &lines {
+        ]
+    }
+
+    #[test]
+    #[tactic(auto, using(crate::proofs::Making::made_so_far))]
+    fn each_line_is_added(rt: HostRuntime) -> Result<(), Fail> {
+        let alloc = rt.alloc();
+        let mut plan = CountedPlan::new(alloc);
+        let mut head = Head::Version;
+        for line in &plan_lines() {
             assert!(rt; may_stand_in_head(&plan, head, line), "{line:?}");
             head = plan.add(alloc, head, line)?;
         }

@@ -1,3 +1,4 @@
+//! The line that is due, and the one behind it.
 ghost use Rattle.std.specs.Prelude.{◌≡◌, ◌+◌, ◌*◌, ◌<◌, ◌≤◌, true, false, length, ◌∷◌, IfSome, IfNone};
 ghost use Rattle.sg_plan.specs.Ballots.{ballot_has, candidates_of, entries_of};
 ghost use Rattle.sg_plan.specs.declared.plan.Plan.{Plan};

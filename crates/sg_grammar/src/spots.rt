@@ -1,3 +1,4 @@
+//! Where a line stands that is due.
 ghost use Rattle.std.specs.Prelude.{◌≡◌, ◌*◌, ◌^◌, ◌<◌, length, take};
 ghost use Rattle.std.specs.Option.{option_map};
 ghost use Rattle.sg_forms.specs.Said.{said};
@@ -50,7 +51,7 @@ fn seal_spot(number: u32, line: &Line) -> Option<Spot>
 }
 
 /// How many codes a paper lists, of which a line has room for 16.
-#[tactic(auto, using(crate::proofs::Standing::listed))]
+#[tactic(auto, using(crate::proofs::DueLines::listed))]
 fn count_listed(codes: &[u16; 16], count: u32) -> u32
     ensures { result ≡ length (take count codes.now) }
 {

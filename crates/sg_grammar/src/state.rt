@@ -1,3 +1,4 @@
+//! The state of a record between two lines: what stands, what is due, and what may begin.
 /// Which of the plan's lines stand already, and so which may come next.
 #[derive(Clone, Copy, Debug, PartialEq, Eq)]
 pub enum Head {

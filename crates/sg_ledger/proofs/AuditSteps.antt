@@ -5,7 +5,8 @@ use Rattle.std.proofs.lemmas.Nat.{div-add-mod'}
 use Rattle.std.proofs.lemmas.Option.{slice_get_past}
 use Rattle.std.specs.List.{list_any}
 use Rattle.std.specs.Option.{option_or}
-use Rattle.sg_check.specs.Facts.{audited_entries, audits_entry, audits_race, both_rows, is_audit, is_audited, is_both, opens_both, opens_left, paper_code, shows_paper}
+use Rattle.sg_grammar.specs.Lines.{is_audit}
+use Rattle.sg_check.specs.Facts.{audited_entries, audits_entry, audits_race, both_rows, is_audited, is_both, opens_both, opens_left, paper_code, shows_paper}
 use Rattle.sg_forms.specs.declared.line.CodeLine.{CodeLine}
 use Rattle.sg_forms.specs.declared.line.RowOpening.TheVariants as row
 use Rattle.sg_ledger.proofs.KeptSteps.{count-one, count-push, count-skip}

@@ -4,7 +4,8 @@ use Rattle.std.proofs.lemmas.Bool.{and_from, and_parts, and_right, both_ways, ca
 use Rattle.std.proofs.lemmas.Nat.{div-add-mod', div-mul-add, mod_below}
 use Rattle.std.specs.List.{list_any}
 use Rattle.std.specs.Option.{option_map_or}
-use Rattle.sg_check.specs.Facts.{is_cast, marks_ballot, opens_left}
+use Rattle.sg_grammar.specs.Lines.{is_cast}
+use Rattle.sg_check.specs.Facts.{marks_ballot, opens_left}
 use Rattle.sg_check.specs.Kinds.{bad_dispute, bad_flag, bad_left_pointer, bad_opening, bad_path, bad_pointer, bad_print, bad_right_pointer, bad_rule, bad_side, clashes_with, differ, first_bad, shows_against}
 use Rattle.sg_check.specs.declared.judged.Kind.TheVariants as kind
 use Rattle.sg_commit.specs.declared.Opening.{Opening}

@@ -3,7 +3,8 @@ use Rattle.std.proofs.Common.{◌≡◌, ◌≢◌, ℕ, ◌+◌, ◌<◌, ◌�
 use Rattle.std.proofs.lemmas.Bool.{and_from, and_left, and_parts, and_right, both_ways, cases_Bool, false_from_ne_true, false≢true, or_right}
 use Rattle.std.proofs.lemmas.List.Sums.{sum_by_push}
 use Rattle.std.specs.List.{list_any}
-use Rattle.sg_check.specs.Facts.{code_commitment, commits_code, commits_left, commits_right, is_cast, is_marked, left_commitment, left_of, marks_ballot, marks_entry, opens_left, opens_right, points_to, right_commitment, right_of}
+use Rattle.sg_grammar.specs.Lines.{is_cast}
+use Rattle.sg_check.specs.Facts.{code_commitment, commits_code, commits_left, commits_right, is_marked, left_commitment, left_of, marks_ballot, marks_entry, opens_left, opens_right, points_to, right_commitment, right_of}
 use Rattle.sg_check.specs.Kinds.{clashes_with, shows_against}
 use Rattle.sg_commit.specs.declared.Digest.{Digest}
 use Rattle.sg_commit.specs.declared.Opening.{Opening}

@@ -1,6 +1,7 @@
 -- A ledger that tells lines tells one more; and what it judges.
 use Rattle.std.proofs.Common.{◌≡◌, ℕ, ◌<◌, nat_lt, if◌then◌else◌, Bool, true, false, List, [], ◌∷◌, ◌++◌, append-nil, length, get_or, set, min, ◌+◌, Option, Some, None, refl, sym, ap, ◌∙◌, arith, length-set}
-use Rattle.sg_check.specs.Facts.{is_audit, is_both, is_cast, left_of, right_of}
+use Rattle.sg_grammar.specs.Lines.{is_audit, is_cast}
+use Rattle.sg_check.specs.Facts.{is_both, left_of, right_of}
 use Rattle.sg_check.specs.Kinds.{first_bad}
 use Rattle.sg_check.specs.Verdict.{total_on}
 use Rattle.sg_check.specs.declared.judged.Total.{Total}
@@ -16,7 +17,7 @@ use Rattle.sg_ledger.proofs.KeptSteps.{codes_step, known_step, lefts_step, marke
 use Rattle.sg_ledger.proofs.Lists.{placed-push, totals-push}
 use Rattle.sg_ledger.proofs.PathSteps.{are_small, paths_step}
 use Rattle.sg_ledger.proofs.Places.{length-first}
-use Rattle.sg_grammar.specs.Told.{IsQuiet}
+use Rattle.sg_grammar.specs.Meaning.{IsQuiet}
 use Rattle.sg_ledger.specs.Steps.{audit_counts_after, audited_after, both_counts_after, papers_after, codes_after, flagged_after, known_after, ledger_after, lefts_after, marked_after, marks_after, paths_after, places_after, rights_after, seen_after, seen_lefts_after, seen_rights_after, votes_after}
 use Rattle.sg_ledger.specs.Tables.{most_marks, with_one_more}
 use Rattle.sg_ledger.specs.Tells.{IsSized, Tells, candidate_place, instance_place, totals_kept, totals_placed}

@@ -5,8 +5,8 @@ use Rattle.std.proofs.lemmas.List.Folds.{list_any-append}
 use Rattle.std.proofs.lemmas.List.Sums.{sum_by-cons}
 use Rattle.std.specs.List.{list_any}
 use Rattle.std.specs.Option.{option_map_or, option_or}
+use Rattle.sg_grammar.specs.Lines.{placed_of}
 use Rattle.sg_check.specs.Facts.{first_given}
-use Rattle.sg_check.specs.Kinds.{placed_of}
 use Rattle.sg_check.specs.Verdict.{total_on, totals_in}
 use Rattle.sg_check.specs.declared.judged.Total.{Total}
 use Rattle.sg_check.specs.Judging.{AreOfPlan, IsOfPlan}

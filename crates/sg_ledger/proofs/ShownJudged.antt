@@ -7,7 +7,8 @@ use Rattle.std.proofs.lemmas.List.Sums.{sum_by-cons}
 use Rattle.std.proofs.lemmas.Nat.{div-mul-add, mod-mul-add, mod_below}
 use Rattle.std.specs.List.{list_any}
 use Rattle.std.specs.Option.{option_map, option_map_or}
-use Rattle.sg_check.specs.Facts.{Claim, is_dispute, audited_code, audited_entries, audits_entry, both_rows, is_audit, is_audited, is_both, is_cast, last_claim, left_of, marks_code, marks_entry, opens_left, paper_code}
+use Rattle.sg_grammar.specs.Lines.{is_audit, is_cast, is_dispute}
+use Rattle.sg_check.specs.Facts.{Claim, audited_code, audited_entries, audits_entry, both_rows, is_audited, is_both, last_claim, left_of, marks_code, marks_entry, opens_left, paper_code}
 use Rattle.sg_check.specs.Kinds.{bad_dispute, differ, is_right, is_there, wrong_audit, wrong_number, wrong_paper}
 use Rattle.sg_commit.specs.declared.Opening.{Opening}
 use Rattle.sg_forms.specs.declared.line.CodeLine.{CodeLine}

@@ -1,7 +1,8 @@
 //! Print audits: what audited ballots and their papers show, and how many rows are opened on both sides.
 ghost use Rattle.std.specs.Prelude.{◌≡◌, ℕ, ◌+◌, ◌*◌, ◌<◌, ◌≤◌, ◌==◌, ◌&&◌, ◌||◌, ◌^◌, if◌then◌else◌, IfOk, None, false, true, not, length, replicate, slice_set};
 ghost use Rattle.std.specs.List.{list_any};
-ghost use Rattle.sg_check.specs.Facts.{is_audit, is_both};
+ghost use Rattle.sg_grammar.specs.Lines.{is_audit};
+ghost use Rattle.sg_check.specs.Facts.{is_both};
 ghost use Rattle.sg_check.specs.Kinds.{has_repeat};
 ghost use Rattle.sg_ledger.specs.Reads.{is_same_code, reads_another};
 ghost use Rattle.sg_ledger.specs.Tables.{most_marks, with_one_more};

@@ -1,7 +1,7 @@
 //! The claim that is under dispute.
 ghost use Rattle.std.specs.Prelude.{◌≡◌};
 ghost use Rattle.std.specs.Option.{option_map};
-ghost use Rattle.sg_check.specs.Facts.{is_dispute};
+ghost use Rattle.sg_grammar.specs.Lines.{is_dispute};
 ghost use Rattle.sg_check.specs.Kinds.{is_right};
 ghost use Rattle.sg_ledger.specs.Steps.{with_shown};
 

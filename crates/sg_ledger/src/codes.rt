@@ -1,6 +1,6 @@
 //! Codes that are shown, and marks.
 ghost use Rattle.std.specs.Prelude.{◌≡◌, ℕ, ◌+◌, ◌<◌, ◌≤◌, ◌^◌, ◌&&◌, if◌then◌else◌, IfOk, true, false, nat_le, nat_lt, length, replicate, slice_index_or, slice_set};
-ghost use Rattle.sg_check.specs.Facts.{is_cast};
+ghost use Rattle.sg_grammar.specs.Lines.{is_cast};
 ghost use Rattle.sg_check.specs.Kinds.{is_there};
 ghost use Rattle.sg_ledger.specs.Tables.{most_marks, shows_another, with_one_more};
 

@@ -27,7 +27,7 @@ use crate::totals::Totals;
 use sg_check::{Kind, Total};
 use sg_commit::Digest;
 use sg_forms::{CodeLine, Line, RowOpening};
-use sg_grammar::{Block, Spot, Told, tell};
+use sg_grammar::{Block, Spot, Meaning, meaning_of};
 use sg_plan::{ClaimWord, Items, NoMemory, Plan};
 use std::alloc::Global;
 
@@ -98,27 +98,27 @@ impl Ledger {
         requires some { TellsSome plan.now self.now }
         ensures { (lines : List Placed) → Tells plan.now self.now lines → result ≡ first_bad plan.now lines (placed_at at (said line.now)) }
     {
-        match tell(at, line) {
-            Told::CodeCommit(..) => None,
-            Told::RowCommit(..) => None,
-            Told::Code(block, ballot, race, column, code) => self.judge_code(
+        match meaning_of(at, line) {
+            Meaning::CodeCommit(..) => None,
+            Meaning::RowCommit(..) => None,
+            Meaning::Code(block, ballot, race, column, code) => self.judge_code(
                 plan, block, ballot, race, column, &code,
             ),
-            Told::Over(ballot, race) => self.judge_over(plan, ballot, race),
-            Told::Paper(ballot, race, codes, count) => self.judge_paper(
+            Meaning::Over(ballot, race) => self.judge_over(plan, ballot, race),
+            Meaning::Paper(ballot, race, codes, count) => self.judge_paper(
                 plan, ballot, race, &codes, count,
             ),
-            Told::Flags(..) => None,
-            Told::Places(..) => None,
-            Told::Total(race, candidate, count) => self.judge_total(plan, race, candidate, count),
-            Told::Seal(..) => None,
-            Told::DrawFull => None,
-            Told::DrawPublic(_) => None,
-            Told::Row(race, instance, row, opening) => self.judge_row(
+            Meaning::Flags(..) => None,
+            Meaning::Places(..) => None,
+            Meaning::Total(race, candidate, count) => self.judge_total(plan, race, candidate, count),
+            Meaning::Seal(..) => None,
+            Meaning::DrawFull => None,
+            Meaning::DrawPublic(_) => None,
+            Meaning::Row(race, instance, row, opening) => self.judge_row(
                 plan, race, instance, row, &opening,
             ),
-            Told::Dispute(..) => None,
-            Told::Nothing => None,
+            Meaning::Dispute(..) => None,
+            Meaning::Nothing => None,
         }
     }
 
@@ -421,35 +421,35 @@ impl Ledger {
         requires room { totals_kept self.old + length (total_on (placed_at at (said line.now))) ≤ most_totals }
         ensures { self.new ≡ ledger_after plan.now self.old (placed_at at (said line.now)) }
     {
-        match tell(at, line) {
-            Told::CodeCommit(race, entry, digest) => self.write_code_commit(
+        match meaning_of(at, line) {
+            Meaning::CodeCommit(race, entry, digest) => self.write_code_commit(
                 plan, race, entry, digest,
             ),
-            Told::RowCommit(race, instance, row, left, right) => self.write_row_commit(
+            Meaning::RowCommit(race, instance, row, left, right) => self.write_row_commit(
                 plan, race, instance, row, left, right,
             ),
-            Told::Code(block, ballot, race, column, code) => self.write_code(
+            Meaning::Code(block, ballot, race, column, code) => self.write_code(
                 plan, block, ballot, race, column, &code,
             ),
-            Told::Over(..) => (),
-            Told::Paper(ballot, race, codes, count) => self.write_paper(
+            Meaning::Over(..) => (),
+            Meaning::Paper(ballot, race, codes, count) => self.write_paper(
                 plan, ballot, race, &codes, count,
             ),
-            Told::Flags(race, instance, from, bits) => self.write_flags(
+            Meaning::Flags(race, instance, from, bits) => self.write_flags(
                 plan, race, instance, from, bits,
             ),
-            Told::Places(race, from, bits) => self.write_places(plan, race, from, bits),
-            Told::Total(race, candidate, count) => self.write_total(plan, race, candidate, count),
-            Told::Seal(..) => (),
-            Told::DrawFull => self.write_full(plan),
-            Told::DrawPublic(digits) => self.write_public(plan, digits),
-            Told::Row(race, instance, row, opening) => self.write_row(
+            Meaning::Places(race, from, bits) => self.write_places(plan, race, from, bits),
+            Meaning::Total(race, candidate, count) => self.write_total(plan, race, candidate, count),
+            Meaning::Seal(..) => (),
+            Meaning::DrawFull => self.write_full(plan),
+            Meaning::DrawPublic(digits) => self.write_public(plan, digits),
+            Meaning::Row(race, instance, row, opening) => self.write_row(
                 plan, race, instance, row, &opening,
             ),
-            Told::Dispute(ballot, race, code, word) => self.write_claim(
+            Meaning::Dispute(ballot, race, code, word) => self.write_claim(
                 plan, ballot, race, code, word,
             ),
-            Told::Nothing => (),
+            Meaning::Nothing => (),
         }
     }
 

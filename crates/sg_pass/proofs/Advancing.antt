@@ -4,10 +4,11 @@ use Rattle.std.specs.Prelude.{IsSome}
 use Rattle.std.specs.Option.{is_some, option_map}
 use Rattle.std.proofs.lemmas.List.{append-nil, length_push, map_push, take_all}
 use Rattle.std.proofs.lemmas.Option.{same_Some}
+use Rattle.sg_grammar.specs.Lines.{placed_of}
 use Rattle.sg_check.proofs.Judging.{bad_in-placed, bad_in-seal}
 use Rattle.sg_check.proofs.OneMore.{form_over, kind_over, still_fine}
 use Rattle.sg_check.specs.Judging.{AreOfPlan}
-use Rattle.sg_check.specs.Kinds.{bad_seal, bytes_of, first_bad, placed_of}
+use Rattle.sg_check.specs.Kinds.{bad_seal, bytes_of, first_bad}
 use Rattle.sg_check.specs.Verdict.{IsFirstBad, least_broken}
 use Rattle.sg_check.specs.declared.judged.Kind.{Kind}
 use Rattle.sg_check.specs.declared.judged.Kind.TheVariants as kind
@@ -17,7 +18,7 @@ use Rattle.sg_forms.specs.Said.{Said}
 use Rattle.sg_ledger.specs.declared.ledger.Ledger.{Ledger}
 use Rattle.sg_ledger.specs.Tells.{Tells}
 use Rattle.sg_pass.proofs.Placing.{found_refused, found_taken, plan_taken, taken_there}
-use Rattle.sg_pass.specs.Taking.{Advances, IsRefused, IsTaken, Keeps, Stands}
+use Rattle.sg_pass.specs.inside.Taking.{Advances, IsRefused, IsTaken, Keeps, Stands}
 use Rattle.sg_plan.specs.declared.plan.Plan.{Plan}
 use Rattle.sg_grammar.proofs.Counting.{most_lines_stand, start-made}
 use Rattle.sg_grammar.proofs.Walking.{take_bytes-not_read, take_bytes-read, take_line-behind, take_line-head, walk-push}

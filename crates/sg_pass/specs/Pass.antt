@@ -5,7 +5,7 @@ use Rattle.sg_check.specs.Verdict.{AreFine, IsFirstBad, least_broken}
 use Rattle.sg_check.specs.declared.judged.Kind.{Kind}
 use Rattle.sg_commit.specs.declared.Sealer.{Sealer}
 use Rattle.sg_ledger.specs.declared.ledger.Ledger.{Ledger}
-use Rattle.sg_pass.specs.Taking.{Stands, is_behind}
+use Rattle.sg_pass.specs.inside.Taking.{Stands, is_behind}
 use Rattle.sg_pass.specs.declared.pass.Pass.{Pass}
 use Rattle.sg_pass.specs.declared.pass.Step.{Step}
 use Rattle.sg_pass.specs.declared.pass.Step.TheVariants.{More, Over, Ready}

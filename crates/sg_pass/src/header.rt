@@ -1,6 +1,6 @@
 //! A line of the plan, or the first behind it, taken behind lines that are fine.
 ghost use Rattle.std.specs.Prelude.{◌≡◌, ℕ, ◌<◌, is_some, List, IfOk, IsSome, OnErr, None};
-ghost use Rattle.sg_pass.specs.Taking.{Advances, Stands, StandsSome, is_behind};
+ghost use Rattle.sg_pass.specs.inside.Taking.{Advances, Stands, StandsSome, is_behind};
 ghost use Rattle.sg_grammar.specs.Left.{lines_left};
 
 use crate::taking::advance;

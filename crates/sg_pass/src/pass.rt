@@ -1,9 +1,10 @@
+//! The verdict in one pass: what is kept of the lines so far, and what is said of them.
 ghost use Rattle.std.specs.Prelude.{◌≡◌, ◌<◌, ℕ, List, [], ◌∷◌, ◌++◌, true, false, IfOk, IsOk, None, Ok, OnErr, OnOk, Option};
 ghost use Rattle.sg_check.specs.Verdict.{IsNo, IsVerdict};
 ghost use Rattle.sg_forms.specs.Reading.{line_of};
 ghost use Rattle.sg_ledger.specs.Tells.{totals_placed};
 ghost use Rattle.sg_pass.specs.Pass.{Says, SaysBehind, StandsFor, StandsForSome, is_behind_plan, is_fine, is_open, is_ready, left_in, says_ready, step_of};
-ghost use Rattle.sg_pass.specs.Taking.{Keeps};
+ghost use Rattle.sg_pass.specs.inside.Taking.{Keeps};
 ghost use Rattle.sg_plan.specs.declared.plan.Plan.{Plan as PlanSeen};
 ghost use Rattle.sg_grammar.specs.Placed.{Placed};
 

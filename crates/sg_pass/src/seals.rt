@@ -7,28 +7,28 @@ ghost use Rattle.sg_forms.specs.Said.{said};
 ghost use Rattle.sg_grammar.specs.Spots.{placed_at};
 
 use sg_commit::{Digest, Sealer};
-use sg_grammar::{Line, Spot, Told, tell};
+use sg_grammar::{Line, Spot, Meaning, meaning_of};
 
 /// The line is a seal, and not the hash of the bytes before it.
 #[tactic(auto, using(crate::proofs::Sealing::seals))]
 pub(crate) fn is_bad_seal(sealer: &Sealer, at: Spot, line: &Line) -> bool
     ensures { (before : List ℕ) → HasTaken sealer.now before → result ≡ bad_seal before (placed_at at (said line.now)) }
 {
-    match tell(at, line) {
-        Told::Seal(_, digest) => is_other(sealer, &digest),
-        Told::CodeCommit(..) => false,
-        Told::RowCommit(..) => false,
-        Told::Code(..) => false,
-        Told::Over(..) => false,
-        Told::Paper(..) => false,
-        Told::Flags(..) => false,
-        Told::Places(..) => false,
-        Told::Total(..) => false,
-        Told::DrawFull => false,
-        Told::DrawPublic(..) => false,
-        Told::Row(..) => false,
-        Told::Dispute(..) => false,
-        Told::Nothing => false,
+    match meaning_of(at, line) {
+        Meaning::Seal(_, digest) => is_other(sealer, &digest),
+        Meaning::CodeCommit(..) => false,
+        Meaning::RowCommit(..) => false,
+        Meaning::Code(..) => false,
+        Meaning::Over(..) => false,
+        Meaning::Paper(..) => false,
+        Meaning::Flags(..) => false,
+        Meaning::Places(..) => false,
+        Meaning::Total(..) => false,
+        Meaning::DrawFull => false,
+        Meaning::DrawPublic(..) => false,
+        Meaning::Row(..) => false,
+        Meaning::Dispute(..) => false,
+        Meaning::Nothing => false,
     }
 }
 

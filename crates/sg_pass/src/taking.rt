@@ -4,7 +4,7 @@ ghost use Rattle.sg_check.specs.Kinds.{first_bad};
 ghost use Rattle.sg_check.specs.Verdict.{total_on};
 ghost use Rattle.sg_forms.specs.Said.{said};
 ghost use Rattle.sg_ledger.specs.Tells.{HasDigits, Tells, TellsSome, totals_kept};
-ghost use Rattle.sg_pass.specs.Taking.{Advances, IsNoPlanLine, Stands, StandsSome, is_behind};
+ghost use Rattle.sg_pass.specs.inside.Taking.{Advances, IsNoPlanLine, Stands, StandsSome, is_behind};
 ghost use Rattle.sg_plan.specs.Limits.{fault_of};
 ghost use Rattle.sg_grammar.specs.Left.{lines_left};
 ghost use Rattle.sg_grammar.specs.Placed.{Placed};
@@ -13,7 +13,7 @@ ghost use Rattle.sg_grammar.specs.Spots.{IsPlacedIn, placed_at};
 use crate::seals::is_bad_seal;
 use sg_check::Kind;
 use sg_commit::Sealer;
-use sg_grammar::{Expect, Line, Spot, read_line};
+use sg_grammar::{Expect, Line, Spot, read_behind};
 use sg_ledger::Ledger;
 use sg_plan::Plan;
 
@@ -31,19 +31,17 @@ pub(crate) fn advance(
     ensures whole { result ≡ None → is_behind expect.new.head ≡ true }
     ensures falls { result ≡ None → lines_left expect.new < lines_left expect.old }
 {
-    let Some(line) = read_line(expect, bytes) else {
+    let Some(read) = read_behind(expect, bytes) else {
         return Some(Kind::Form);
     };
-    let Some(at) = expect.spot(&line) else {
-        unreachable!()
-    };
-    if is_bad_seal(sealer, at, &line) {
+    let at = read.standing.spot;
+    if is_bad_seal(sealer, at, &read.line) {
         return Some(Kind::Seal);
     }
-    match judge_and_keep(ledger, expect.plan(), at, &line) {
+    match judge_and_keep(ledger, expect.plan(), at, &read.line) {
         Some(kind) => Some(kind),
         None => {
-            expect.step(&line);
+            expect.go_on(read.standing);
             sealer.add(bytes);
             None
         }

@@ -12,7 +12,7 @@ use Rattle.sg_grammar.specs.Head.{head_line}
 use Rattle.sg_grammar.specs.Placed.{Placed}
 use Rattle.sg_grammar.specs.Placed.Placed.{OfPlan}
 use Rattle.sg_grammar.specs.Spots.{placed_at, placed_next}
-use Rattle.sg_grammar.specs.Told.{IsToldBy, told_line}
+use Rattle.sg_grammar.specs.Meaning.{HasMeaning, meant_line}
 use Rattle.sg_grammar.specs.Walk.{Next, Taken, after_run, headed, in_head, read_next, take_at, take_bytes, take_line}
 use Rattle.sg_grammar.specs.declared.state.Head.{Head}
 use Rattle.sg_grammar.specs.declared.state.Head.TheVariants as head
@@ -23,7 +23,7 @@ use Rattle.sg_grammar.specs.declared.state.Spot.{Spot}
 use Rattle.sg_grammar.specs.declared.state.Spot.TheVariants as spot
 use Rattle.sg_record.proofs.BytesWalk.{IsBehind, IsBody, body-behind}
 use Rattle.sg_record.proofs.GatherLaw.{gather_line-none, gather_line-step}
-use Rattle.sg_grammar.specs.declared.told.Told.{Told}
+use Rattle.sg_grammar.specs.declared.meaning.Meaning.{Meaning}
 use Rattle.sg_record.proofs.Telling.{IsFirst, told_is}
 use Rattle.sg_record.specs.inside.Gathering.{Gathered, added, blank, gather_line}
 use Rattle.sg_record.specs.inside.Growing.{Adds, AddsTo, made_of, with_plan}
@@ -59,8 +59,8 @@ not_first : (at : Spot) → ((ballot : ℕ) → at ≡ spot.Begun ballot → ⊥
 not_first (spot.Begun ballot) other first = other ballot refl
 not_first at other first = first
 
-pub grows_told : {T E : Type 0} (answer : Result T E) (old new : Lists) (at : Spot) (said : Said) (what : Told) → ((ballot : ℕ) → at ≡ spot.Begun ballot → ⊥) → IsToldBy (placed_at at said) what
-    → OnOk answer ((s : Said) → Adds old new (told_line what s) s) → OnOk answer (Adds old new (placed_at at said) said)
+pub grows_told : {T E : Type 0} (answer : Result T E) (old new : Lists) (at : Spot) (said : Said) (what : Meaning) → ((ballot : ℕ) → at ≡ spot.Begun ballot → ⊥) → HasMeaning (placed_at at said) what
+    → OnOk answer ((s : Said) → Adds old new (meant_line what s) s) → OnOk answer (Adds old new (placed_at at said) said)
 grows_told (Ok x) old new at said what other by adds = subst (λ (p : Placed). Adds old new p said) (told_is at said what (not_first at other) by) (adds said)
 grows_told (Err e) old new at said what other by adds = tt
 

@@ -4,11 +4,11 @@ use Rattle.sg_forms.specs.Said.{Said}
 use Rattle.sg_forms.specs.Said.Said.{CodeCommit, RowCommit, Seal, Code, Over, Paper, Flags, Places, Total, DrawFull, DrawPublic, Row, Dispute}
 use Rattle.sg_grammar.specs.Placed.Placed.{OfPlan}
 use Rattle.sg_grammar.specs.Spots.{placed_at}
-use Rattle.sg_grammar.specs.Told.{IsQuiet, IsToldBy, told_line}
+use Rattle.sg_grammar.specs.Meaning.{IsQuiet, HasMeaning, meant_line}
 use Rattle.sg_grammar.specs.declared.state.Spot.{Spot}
 use Rattle.sg_grammar.specs.declared.state.Spot.TheVariants as spot
-use Rattle.sg_grammar.specs.declared.told.Told.{Told}
-use Rattle.sg_grammar.specs.declared.told.Told.TheVariants as told
+use Rattle.sg_grammar.specs.declared.meaning.Meaning.{Meaning}
+use Rattle.sg_grammar.specs.declared.meaning.Meaning.TheVariants as meaning
 
 -- the spot is that of a block's first line
 abbrev pub IsFirst : Spot → Type 0
@@ -45,6 +45,6 @@ quiet_is (spot.Row race instance row) said other quiet = refl
 quiet_is (spot.Dispute ballot race) (Dispute of in_race code word) other quiet = absurd quiet
 quiet_is (spot.Dispute ballot race) said other quiet = refl
 
-pub told_is : (at : Spot) (said : Said) (what : Told) → (IsFirst at → ⊥) → IsToldBy (placed_at at said) what → told_line what said ≡ placed_at at said
-told_is at said told.Nothing other quiet = quiet_is at said other quiet
+pub told_is : (at : Spot) (said : Said) (what : Meaning) → (IsFirst at → ⊥) → HasMeaning (placed_at at said) what → meant_line what said ≡ placed_at at said
+told_is at said meaning.Nothing other quiet = quiet_is at said other quiet
 told_is at said what other by = sym by

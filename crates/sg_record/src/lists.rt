@@ -4,7 +4,7 @@ ghost use Rattle.sg_forms.specs.Reading.{public_bytes};
 ghost use Rattle.sg_forms.specs.Said.{Said, said};
 ghost use Rattle.sg_grammar.specs.Placed.Placed.{Begun, CodeAt, Disputed};
 ghost use Rattle.sg_grammar.specs.Spots.{placed_at};
-ghost use Rattle.sg_grammar.specs.Told.{told_line};
+ghost use Rattle.sg_grammar.specs.Meaning.{meant_line};
 ghost use Rattle.sg_record.specs.inside.Gathering.{blank, sealed};
 ghost use Rattle.sg_record.specs.inside.Growing.{Adds, with_plan};
 
@@ -14,7 +14,7 @@ use crate::record::{BallotBlock, DisputeBlock, Record, RowCommit};
 use hex::FromHexError;
 use sg_commit::Digest;
 use sg_forms::{CodeLine, Line, RowOpening};
-use sg_grammar::{Block, Spot, Told, tell};
+use sg_grammar::{Block, Spot, Meaning, meaning_of};
 use sg_plan::{ClaimWord, Draw, Items, NoMemory, Plan, Word};
 use std::alloc::Global;
 
@@ -80,7 +80,7 @@ impl Lists {
     {
         match at {
             Spot::Begun { ballot } => self.begin(alloc, ballot, line),
-            _ => self.add_told(alloc, tell(at, line)),
+            _ => self.add_meaning(alloc, meaning_of(at, line)),
         }
     }
 
@@ -93,47 +93,47 @@ impl Lists {
     }
 
     /// Adds what a line says that begins no block.
-    fn add_told(&mut self, alloc: Global, told: Told) -> Result<(), NoMemory>
-        ensures { OnOk result ((s : Said) → Adds self.old self.new (told_line told.entry s) s) }
+    fn add_meaning(&mut self, alloc: Global, meaning: Meaning) -> Result<(), NoMemory>
+        ensures { OnOk result ((s : Said) → Adds self.old self.new (meant_line meaning.entry s) s) }
     {
-        match told {
-            Told::CodeCommit(race, _, digest) => {
+        match meaning {
+            Meaning::CodeCommit(race, _, digest) => {
                 push_at(alloc, &mut self.code_commits, race, digest)
             }
-            Told::RowCommit(race, instance, _, left, right) => {
+            Meaning::RowCommit(race, instance, _, left, right) => {
                 let row = RowCommit { left, right };
                 push_in(alloc, &mut self.row_commits, race, instance, row)
             }
-            Told::Code(block, _, _, _, code) => self.add_code(alloc, block, code),
-            Told::Over(_, race) => push_last(alloc, &mut self.ballots, Addition::Over(race)),
-            Told::Paper(_, _, codes, count) => {
+            Meaning::Code(block, _, _, _, code) => self.add_code(alloc, block, code),
+            Meaning::Over(_, race) => push_last(alloc, &mut self.ballots, Addition::Over(race)),
+            Meaning::Paper(_, _, codes, count) => {
                 let paper = Addition::Paper(first_codes(&codes, count));
                 push_last(alloc, &mut self.ballots, paper)
             }
-            Told::Flags(race, instance, _, bits) => {
+            Meaning::Flags(race, instance, _, bits) => {
                 push_bits_in(alloc, &mut self.flags, race, instance, bits)
             }
-            Told::Places(race, _, bits) => push_bits_at(alloc, &mut self.places, race, bits),
-            Told::Total(race, _, count) => push_at(alloc, &mut self.totals, race, count),
-            Told::Row(race, instance, _, opening) => {
+            Meaning::Places(race, _, bits) => push_bits_at(alloc, &mut self.places, race, bits),
+            Meaning::Total(race, _, count) => push_at(alloc, &mut self.totals, race, count),
+            Meaning::Row(race, instance, _, opening) => {
                 push_in(alloc, &mut self.rows, race, instance, opening)
             }
-            Told::Dispute(ballot, race, code, word) => self.dispute(
+            Meaning::Dispute(ballot, race, code, word) => self.dispute(
                 alloc, ballot, race, code, word,
             ),
-            Told::Seal(number, digest) => {
+            Meaning::Seal(number, digest) => {
                 put_seal(&mut self.seals, number, digest);
                 Ok(())
             }
-            Told::DrawFull => {
+            Meaning::DrawFull => {
                 self.draw = Draw::Full;
                 Ok(())
             }
-            Told::DrawPublic(digits) => {
+            Meaning::DrawPublic(digits) => {
                 self.draw = Draw::Public(word_of(alloc, digits)?);
                 Ok(())
             }
-            Told::Nothing => Ok(()),
+            Meaning::Nothing => Ok(()),
         }
     }
 

@@ -4,5 +4,6 @@ pub mod NumberLists
 pub mod OneOrders
 pub mod Ordered
 pub mod SeedKeys
+mod ShortOrders
 pub mod Unused
 pub mod WordFacts

@@ -9,6 +9,7 @@ mod ordering;
 mod reading;
 mod row_codes;
 mod seeds;
+mod short_orders;
 
 pub use coin_sides::{Coins, coin, coin_key, side_of_word};
 pub use opening_keys::{Keys, key_at};
@@ -16,6 +17,7 @@ pub use ordering::order;
 pub use reading::{Words, word};
 pub use row_codes::codes;
 pub use seeds::{Seed, stream};
+pub use short_orders::short_order;
 
 #[cfg(test)]
 mod tests;

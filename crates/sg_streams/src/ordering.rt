@@ -41,7 +41,7 @@ fn keyed_numbers(
 }
 
 /// The next two words as a key, the first the higher.
-fn next_key(words: &mut Words) -> u64
+pub fn next_key(words: &mut Words) -> u64
     requires { words.old.place + 2 ≤ 2 ^ 64 }
     ensures key { result ≡ word_of words.old.seed words.old.stream words.old.place * 2 ^ 32
         + word_of words.old.seed words.old.stream (words.old.place + 1) }

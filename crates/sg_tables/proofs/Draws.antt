@@ -11,7 +11,7 @@ use Rattle.sg_streams.specs.RowCodes.{row_codes}
 use Rattle.sg_streams.specs.Streams.{stream_number}
 use Rattle.sg_streams.proofs.Drawn.{codes_of-many, row_codes-are}
 use Rattle.sg_streams.proofs.OneOrders.{length-IsOrder, one_to_one, order_of-IsOrder}
-use Rattle.sg_tables.specs.Kept.{KeepRaces, KeepsRace, columns_of_row, inverse}
+use Rattle.sg_tables.specs.inside.Kept.{KeepRaces, KeepsRace, columns_of_row, inverse}
 use Rattle.sg_tables.specs.Tables.{codes_of_row, column_showing, lefts_of, place_rows_of, shown_in_row}
 use Rattle.sg_tables.specs.declared.race_lists.RaceLists.{RaceLists}
 
@@ -31,10 +31,14 @@ codes_drawn plan seed race row k stream drawn known is few at value =
 
 -- what a ballot row shows
 pub shown_drawn : (plan : Plan) (seed : List ℕ) (race row k stream : ℕ) (drawn : List ℕ)
-    → k ≡ candidates_of plan race → stream ≡ stream_number 2 race row → drawn ≡ order_of seed stream k → drawn ≡ shown_in_row plan seed race row
+    → k ≡ candidates_of plan race → stream ≡ stream_number 2 race row → drawn ≡ order_of seed stream k ++ replicate (16 - k) 0
+    → take k drawn ≡ shown_in_row plan seed race row
 unfolding shown_in_row
 shown_drawn plan seed race row k stream drawn is at value =
-    value ∙ ap (λ s. order_of seed s k) at ∙ ap (order_of seed (stream_number 2 race row)) is
+    ap (take k) value
+    ∙ take_at (order_of seed stream k) (replicate (16 - k) 0) k (length-IsOrder seed stream k _ (order_of-IsOrder seed stream k))
+    ∙ ap (λ s. order_of seed s k) at
+    ∙ ap (order_of seed (stream_number 2 race row)) is
 
 pub length-shown_in_row : (plan : Plan) (seed : List ℕ) (race row : ℕ) → length (shown_in_row plan seed race row) ≡ candidates_of plan race
 unfolding shown_in_row

@@ -6,7 +6,7 @@ use Rattle.std.proofs.lemmas.List.{get_or-set_other, get_or-set_same, get_or-tak
 use Rattle.std.proofs.lemmas.List.Sums.{position_or_len_is}
 use Rattle.std.proofs.lemmas.Option.{get_or_from_slice_get, slice_get-get_or, slice_get_within}
 use Rattle.sg_streams.specs.Order.{HasOnePlace, IsOneToOne}
-use Rattle.sg_tables.specs.Kept.{inverse}
+use Rattle.sg_tables.specs.inside.Kept.{inverse}
 use Rattle.sg_tables.proofs.Lists.{get_or-map_below, length-map_below}
 
 -- the number at a place is below n

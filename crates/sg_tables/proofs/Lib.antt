@@ -1,4 +1,5 @@
 pub mod Draws
+pub mod Filtered
 pub mod Inverses
 pub mod Lists
 pub mod Permuting

@@ -5,7 +5,7 @@ use Rattle.std.proofs.lemmas.Option.{get_or_from_slice_get, same_Some}
 use Rattle.sg_plan.specs.Ballots.{candidates_of, entries_of, rows_of}
 use Rattle.sg_plan.specs.declared.plan.Plan.{Plan}
 use Rattle.sg_streams.specs.Numbers.{numbers_below}
-use Rattle.sg_tables.specs.Kept.{KeepsRace, columns_of_row}
+use Rattle.sg_tables.specs.inside.Kept.{KeepsRace, columns_of_row}
 use Rattle.sg_tables.specs.Tables.{code_beside, codes_of_row, column_showing, shown_by, shown_in_row}
 use Rattle.sg_tables.specs.declared.race_lists.RaceLists.{RaceLists}
 use Rattle.sg_tables.proofs.Draws.{length-shown_in_row}

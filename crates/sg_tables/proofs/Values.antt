@@ -8,7 +8,7 @@ use Rattle.sg_streams.specs.Order.{IsOneToOne}
 use Rattle.sg_streams.specs.Streams.{stream_number}
 use Rattle.sg_streams.proofs.Drawn.{codes_of-many, row_codes-are}
 use Rattle.sg_streams.proofs.OneOrders.{one_to_one, order_of-IsOrder}
-use Rattle.sg_tables.specs.Kept.{columns_of_row}
+use Rattle.sg_tables.specs.inside.Kept.{columns_of_row}
 use Rattle.sg_tables.specs.Tables.{code_beside, codes_of_row, column_showing, entry_showing, left_of, lefts_of, path_of, place_row, place_rows_of, shown_by, shown_in_row}
 use Rattle.sg_tables.proofs.Draws.{shown_in_row-one_to_one}
 use Rattle.sg_tables.proofs.Inverses.{first_place, one_to_one-below, one_to_one-place}

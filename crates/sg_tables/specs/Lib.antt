@@ -1,3 +1,4 @@
-pub mod Kept
 pub mod Laws
+pub mod Posts
 pub mod Tables
+pub mod inside

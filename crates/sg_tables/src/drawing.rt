@@ -5,16 +5,14 @@ ghost use Rattle.sg_plan.specs.Limits.{fault_of};
 ghost use Rattle.sg_streams.specs.Numbers.{numbers_below};
 ghost use Rattle.sg_streams.specs.Order.{IsOneToOne, order_of};
 ghost use Rattle.sg_streams.specs.Streams.{stream_number};
-ghost use Rattle.sg_tables.specs.Kept.{KeepsRace, KeepRaces, inverse, kept_codes, kept_columns, kept_shown};
+ghost use Rattle.sg_tables.specs.inside.Kept.{KeepsRace, KeepRaces, inverse, kept_codes, kept_columns, kept_shown};
 
 use crate::purposes::{CODES, COLUMNS, PLACES, ROWS};
 use crate::race_lists::RaceLists;
+use sg_plan::limits::MOST_CANDIDATES;
 use sg_plan::{Items, NoMemory, Plan};
-use sg_streams::{Seed, codes, order, stream};
+use sg_streams::{Seed, codes, order, short_order, stream};
 use std::alloc::Global;
-
-/// The most candidates that a race may have.
-const MOST_CANDIDATES: usize = 16;
 
 /// The lists of each race.
 pub fn draw_races(alloc: Global, plan: &Plan, seed: &Seed) -> Result<Items<RaceLists>, NoMemory>
@@ -78,7 +76,7 @@ fn draw_codes(
     let mut list = Items::new(alloc);
     for row in 0..rows {
         let row_codes = codes(plan.version, seed, stream(CODES, race, row), candidates);
-        append(&mut list, &row_codes[..candidates as usize])?;
+        list.extend(&row_codes[..candidates as usize])?;
     }
     Ok(list)
 }
@@ -108,12 +106,10 @@ fn draw_entries(
     let mut shown = Items::new(alloc);
     let mut columns = Items::new(alloc);
     for row in 0..rows {
-        let order = order(alloc, seed, stream(COLUMNS, race, row), candidates)?;
-        append(&mut shown, order.as_slice())?;
-        append(
-            &mut columns,
-            &inverse_of(order.as_slice())[..candidates as usize],
-        )?;
+        let order = short_order(seed, stream(COLUMNS, race, row), candidates);
+        let order = &order[..candidates as usize];
+        shown.extend(order)?;
+        columns.extend(&inverse_of(order)[..candidates as usize])?;
     }
     Ok(Entries { shown, columns })
 }
@@ -149,14 +145,4 @@ fn draw_orders(
         lists.push(order(alloc, seed, stream(purpose, race, index), n)?)?;
     }
     Ok(lists)
-}
-
-/// Puts all of `more` behind the last item.
-fn append<T: Copy>(list: &mut Items<T>, more: &[T]) -> Result<(), NoMemory>
-    ensures { OnOk result (list.new ≡ list.old ++ more.now) }
-{
-    for item in more {
-        list.push(*item)?;
-    }
-    Ok(())
 }

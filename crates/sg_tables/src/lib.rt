@@ -5,7 +5,7 @@
 mod drawing;
 pub mod laws;
 mod opening_walks;
-mod plan_copies;
+mod posts;
 mod purposes;
 mod race_lists;
 mod table_set;

@@ -2,6 +2,7 @@
 //! the calls for a single opening compute one for each key.
 ghost use Rattle.std.specs.Prelude.{◌≡◌, ◌+◌, ◌<◌, length};
 ghost use Rattle.sg_plan.specs.Ballots.{entries_of};
+ghost use Rattle.sg_plan.specs.Codes.{codes_of};
 ghost use Rattle.sg_tables.specs.Tables.{left_opening_of, q_opening_of, right_opening_of};
 
 use crate::purposes::{ENTRY_KEYS, LEFT_KEYS, RIGHT_KEYS};
@@ -20,7 +21,7 @@ pub struct QOpenings<'a> {
 }
 
 impl<'a> Model for QOpenings<'a> {
-    ghost use Rattle.sg_tables.specs.Kept.{KeepsKeys};
+    ghost use Rattle.sg_tables.specs.inside.Kept.{KeepsKeys};
     ghost use Rattle.sg_tables.specs.Tables.{EntryWalk};
 
     ghost Value = { EntryWalk };
@@ -49,11 +50,12 @@ impl<'a> QOpenings<'a> {
         }
     }
 
-    /// The opening of the entry, which then goes up by one.
+    /// The opening of the entry, which then goes up by one. Its value is a code of the plan's version.
     #[tactic(auto, unfolding(crate::specs::Tables::q_opening_of))]
     pub fn next(&mut self) -> Opening
         requires { self.old.entry < entries_of self.old.plan self.old.race }
         ensures opening { result ≡ q_opening_of self.old.plan self.old.seed self.old.race self.old.entry }
+        ensures bound { result.value < codes_of self.old.plan.version }
         ensures entry { self.new ≡ record self.old { entry = self.old.entry + 1 } }
     {
         let value = u32::from(self.tables.entry_code(self.race, self.entry));
@@ -75,7 +77,7 @@ pub struct LeftOpenings<'a> {
 
 impl<'a> Model for LeftOpenings<'a> {
     ghost use Rattle.std.specs.Prelude.{◌<◌};
-    ghost use Rattle.sg_tables.specs.Kept.{KeepsKeys};
+    ghost use Rattle.sg_tables.specs.inside.Kept.{KeepsKeys};
     ghost use Rattle.sg_tables.specs.Tables.{RowWalk};
 
     ghost Value = { RowWalk };
@@ -107,14 +109,15 @@ impl<'a> LeftOpenings<'a> {
         }
     }
 
-    /// The opening of the row's left pointer. The row then goes up by one.
+    /// The opening of the row's left pointer, an entry of the race. The row then goes up by one.
     #[tactic(auto, unfolding(crate::specs::Tables::left_opening_of))]
     pub fn next(&mut self) -> Opening
         requires { self.old.row < entries_of self.old.plan self.old.race }
         ensures opening { result ≡ left_opening_of self.old.plan self.old.seed self.old.race self.old.instance self.old.row }
+        ensures bound { result.value < entries_of self.old.plan self.old.race }
         ensures row { self.new ≡ record self.old { row = self.old.row + 1 } }
     {
-        let (value, _) = self.tables.r_row(self.race, self.instance, self.row);
+        let value = self.tables.left(self.race, self.instance, self.row);
         self.row += 1;
         let key = Key(self.keys.next());
         Opening { key, value }
@@ -133,7 +136,7 @@ pub struct RightOpenings<'a> {
 
 impl<'a> Model for RightOpenings<'a> {
     ghost use Rattle.std.specs.Prelude.{◌<◌};
-    ghost use Rattle.sg_tables.specs.Kept.{KeepsKeys};
+    ghost use Rattle.sg_tables.specs.inside.Kept.{KeepsKeys};
     ghost use Rattle.sg_tables.specs.Tables.{RowWalk};
 
     ghost Value = { RowWalk };
@@ -165,11 +168,12 @@ impl<'a> RightOpenings<'a> {
         }
     }
 
-    /// The opening of the row's right pointer. The row then goes up by one.
+    /// The opening of the row's right pointer, a place of the race. The row then goes up by one.
     #[tactic(auto, unfolding(crate::specs::Tables::right_opening_of))]
     pub fn next(&mut self) -> Opening
         requires { self.old.row < entries_of self.old.plan self.old.race }
         ensures opening { result ≡ right_opening_of self.old.plan self.old.seed self.old.race self.old.instance self.old.row }
+        ensures bound { result.value < entries_of self.old.plan self.old.race }
         ensures row { self.new ≡ record self.old { row = self.old.row + 1 } }
     {
         let (_, value) = self.tables.r_row(self.race, self.instance, self.row);

@@ -4,12 +4,11 @@ ghost use Rattle.sg_plan.specs.Ballots.{candidates_of, entries_of, rows_of};
 ghost use Rattle.sg_plan.specs.Codes.{codes_of};
 ghost use Rattle.sg_plan.specs.Limits.{fault_of};
 ghost use Rattle.sg_streams.specs.Streams.{stream_number};
-ghost use Rattle.sg_tables.specs.Kept.{KeepsKeys, KeepsRace};
+ghost use Rattle.sg_tables.specs.inside.Kept.{KeepsKeys, KeepsRace};
 ghost use Rattle.sg_tables.specs.Tables.{code_beside, code_of_entry, entry_showing, left_of, left_opening_of, path_of, place_row, q_opening_of, right_of, right_opening_of, shown_by};
 
 use crate::drawing::draw_races;
 use crate::opening_walks::{LeftOpenings, QOpenings, RightOpenings};
-use crate::plan_copies::copy_plan;
 use crate::purposes::{ENTRY_KEYS, LEFT_KEYS, RIGHT_KEYS};
 use crate::race_lists::RaceLists;
 use sg_commit::{Key, Opening};
@@ -30,7 +29,7 @@ pub struct Tables {
 
 impl Model for Tables {
     ghost use Rattle.sg_streams.specs.Streams.{stream_number};
-    ghost use Rattle.sg_tables.specs.Kept.{Keeps};
+    ghost use Rattle.sg_tables.specs.inside.Kept.{Keeps};
     ghost use Rattle.sg_tables.specs.Tables.{MadeFrom};
 
     ghost Value = { MadeFrom };
@@ -47,7 +46,7 @@ impl Tables {
         ensures { IfOk result (λ tables. tables ≡ record { plan = plan.now; seed = seed.now.0 }) }
     {
         let races = draw_races(alloc, plan, seed)?;
-        let plan = copy_plan(alloc, plan)?;
+        let plan = plan.copy(alloc)?;
         Ok(Tables {
             plan,
             seed: *seed,
@@ -64,7 +63,7 @@ impl Tables {
     }
 
     /// The lists of a race.
-    fn lists(&self, race: u32) -> &RaceLists
+    pub(crate) fn lists(&self, race: u32) -> &RaceLists
         requires { race < length self.now.plan.races }
         ensures lists { KeepsRace self.now.plan self.now.seed race result.now }
         ensures limits { fault_of self.now.plan ≡ None }
@@ -151,7 +150,7 @@ impl Tables {
     }
 
     /// The left pointer of a row of an instance: an entry.
-    fn left(&self, race: u32, instance: u32, row: u32) -> u32
+    pub(crate) fn left(&self, race: u32, instance: u32, row: u32) -> u32
         requires race { race < length self.now.plan.races }
         requires instance { instance < self.now.plan.instances }
         requires row { row < entries_of self.now.plan race }
@@ -162,12 +161,13 @@ impl Tables {
         *entries.get(row as usize)
     }
 
-    /// The code of an entry: the one beside the candidate that it shows.
+    /// The code of an entry: the one beside the candidate that it shows. It is a code of the plan's version.
     #[tactic(auto, unfolding(crate::specs::Tables::code_of_entry))]
-    pub(crate) fn entry_code(&self, race: u32, entry: u32) -> u16
+    pub fn entry_code(&self, race: u32, entry: u32) -> u16
         requires race { race < length self.now.plan.races }
         requires entry { entry < entries_of self.now.plan race }
-        ensures { result ≡ code_of_entry self.now.plan self.now.seed race entry }
+        ensures value { result ≡ code_of_entry self.now.plan self.now.seed race entry }
+        ensures bound { result < codes_of self.now.plan.version }
     {
         let ballot_row = entry / self.lists(race).candidates;
         self.code(race, ballot_row, self.shown(race, entry))
@@ -208,38 +208,41 @@ impl Tables {
         RightOpenings::at(self, race, instance, row)
     }
 
-    /// What opens the commitment to an entry's code.
+    /// What opens the commitment to an entry's code. Its value is a code of the plan's version.
     #[tactic(auto, unfolding(crate::specs::Tables::q_opening_of))]
     pub fn q_opening(&self, race: u32, entry: u32) -> Opening
         requires race { race < length self.now.plan.races }
         requires entry { entry < entries_of self.now.plan race }
-        ensures { result ≡ q_opening_of self.now.plan self.now.seed race entry }
+        ensures opening { result ≡ q_opening_of self.now.plan self.now.seed race entry }
+        ensures bound { result.value < codes_of self.now.plan.version }
     {
         let value = u32::from(self.entry_code(race, entry));
         let key = Key(self.keys(ENTRY_KEYS, race, 0, entry).next());
         Opening { key, value }
     }
 
-    /// What opens the commitment to a row's left pointer.
+    /// What opens the commitment to a row's left pointer. Its value is an entry of the race.
     #[tactic(auto, unfolding(crate::specs::Tables::left_opening_of))]
     pub fn left_opening(&self, race: u32, instance: u32, row: u32) -> Opening
         requires race { race < length self.now.plan.races }
         requires instance { instance < self.now.plan.instances }
         requires row { row < entries_of self.now.plan race }
-        ensures { result ≡ left_opening_of self.now.plan self.now.seed race instance row }
+        ensures opening { result ≡ left_opening_of self.now.plan self.now.seed race instance row }
+        ensures bound { result.value < entries_of self.now.plan race }
     {
-        let (value, _) = self.r_row(race, instance, row);
+        let value = self.left(race, instance, row);
         let key = Key(self.keys(LEFT_KEYS, race, instance, row).next());
         Opening { key, value }
     }
 
-    /// What opens the commitment to a row's right pointer.
+    /// What opens the commitment to a row's right pointer. Its value is a place of the race.
     #[tactic(auto, unfolding(crate::specs::Tables::right_opening_of))]
     pub fn right_opening(&self, race: u32, instance: u32, row: u32) -> Opening
         requires race { race < length self.now.plan.races }
         requires instance { instance < self.now.plan.instances }
         requires row { row < entries_of self.now.plan race }
-        ensures { result ≡ right_opening_of self.now.plan self.now.seed race instance row }
+        ensures opening { result ≡ right_opening_of self.now.plan self.now.seed race instance row }
+        ensures bound { result.value < entries_of self.now.plan race }
     {
         let (_, value) = self.r_row(race, instance, row);
         let key = Key(self.keys(RIGHT_KEYS, race, instance, row).next());

@@ -1,10 +1,11 @@
 //! Values that another program computed: printing sheets, and all commitments of records.
 ghost use Rattle.std.specs.Prelude.{◌≡◌, ◌<◌, ◌≤◌, length, IfOk, None};
+ghost use Rattle.sg_plan.specs.Ballots.{rows_of};
 ghost use Rattle.sg_plan.specs.Limits.{fault_of};
 
 use crate::Tables;
 use sg_commit::{CommitKind, Digest, Sealer, commit};
-use sg_plan::{Items, NoMemory, Plan, Race, Run, Style, Word};
+use sg_plan::{ClaimWord, Fate, Items, Mark, NoMemory, Plan, Race, Run, Style, Word};
 use sg_streams::Seed;
 use std::alloc::Global;
 use std::fmt::Write;
@@ -271,6 +272,74 @@ fn elections_match(rt: HostRuntime) -> Result<(), Fail> {
         0x2b35cf8a04439eee,
     ];
     check_election(&rt, rt.alloc(), 2, SHEET_2, codes)
+}
+
+/// A ballot that is cast with marks beside these candidates of race 0.
+fn cast(alloc: Global, candidates: &[u32]) -> Result<Fate, NoMemory> {
+    let mut marks = Items::new(alloc);
+    for candidate in candidates {
+        marks.push(Mark {
+            race: 0,
+            candidate: *candidate,
+        })?;
+    }
+    Ok(Fate::Cast(marks))
+}
+
+/// A ballot in the first row of race 0 with this fate posts these codes, and has so many void races.
+fn check_posts(
+    rt: &impl Abort,
+    alloc: Global,
+    tables: &Tables,
+    fate: &Fate,
+    codes: &[u16],
+    void_races: usize,
+) -> Result<(), Fail>
+    requires race { 0 < length tables.now.plan.races }
+    requires row { 0 < rows_of tables.now.plan 0 }
+{
+    let posted = tables.posted_codes(alloc, 0, 0, fate)?;
+    assert!(rt; posted.as_slice() == codes);
+    let columns = tables.marked_columns(alloc, 0, 0, fate)?;
+    assert!(rt; columns.len() == codes.len());
+    let races = tables.void_races(alloc, fate)?;
+    assert!(rt; races.len() == void_races);
+    Ok(())
+}
+
+/// The right words for the codes 55, 639 and 56.
+fn check_words(rt: &impl Abort, tables: &Tables, fate: &Fate, words: [ClaimWord; 3])
+    requires race { 0 < length tables.now.plan.races }
+    requires row { 0 < rows_of tables.now.plan 0 }
+{
+    assert!(rt; tables.right_word(0, 0, fate, 55) == words[0]);
+    assert!(rt; tables.right_word(0, 0, fate, 639) == words[1]);
+    assert!(rt; tables.right_word(0, 0, fate, 56) == words[2]);
+}
+
+/// What ballot 1 posts in race 0, by the codes on its sheet: 639, 55 and 380. A voter has one vote.
+fn check_ballot(rt: &impl Abort, alloc: Global, tables: &Tables) -> Result<(), Fail>
+    requires race { 0 < length tables.now.plan.races }
+    requires row { 0 < rows_of tables.now.plan 0 }
+{
+    let fate = cast(alloc, &[1])?;
+    check_posts(rt, alloc, tables, &fate, &[55], 0)?;
+    let words = [ClaimWord::Posted, ClaimWord::Unposted, ClaimWord::Absent];
+    check_words(rt, tables, &fate, words);
+    let fate = cast(alloc, &[1, 2])?;
+    check_posts(rt, alloc, tables, &fate, &[], 1)?;
+    let words = [ClaimWord::Unposted, ClaimWord::Unposted, ClaimWord::Absent];
+    check_words(rt, tables, &fate, words);
+    check_posts(rt, alloc, tables, &Fate::Voided, &[], 0)
+}
+
+#[test]
+fn ballot_posts(rt: HostRuntime) -> Result<(), Fail> {
+    let plan = plan_of(rt.alloc(), 1, 3, [3, 4], [(0, 12)].as_slice())?;
+    assert!(rt; plan.races.len() == 2);
+    let tables = tables_of(rt.alloc(), &plan, &RISING)?;
+    assert!(rt; 0 < tables.plan().rows(0));
+    check_ballot(&rt, rt.alloc(), &tables)
 }
 
 /// A town of 1,700 ballots, with 59,500 rows of table R.

@@ -1,7 +1,7 @@
 use Rattle.std.proofs.Common.{sym, ap, ◌∙◌}
 use Rattle.sg_check.proofs.facts.audits_entry.Goals as goal
 use Rattle.sg_check.specs.Facts.{audits_entry}
-use Rattle.sg_check.specs.Notes.{noted}
+use Rattle.sg_check.specs.inside.Notes.{noted}
 use Rattle.sg_check.specs.declared.notes.Note.{Note}
 
 pub returns-in-Code : goal.returns-in-Code

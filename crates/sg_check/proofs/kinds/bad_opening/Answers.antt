@@ -1,7 +1,7 @@
 use Rattle.std.proofs.Common.{sym, ap, ◌∙◌}
 use Rattle.sg_check.proofs.kinds.bad_opening.Goals as goal
 use Rattle.sg_check.specs.Kinds.{bad_opening}
-use Rattle.sg_check.specs.Notes.{lines_noted, noted}
+use Rattle.sg_check.specs.inside.Notes.{lines_noted, noted}
 use Rattle.sg_check.specs.declared.notes.Note.{Note}
 
 pub returns-in-Code : goal.returns-in-Code

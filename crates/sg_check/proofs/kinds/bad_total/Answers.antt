@@ -4,7 +4,7 @@ use Rattle.sg_check.proofs.Noting.{capped}
 use Rattle.sg_check.proofs.kinds.bad_total.Goals as goal
 use Rattle.sg_check.specs.Facts.{votes_for}
 use Rattle.sg_check.specs.Kinds.{bad_total}
-use Rattle.sg_check.specs.Notes.{lines_noted, noted}
+use Rattle.sg_check.specs.inside.Notes.{lines_noted, noted}
 use Rattle.sg_check.specs.declared.notes.Note.{Note}
 
 pub returns-in-Total : goal.returns-in-Total

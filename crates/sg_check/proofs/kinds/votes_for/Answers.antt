@@ -2,7 +2,7 @@ use Rattle.std.proofs.Common.{◌≡◌, List, ap, arith, drop}
 use Rattle.std.proofs.lemmas.List.{drop_all}
 use Rattle.sg_check.proofs.kinds.votes_for.Goals as goal
 use Rattle.sg_check.specs.Facts.{votes_for}
-use Rattle.sg_check.specs.Notes.{lines_noted}
+use Rattle.sg_check.specs.inside.Notes.{lines_noted}
 use Rattle.sg_check.specs.declared.notes.Note.{Note}
 
 pub returns : goal.returns

@@ -4,7 +4,7 @@ use Rattle.std.proofs.lemmas.Bool.{lt-ltb}
 use Rattle.sg_check.proofs.kinds.wrong_audit.Goals as goal
 use Rattle.sg_check.specs.Facts.{is_audited}
 use Rattle.sg_check.specs.Kinds.{wrong_audit}
-use Rattle.sg_check.specs.Notes.{lines_noted}
+use Rattle.sg_check.specs.inside.Notes.{lines_noted}
 use Rattle.sg_forms.specs.declared.line.RowOpening.{RowOpening}
 use Rattle.sg_plan.specs.Ballots.{entries_of}
 

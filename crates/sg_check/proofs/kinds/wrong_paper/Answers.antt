@@ -6,7 +6,7 @@ use Rattle.sg_check.proofs.Noting.{both_true}
 use Rattle.sg_check.proofs.kinds.wrong_paper.Goals as goal
 use Rattle.sg_check.specs.Facts.{audited_code, paper_code}
 use Rattle.sg_check.specs.Kinds.{is_there, wrong_paper}
-use Rattle.sg_check.specs.Notes.{lines_noted}
+use Rattle.sg_check.specs.inside.Notes.{lines_noted}
 use Rattle.sg_forms.specs.declared.line.RowOpening.{RowOpening}
 use Rattle.sg_plan.specs.Ballots.{candidates_of, entries_of}
 

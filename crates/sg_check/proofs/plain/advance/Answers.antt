@@ -2,8 +2,8 @@ use Rattle.std.proofs.Common.{ℕ, List, Option, Some, sym, ap, ◌∙◌}
 use Rattle.sg_check.proofs.Reading.{if_ok_then}
 use Rattle.sg_check.proofs.Taking.{form_stops, found_advances, seal_stops}
 use Rattle.sg_check.proofs.plain.advance.Goals as goal
-use Rattle.sg_check.specs.Notes.{lines_noted, noted}
-use Rattle.sg_check.specs.Plain.{Advances, IsBehind, Stands, Takes}
+use Rattle.sg_check.specs.inside.Notes.{lines_noted, noted}
+use Rattle.sg_check.specs.inside.Plain.{Advances, IsBehind, Stands, Takes}
 use Rattle.sg_check.specs.declared.judged.Kind.{Kind}
 use Rattle.sg_forms.specs.Said.{said}
 use Rattle.sg_grammar.specs.Placed.{Placed}

@@ -2,7 +2,7 @@ use Rattle.std.proofs.Common.{sym, ap, ◌∙◌}
 use Rattle.sg_check.proofs.Taking.{found_refused, good_plan, line_taken, plan_taken}
 use Rattle.sg_check.proofs.plain.take.Goals as goal
 use Rattle.sg_check.specs.Kinds.{first_bad}
-use Rattle.sg_check.specs.Notes.{lines_noted, noted}
+use Rattle.sg_check.specs.inside.Notes.{lines_noted, noted}
 use Rattle.sg_forms.specs.Said.{said}
 use Rattle.sg_grammar.proofs.Walking.{none_there}
 use Rattle.sg_plan.specs.Limits.{fault_of}

@@ -1,6 +1,6 @@
 use Rattle.sg_forms.specs.Said.{said}
 use Rattle.sg_grammar.specs.Spots.{placed_at}
-use Rattle.sg_grammar.proofs.Standing.{placed_in}
+use Rattle.sg_grammar.proofs.DueLines.{placed_in}
 use Rattle.sg_grammar.proofs.body.stand_due.Goals as goal
 
 pub returns-in-Some-clause-within : goal.returns-in-Some-clause-within

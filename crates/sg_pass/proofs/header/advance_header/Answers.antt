@@ -6,7 +6,7 @@ use Rattle.sg_ledger.specs.declared.ledger.Ledger.{Ledger}
 use Rattle.sg_pass.proofs.Advancing.{form_stops, made_stands, opened_advances, plan_advances}
 use Rattle.sg_pass.proofs.Placing.{good_plan, plan_step-before, step-falls}
 use Rattle.sg_pass.proofs.header.advance_header.Goals as goal
-use Rattle.sg_pass.specs.Taking.{Advances, Stands}
+use Rattle.sg_pass.specs.inside.Taking.{Advances, Stands}
 use Rattle.sg_plan.specs.Limits.{fault_of}
 use Rattle.sg_grammar.proofs.Walking.{none_there, some_there}
 use Rattle.sg_grammar.specs.Head.{head_line}

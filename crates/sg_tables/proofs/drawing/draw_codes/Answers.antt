@@ -16,4 +16,4 @@ loop-row-preserved c =
     let k = c.count_candidates-candidates.result in
     let piece = codes_drawn plan seed race row k c.stream.result c.codes-row_codes.result c.requires.known_version
     c.count_candidates-candidates.ensures c.requires.few c.stream.ensures c.codes-row_codes.ensures.value in
-    flat_below-more (codes_of_row plan seed race) row c.loop-row.list c.append.new.list _ c.loop-row.invariant piece c.in_ok-append.ensures
+    flat_below-more (codes_of_row plan seed race) row c.loop-row.list c.extend.new.self _ c.loop-row.invariant piece c.in_ok-extend.ensures.ok

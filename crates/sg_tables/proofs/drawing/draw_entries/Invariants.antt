@@ -1,5 +1,5 @@
 use Rattle.std.proofs.Common.{◌≡◌}
-use Rattle.sg_tables.specs.Kept.{kept_columns, kept_shown}
+use Rattle.sg_tables.specs.inside.Kept.{kept_columns, kept_shown}
 use Rattle.sg_tables.proofs.drawing.draw_entries.Given as goal
 
 abbrev pub invariant-loop-row : goal.invariant-loop-row

@@ -1,7 +1,7 @@
 -- The numbers of a plan without a fault are small, and each list is that of its definition.
 use Rattle.std.proofs.Common.{◌*◌, arith, ap, ◌∙◌}
 use Rattle.sg_plan.specs.Ballots.{rows_of}
-use Rattle.sg_tables.specs.Kept.{kept_codes, kept_columns, kept_shown}
+use Rattle.sg_tables.specs.inside.Kept.{kept_codes, kept_columns, kept_shown}
 use Rattle.sg_tables.proofs.Draws.{lefts_drawn, places_drawn}
 use Rattle.sg_tables.proofs.Sizes.{sizes}
 use Rattle.sg_tables.proofs.drawing.draw_race.Goals as goal

@@ -1,5 +1,5 @@
 use Rattle.std.proofs.Common.{◌≡◌, length}
-use Rattle.sg_tables.specs.Kept.{KeepRaces}
+use Rattle.sg_tables.specs.inside.Kept.{KeepRaces}
 use Rattle.sg_tables.proofs.drawing.draw_races.Given as goal
 
 abbrev pub invariant-loop-race : goal.invariant-loop-race

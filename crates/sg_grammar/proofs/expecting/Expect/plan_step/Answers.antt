@@ -1,5 +1,5 @@
 use Rattle.sg_forms.specs.Said.{said}
-use Rattle.sg_grammar.specs.Expecting.{next_at}
+use Rattle.sg_grammar.specs.inside.Expecting.{next_at}
 use Rattle.sg_grammar.specs.Head.{made}
 use Rattle.sg_grammar.proofs.Making.{made-line}
 use Rattle.sg_grammar.proofs.Walking.{stepped_in_head}

@@ -1,6 +1,6 @@
 use Rattle.std.proofs.Common.{sym}
 use Rattle.sg_forms.specs.Said.{said}
-use Rattle.sg_grammar.specs.Expecting.{next_at}
+use Rattle.sg_grammar.specs.inside.Expecting.{next_at}
 use Rattle.sg_grammar.specs.Standing.{taken_at}
 use Rattle.sg_grammar.proofs.Walking.{none_there, placed_behind, placed_in_head, placed_nowhere}
 use Rattle.sg_grammar.proofs.expecting.Expect.spot.Goals as goal

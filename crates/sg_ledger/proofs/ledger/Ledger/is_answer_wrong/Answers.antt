@@ -1,5 +1,6 @@
 use Rattle.std.proofs.Common.{◌≡◌, ◌+◌, ◌==◌, ◌||◌, Bool, not, true, refl, sym, ap, ◌∙◌, arith}
-use Rattle.sg_check.specs.Facts.{is_dispute, last_claim}
+use Rattle.sg_grammar.specs.Lines.{is_dispute}
+use Rattle.sg_check.specs.Facts.{last_claim}
 use Rattle.sg_check.specs.Kinds.{is_right}
 use Rattle.sg_ledger.proofs.Places.{ballot_within, entry_place-end}
 use Rattle.sg_ledger.proofs.ShownJudged.{answer_judged, posted_judged}

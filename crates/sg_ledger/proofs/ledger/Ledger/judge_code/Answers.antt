@@ -1,5 +1,6 @@
 use Rattle.std.proofs.Common.{◌≡◌, ℕ, ◌+◌, ◌&&◌, nat_le, not, Bool, Option, None, get_or, ap, ap₂, ◌∙◌, arith}
-use Rattle.sg_check.specs.Facts.{code_commitment, is_cast}
+use Rattle.sg_grammar.specs.Lines.{is_cast}
+use Rattle.sg_check.specs.Facts.{code_commitment}
 use Rattle.sg_check.specs.Kinds.{bad_opening, bad_rule, code_opening, opens_digest}
 use Rattle.sg_commit.specs.declared.CommitKind.TheVariants as commit
 use Rattle.sg_commit.specs.declared.Digest.{Digest}

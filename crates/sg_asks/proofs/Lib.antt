@@ -1,0 +1,4 @@
+pub mod Each
+pub mod Utf8
+pub mod AskCodes
+pub mod ReplyTexts

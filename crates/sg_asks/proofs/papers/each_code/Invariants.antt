@@ -1,0 +1,8 @@
+use Rattle.std.proofs.Common.{◌≡◌, drop}
+use Rattle.serde_json.specs.View.{items_view}
+use Rattle.sg_asks.specs.Members.{code_in, each_by}
+use Rattle.sg_asks.proofs.Each.{onto}
+use Rattle.sg_asks.proofs.papers.each_code.Given as goal
+
+abbrev pub invariant-loop-at : goal.invariant-loop-at
+invariant-loop-at l = onto l.items (each_by (code_in l.version) (items_view (drop l.at l.list))) ≡ each_by (code_in l.version) (items_view l.list)

@@ -1,0 +1,243 @@
+//! The text of a reply.
+ghost use Rattle.std.specs.Prelude.{◌≡◌, ◌<◌, All, IfOk};
+ghost use Rattle.std.specs.List.{concat};
+ghost use Rattle.sg_plan.specs.Codes.{codes_of};
+ghost use Rattle.sg_keeper.specs.declared.replies.Reply.TheVariants as reply;
+ghost use Rattle.sg_asks.specs.Replies.{HasPlainText, HasReplyCodes, claim_word, fate_word, phase_word, text_of_reply};
+ghost use Rattle.sg_asks.specs.inside.Pieces.{body_pieces, bool_text, mark_pieces, receipt_pieces, reply_pieces};
+
+use crate::pieces::Piece::{Lists, Number, Numbers, Seen, Text};
+use crate::pieces::text_of;
+use sg_keeper::{Body, FateWord, Phase, Receipt, Reply};
+use sg_plan::{ClaimWord, NoMemory, Word};
+use std::alloc::Global;
+
+/// The word for a fate.
+fn fate_bytes(fate: FateWord) -> &'static [u8]
+    ensures { result.now ≡ fate_word fate }
+{
+    match fate {
+        FateWord::Unused => b"unused",
+        FateWord::Cast => b"cast",
+        FateWord::Spoiled => b"spoiled",
+        FateWord::Audited => b"audited",
+        FateWord::Voided => b"voided",
+    }
+}
+
+/// The word for a phase.
+fn phase_bytes(phase: Phase) -> &'static [u8]
+    ensures { result.now ≡ phase_word phase }
+{
+    match phase {
+        Phase::Voting => b"voting",
+        Phase::Closed => b"closed",
+        Phase::Drawn => b"drawn",
+    }
+}
+
+/// The word of a claim's answer.
+fn claim_bytes(word: ClaimWord) -> &'static [u8]
+    ensures { result.now ≡ claim_word word }
+{
+    match word {
+        ClaimWord::Posted => b"posted",
+        ClaimWord::Unposted => b"unposted",
+        ClaimWord::Absent => b"absent",
+    }
+}
+
+/// `true` or `false`.
+fn bool_bytes(value: bool) -> &'static [u8]
+    ensures { result.now ≡ bool_text value }
+{
+    if value { b"true" } else { b"false" }
+}
+
+/// A receipt's text.
+fn receipt(alloc: Global, version: u32, receipt: &Receipt) -> Result<Word, NoMemory>
+    requires { All (λ seen. seen.code < codes_of version) receipt.now.codes }
+    ensures { IfOk result (λ text. text ≡ concat (receipt_pieces version receipt.now)) }
+{
+    text_of(
+        alloc,
+        version,
+        &[
+            Text(b"{\"ballot\":"),
+            Number(receipt.ballot),
+            Text(b",\"codes\":"),
+            Seen(&receipt.codes),
+            Text(b",\"fate\":\""),
+            Text(fate_bytes(receipt.fate)),
+            Text(b"\",\"over\":"),
+            Numbers(&receipt.over),
+            Text(b",\"status\":200}"),
+        ],
+    )
+}
+
+/// The text of an ask that is accepted.
+#[tactic(auto, unfolding(crate::specs::inside::Pieces::body_pieces))]
+fn body(alloc: Global, version: u32, body: &Body) -> Result<Word, NoMemory>
+    requires { HasReplyCodes version (reply.Done body.now) }
+    ensures { IfOk result (λ text. text ≡ concat (body_pieces version body.now)) }
+{
+    match body {
+        Body::Scanned(over) => text_of(
+            alloc,
+            version,
+            &[
+                Text(b"{\"over\":"),
+                Numbers(over),
+                Text(b",\"status\":200}"),
+            ],
+        ),
+        Body::Audited(matches) => text_of(
+            alloc,
+            version,
+            &[
+                Text(b"{\"match\":"),
+                Text(bool_bytes(*matches)),
+                Text(b",\"status\":200}"),
+            ],
+        ),
+        Body::Claimed(word) => text_of(
+            alloc,
+            version,
+            &[
+                Text(b"{\"status\":200,\"word\":\""),
+                Text(claim_bytes(*word)),
+                Text(b"\"}"),
+            ],
+        ),
+        Body::Receipt(seen) => receipt(alloc, version, seen),
+        Body::Totals(totals) => text_of(
+            alloc,
+            version,
+            &[
+                Text(b"{\"status\":200,\"totals\":"),
+                Lists(totals),
+                Text(b"}"),
+            ],
+        ),
+        Body::Spoiled => text_of(alloc, version, &[Text(b"{\"status\":200}")]),
+        Body::Voided => text_of(alloc, version, &[Text(b"{\"status\":200}")]),
+        Body::Closed => text_of(alloc, version, &[Text(b"{\"status\":200}")]),
+        Body::Drawn => text_of(alloc, version, &[Text(b"{\"status\":200}")]),
+    }
+}
+
+/// The text of a mark that is refused.
+fn mark(alloc: Global, version: u32, at: u32, error: &[u8]) -> Result<Word, NoMemory>
+    ensures { IfOk result (λ text. text ≡ concat (mark_pieces at error.now)) }
+{
+    text_of(
+        alloc,
+        version,
+        &[
+            Text(b"{\"at\":"),
+            Number(at),
+            Text(b",\"error\":\""),
+            Text(error),
+            Text(b"\",\"status\":422}"),
+        ],
+    )
+}
+
+/// The text of a reply, from its pieces.
+#[tactic(auto, unfolding(crate::specs::inside::Pieces::reply_pieces))]
+fn put_together(alloc: Global, version: u32, reply: &Reply) -> Result<Word, NoMemory>
+    requires { HasReplyCodes version reply.now }
+    ensures { IfOk result (λ text. text ≡ concat (reply_pieces version reply.now)) }
+{
+    match reply {
+        Reply::Done(told) => body(alloc, version, told),
+        Reply::Secret => text_of(
+            alloc,
+            version,
+            &[Text(b"{\"error\":\"secret\",\"status\":403}")],
+        ),
+        Reply::Ballot => text_of(
+            alloc,
+            version,
+            &[Text(b"{\"error\":\"ballot\",\"status\":404}")],
+        ),
+        Reply::Ref(kept) => text_of(
+            alloc,
+            version,
+            &[
+                Text(b"{\"error\":\"ref\",\"kept\":\""),
+                Text(kept.bytes()),
+                Text(b"\",\"status\":409}"),
+            ],
+        ),
+        Reply::Phase(phase) => text_of(
+            alloc,
+            version,
+            &[
+                Text(b"{\"error\":\"phase\",\"phase\":\""),
+                Text(phase_bytes(*phase)),
+                Text(b"\",\"status\":409}"),
+            ],
+        ),
+        Reply::Fate(fate) => text_of(
+            alloc,
+            version,
+            &[
+                Text(b"{\"error\":\"fate\",\"fate\":\""),
+                Text(fate_bytes(*fate)),
+                Text(b"\",\"status\":409}"),
+            ],
+        ),
+        Reply::Full => text_of(
+            alloc,
+            version,
+            &[Text(b"{\"error\":\"full\",\"limit\":10000,\"status\":409}")],
+        ),
+        Reply::Race(at) => mark(alloc, version, *at, b"race"),
+        Reply::Candidate(at) => mark(alloc, version, *at, b"candidate"),
+        Reply::Twice(at) => mark(alloc, version, *at, b"twice"),
+        Reply::Station(kept) => text_of(
+            alloc,
+            version,
+            &[
+                Text(b"{\"error\":\"station\",\"kept\":"),
+                Number(*kept),
+                Text(b",\"status\":409}"),
+            ],
+        ),
+        Reply::Paper => text_of(
+            alloc,
+            version,
+            &[Text(b"{\"error\":\"paper\",\"status\":422}")],
+        ),
+        Reply::Draw => text_of(
+            alloc,
+            version,
+            &[Text(b"{\"error\":\"draw\",\"status\":422}")],
+        ),
+        Reply::Memory => text_of(
+            alloc,
+            version,
+            &[Text(b"{\"error\":\"memory\",\"status\":500}")],
+        ),
+        Reply::Store => text_of(
+            alloc,
+            version,
+            &[Text(b"{\"error\":\"store\",\"status\":503}")],
+        ),
+    }
+}
+
+/// The text of a reply: compact JSON, with the members in rising order of their names. Codes stand in the spelling of
+/// the version of the record, 1 or 2.
+///
+/// A refusal has the members `error`, its word, and `status`, the status number of its answer; what else it tells
+/// stands beside them. The text of a kept act needs no escape, since it is made of letters, digits, spaces, `:` and `,`.
+pub fn reply_text(alloc: Global, version: u32, reply: &Reply) -> Result<Word, NoMemory>
+    requires codes { HasReplyCodes version reply.now }
+    requires kept { HasPlainText reply.now }
+    ensures { IfOk result (λ text. text ≡ text_of_reply version reply.now) }
+{
+    put_together(alloc, version, reply)
+}

@@ -1,0 +1,2 @@
+-- What only private clauses cite. Nobody need believe it.
+pub mod Calls

@@ -1,0 +1,11 @@
+-- What is left to show of `select_done`.
+use Rattle.sg_store.proofs.Rows as rows
+use Rattle.sg_store.proofs.Selected.{kept, done_selected}
+use Rattle.sg_store.proofs.reads.select_done.Goals as goal
+
+pub returns-clause-kept : goal.returns-clause-kept
+returns-clause-kept g c = kept g.S.Store rows.select_done c.args.conn.now c.query_all.new.self _ c.query_all.result (λ has. rows.done_selects.plain)
+    (λ has. c.query_all.ensures.ok (has.sure.clean c.query_all.new.self)) (λ has. c.query_all.ensures.err (has.sure.clean c.query_all.new.self))
+
+pub returns-clause-found : goal.returns-clause-found
+returns-clause-found g c = done_selected g.S.Store c.args.conn.now c.query_all.new.self c.query_all.result (λ has. c.query_all.ensures.ok (has.sure.clean c.query_all.new.self))

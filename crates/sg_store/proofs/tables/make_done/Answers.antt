@@ -1,0 +1,6 @@
+-- What is left to show of `make_done`.
+use Rattle.sg_store.proofs.Makes.{makes_done}
+use Rattle.sg_store.proofs.tables.make_done.Goals as goal
+
+pub returns : goal.returns
+returns g c = makes_done g.S.Store c.args.conn.now c.execute.new.self c.execute.result (λ has. c.execute.ensures.runs (has.sure.clean c.execute.new.self))

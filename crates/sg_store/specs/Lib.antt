@@ -1,0 +1,5 @@
+-- The modules of definitions.
+pub mod Laws
+pub mod Tables
+pub mod Told
+pub mod inside

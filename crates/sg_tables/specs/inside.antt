@@ -1,0 +1,2 @@
+-- What no reader needs to believe: how the code keeps the tables.
+pub mod Kept

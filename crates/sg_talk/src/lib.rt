@@ -1,0 +1,9 @@
+//! What is answered to a line or a request, and the talk that these answers make with an office.
+#![tactic(auto)]
+
+mod answered;
+pub mod laws;
+#[cfg(test)]
+mod tests;
+
+pub use answered::Answered;
