@@ -19,11 +19,7 @@ fn cause_of(status: u8) -> Option<&'static str>
 }
 
 /// What the system said of the read or the write that failed.
-fn told_by_system<'a>(
-    status: u8,
-    input: &'a StdSource,
-    out: &'a StdSink,
-) -> Option<&'a io::Error> {
+fn told_by_system<'a>(status: u8, input: &'a StdSource, out: &'a StdSink) -> Option<&'a io::Error> {
     match status {
         3 => input.cause(),
         4 => out.cause(),
