@@ -3,7 +3,7 @@ use Rattle.std.specs.Option.{is_some}
 use Rattle.sg_check.specs.declared.judged.Kind.{Kind}
 use Rattle.sg_forms.specs.Said.{said}
 use Rattle.sg_ledger.specs.declared.ledger.Ledger.{Ledger}
-use Rattle.sg_pass.proofs.Advancing.{form_stops, made_stands, opened_advances, plan_advances}
+use Rattle.sg_pass.proofs.Advancing.{form_stops, made_stands, opened_advances, opened_stands, plan_advances}
 use Rattle.sg_pass.proofs.Placing.{good_plan, plan_step-before, step-falls}
 use Rattle.sg_pass.proofs.header.advance_header.Goals as goal
 use Rattle.sg_pass.specs.inside.Taking.{Advances, Stands}
@@ -39,6 +39,12 @@ make-requires c =
           ∙ good_plan c.args.expect.now (said c.in-Some.line) there.0 c.plan.ensures.made
           (none_there (head_line c.args.expect.now.plan c.args.expect.now.head (said c.in-Some.line)) (sym c.is_of_plan.ensures ∙ c.if-is_of_plan.false)) there.1;
     }
+
+pub advance-requires-clause-stands : goal.advance-requires-clause-stands
+advance-requires-clause-stands c = (
+  c.requires.stands.0,
+  opened_stands c.args.expect.now c.args.sealer.now c.plan.result.now c.in_ok-opened.opened c.plan.ensures.is c.in_ok-opened.ensures c.requires.stands.0 c.requires.stands.1,
+)
 
 pub returns-in-Some-advance-clause-goes_on : goal.returns-in-Some-advance-clause-goes_on
 returns-in-Some-advance-clause-goes_on c = λ lines stands.
