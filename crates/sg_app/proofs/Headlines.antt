@@ -1,5 +1,5 @@
 -- What an audit says by its status is the headline.
-use Rattle.std.proofs.Common.{◌≡◌, ◌≢◌, ℕ, inl, inr, true, false, List, Option, None, Some, refl, sym, ◌∙◌, arith}
+use Rattle.std.proofs.Common.{◌≡◌, ◌≢◌, ℕ, ◌<◌, inl, inr, true, false, List, Option, None, Some, refl, sym, subst, arith}
 use Rattle.std.specs.Prelude.{IfSome}
 use Rattle.sg_outside.specs.Streams.{Seen}
 use Rattle.sg_outside.specs.TextLines.{lines_of}
@@ -9,10 +9,11 @@ use Rattle.sg_check.proofs.Fine.{none_bad_are_fine}
 use Rattle.sg_check.proofs.Verdicts.{good_end, one_verdict}
 use Rattle.sg_check.specs.Bounds.{IsSound}
 use Rattle.sg_check.specs.Kinds.{kinds}
-use Rattle.sg_check.specs.Verdict.{IsVerdict, breaks, totals_of}
+use Rattle.sg_check.specs.Verdict.{IsNo, IsVerdict, breaks, totals_of}
 use Rattle.sg_check.specs.declared.judged.Judged.{Judged}
 use Rattle.sg_check.specs.declared.judged.Judged.TheVariants.{Yes, No}
 use Rattle.sg_check.specs.declared.judged.Kind.{Kind}
+use Rattle.sg_check.specs.declared.judged.Total.{Total}
 use Rattle.sg_app.specs.Audit.{AuditSays}
 use Rattle.sg_app.specs.Headline.{Headline, IsWholeAndAgrees}
 use Rattle.sg_app.specs.inside.Ending.{status_of_verdict}
@@ -21,8 +22,9 @@ use Rattle.sg_app.specs.inside.Ending.{status_of_verdict}
 right_is_good : (lines : List (List ℕ)) → IsWholeAndAgrees lines → IsVerdict lines (Yes (totals_of lines))
 right_is_good lines right = good_end lines (totals_of lines) (none_bad_are_fine lines (find-none (λ k. breaks k lines) kinds right.agree)) right.whole refl
 
-not_no : (totals : List _) (number : ℕ) (broken : Kind) → Yes totals ≢ No number broken
-not_no totals number broken ()
+-- a yes is no no
+not_no : (totals : List Total) (number : ℕ) (broken : Kind) → Yes totals ≢ No number broken
+not_no totals number broken same = subst IsNo (sym same) tt
 
 -- the status of a verdict says the headline
 verdict_headline : (lines : List (List ℕ)) (judged : Judged) (status : ℕ) → IsVerdict lines judged → status ≡ status_of_verdict judged → Headline lines status
@@ -44,10 +46,10 @@ verdict_headline lines (No number broken) status bad is =
 -- another status says nothing of the lines
 other_headline : (lines : List (List ℕ)) (status : ℕ) → 1 < status → Headline lines status
 other_headline lines status other = record {
-    yes = λ e. absurd (omega (arith, e, other));
-    exactly = λ right e. absurd (omega (arith, e, other));
-    bound = λ e. absurd (omega (arith, e, other));
-  }
+  yes = λ e. absurd (omega (arith, e, other));
+  exactly = λ right e. absurd (omega (arith, e, other));
+  bound = λ e. absurd (omega (arith, e, other));
+}
 
 -- both, where a source tells its bytes
 told_headline : (known : Option (List ℕ)) (judged : Judged) (status : ℕ) → IfSome known (λ bytes. IsVerdict (lines_of bytes) judged) → status ≡ status_of_verdict judged
