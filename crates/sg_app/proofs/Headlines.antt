@@ -1,5 +1,5 @@
 -- What an audit says by its status is the headline.
-use Rattle.std.proofs.Common.{◌≡◌, ◌≢◌, ℕ, ◌<◌, inl, inr, true, false, List, Option, None, Some, refl, sym, subst, arith}
+use Rattle.std.proofs.Common.{◌≡◌, ◌≢◌, ℕ, ◌<◌, inl, inr, List, Option, None, Some, refl, sym, subst, arith}
 use Rattle.std.specs.Prelude.{IfSome}
 use Rattle.sg_outside.specs.Streams.{Seen}
 use Rattle.sg_outside.specs.TextLines.{lines_of}

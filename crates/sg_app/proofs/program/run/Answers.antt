@@ -1,3 +1,4 @@
+-- What the ending of an audit says by its status, and so the headline.
 use Rattle.sg_outside.specs.Streams.{Seen}
 use Rattle.sg_app.proofs.Endings.{ending_says}
 use Rattle.sg_app.proofs.Headlines.{audit_headline}
