@@ -4,7 +4,7 @@ use Rattle.std.proofs.lemmas.Bool.{cases_eq, eq-eqb, ne_eqb}
 use Rattle.std.proofs.lemmas.List.{drop_all, length-drop}
 use Rattle.std.specs.List.{list_any}
 use Rattle.std.specs.Option.{option_map_or}
-use Rattle.sg_plan.specs.Ballots.{ballot_has, candidates_of, races_of_style, style_of_ballot}
+use Rattle.sg_plan.specs.Ballots.{ballot_has, candidates_of, races_of_ballot, races_of_style, style_of_ballot}
 use Rattle.sg_plan.specs.declared.plan.Plan.{Plan}
 use Rattle.sg_forms.specs.declared.line.CodeLine.{CodeLine}
 use Rattle.sg_grammar.proofs.Each.{each-first, each-none}
@@ -14,7 +14,6 @@ use Rattle.sg_grammar.specs.declared.state.Block.TheVariants as block
 use Rattle.sg_grammar.specs.declared.state.Slot.{Slot}
 use Rattle.sg_record.proofs.Bounds.{few_candidates, few_races}
 use Rattle.sg_record.specs.Formed.{are_due, are_papers}
-use Rattle.sg_record.specs.Lines.{races_of_ballot}
 
 -- RACES OF A BALLOT
 

@@ -9,7 +9,7 @@ use Rattle.sg_plan.specs.Limits.{fault_of}
 use Rattle.sg_plan.specs.declared.plan.Plan.{Plan}
 use Rattle.sg_grammar.specs.Walk.{most_disputes}
 use Rattle.sg_record.specs.Formed.{are_blocks, each_passes, has_candidates, has_entries, has_rows, is_dispute, is_draw, is_formed}
-use Rattle.sg_record.specs.Writing.{HasRaces}
+use Rattle.sg_record.specs.inside.Parts.{HasRaces}
 use Rattle.sg_record.specs.declared.record.Record.{Record}
 
 -- the parts of the test

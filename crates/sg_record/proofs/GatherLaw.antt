@@ -37,7 +37,7 @@ use Rattle.sg_record.proofs.SaidWalk.{Goes}
 use Rattle.sg_record.proofs.SectionLines.{commits-spells, lines_of_commits, lines_of_results, results-spells}
 use Rattle.sg_record.proofs.WholeLaw.{whole_are_formed}
 use Rattle.sg_record.specs.Formed.{is_formed}
-use Rattle.sg_record.specs.Gathering.{Gathered, added, blank, gather, gather_line, gathered_on, nothing_yet}
+use Rattle.sg_record.specs.inside.Gathering.{Gathered, added, blank, gather, gather_line, gathered_on, nothing_yet}
 use Rattle.sg_record.specs.Laws.{AreWhole, HasWords}
 use Rattle.sg_record.specs.Lines.{block_lines, commit_lines, dispute_lines, lines_in, opening_lines, plan_lines, result_lines, texts_in}
 use Rattle.sg_record.specs.declared.record.Record.{Record}

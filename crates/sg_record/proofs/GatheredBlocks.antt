@@ -3,7 +3,7 @@ use Rattle.std.proofs.Common.{◌≡◌, ℕ, ◌+◌, ◌-◌, ◌≤◌, ◌==
 use Rattle.std.proofs.lemmas.Bool.{and_parts, eq-eqb, lt-ltb}
 use Rattle.std.proofs.lemmas.List.{append-nil, append_assoc}
 use Rattle.std.specs.List.{flat_map, list_all}
-use Rattle.sg_plan.specs.Ballots.{ballot_has, candidates_of}
+use Rattle.sg_plan.specs.Ballots.{ballot_has, candidates_of, races_of_ballot}
 use Rattle.sg_plan.specs.Limits.{fault_of}
 use Rattle.sg_plan.specs.declared.plan.Plan.{Plan}
 use Rattle.sg_forms.specs.Said.{Said}
@@ -22,8 +22,8 @@ use Rattle.sg_record.proofs.GatheredLines.{Gathers, gathers-due, same_first}
 use Rattle.sg_record.proofs.GatheredLists.{put, put-append}
 use Rattle.sg_record.proofs.SaidWalk.{cast-other, is_cast_line, opens}
 use Rattle.sg_record.specs.Formed.{are_blocks, are_due, are_marks, are_overs, are_papers, is_code, is_dispute, is_fate}
-use Rattle.sg_record.specs.Gathering.{dispute_with, last_with, with_code, with_over, with_paper}
-use Rattle.sg_record.specs.Lines.{block_lines, dispute_lines, fate_lines, paper_lines, races_of_ballot}
+use Rattle.sg_record.specs.inside.Gathering.{dispute_with, last_with, with_code, with_over, with_paper}
+use Rattle.sg_record.specs.Lines.{block_lines, dispute_lines, fate_lines, paper_lines}
 use Rattle.sg_record.specs.declared.record.BallotBlock.{BallotBlock}
 use Rattle.sg_record.specs.declared.record.BlockFate.{BlockFate}
 use Rattle.sg_record.specs.declared.record.BlockFate.TheVariants as fate

@@ -26,7 +26,7 @@ use Rattle.sg_record.proofs.Filling.{Fills, fits}
 use Rattle.sg_record.proofs.GatheredLists.{code_commits-put, put, put-append, put-one, put_line, row_commits-put, rows-put, tallies-put, with_code_commits, with_row_commits, with_rows}
 use Rattle.sg_record.proofs.SaidWalk.{block-other, fits-block, fits-no_cast, fits-no_run, is_cast_line, is_other_slot, opens, results-no_code, results-some}
 use Rattle.sg_record.proofs.SectionLines.{AreCommits, AreResults, Commits, Results, code_commits-spells, lines_of_commits, lines_of_results, lines_of_tallies, row_commits-spells, rows-spells, tallies-spells}
-use Rattle.sg_record.specs.Gathering.{added, blank, no_digest, sealed}
+use Rattle.sg_record.specs.inside.Gathering.{added, blank, no_digest, sealed}
 use Rattle.sg_record.specs.Lines.{draw_line, indexed, race_code_commit_lines, race_row_commit_lines, race_row_lines}
 use Rattle.sg_record.specs.declared.record.Record.{Record}
 

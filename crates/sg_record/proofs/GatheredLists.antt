@@ -18,7 +18,7 @@ use Rattle.sg_record.proofs.EachItem.{zipped, zipped-length}
 use Rattle.sg_record.proofs.Filling.{Each, Fills, Spells, spells-each}
 use Rattle.sg_record.proofs.SectionLines.{AreTallies, HasEntries, HasFlags, HasPlaces, HasRows, HasTotals, IsTally, Tallies, Tally, by_race, flags_all-spells, lines_of_tallies, places_all-spells, tallies-into, tallies-lines, tallies-lengths, tally-spells, tally_lines}
 use Rattle.sg_record.proofs.SlotLines.{Any, Counts, code_commit-spells, flags-spells, places-spells, row-spells, row_commit-spells, signs_length, total-spells}
-use Rattle.sg_record.specs.Gathering.{added, append_at, append_in, bits_of}
+use Rattle.sg_record.specs.inside.Gathering.{added, append_at, append_in, bits_of}
 use Rattle.sg_record.specs.Lines.{bit_sign, code_commit_line, flag_lines, indexed, instance_row_commit_lines, instance_row_lines, place_lines, race_code_commit_lines, race_row_commit_lines, race_row_lines, row_commit_line, row_line, signs_on, total_line as total_lines}
 use Rattle.sg_record.specs.declared.record.Record.{Record}
 use Rattle.sg_record.specs.declared.record.RowCommit.{RowCommit as RowDigests}

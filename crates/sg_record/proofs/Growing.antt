@@ -25,8 +25,8 @@ use Rattle.sg_record.proofs.BytesWalk.{IsBehind, IsBody, body-behind}
 use Rattle.sg_record.proofs.GatherLaw.{gather_line-none, gather_line-step}
 use Rattle.sg_grammar.specs.declared.meaning.Meaning.{Meaning}
 use Rattle.sg_record.proofs.Telling.{IsFirst, told_is}
-use Rattle.sg_record.specs.Gathering.{Gathered, added, blank, gather_line}
-use Rattle.sg_record.specs.Growing.{Adds, AddsTo, made_of, with_plan}
+use Rattle.sg_record.specs.inside.Gathering.{Gathered, added, blank, gather_line}
+use Rattle.sg_record.specs.inside.Growing.{Adds, AddsTo, made_of, with_plan}
 use Rattle.sg_record.specs.declared.lists.Lists.{Lists}
 use Rattle.sg_record.specs.declared.record.BallotBlock.{BallotBlock}
 use Rattle.sg_record.specs.declared.record.Record.{Record}

@@ -35,5 +35,4 @@ pub mod SectionLines
 pub mod SlotLines
 pub mod Telling
 pub mod TextLaw
-pub mod Walking
 pub mod WholeLaw

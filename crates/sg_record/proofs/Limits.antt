@@ -12,7 +12,8 @@ use Rattle.sg_plan.specs.Limits.{KeepsLimits, KeepsRace, KeepsStyle, fault_of, r
 use Rattle.sg_plan.specs.declared.plan.Plan.{Plan}
 use Rattle.sg_plan.specs.declared.plan.Style.{Style}
 use Rattle.sg_record.proofs.Bounds.{few_races}
-use Rattle.sg_record.specs.Writing.{IsVersion, StyleFits}
+use Rattle.sg_record.specs.Writing.{IsVersion}
+use Rattle.sg_record.specs.inside.Parts.{StyleFits}
 
 -- the limits of the plan
 pub limits_of : (plan : Plan) → fault_of plan ≡ None → KeepsLimits plan

@@ -19,7 +19,8 @@ use Rattle.sg_record.specs.Formed.{are_blocks, are_due, are_marks, are_overs, ar
 use Rattle.sg_record.specs.declared.record.BallotBlock.{BallotBlock}
 use Rattle.sg_record.specs.declared.record.DisputeBlock.{DisputeBlock}
 use Rattle.sg_record.specs.Lines.{cast_race_lines, paper_lines}
-use Rattle.sg_record.specs.Writing.{ArePapers, DoNotFall, DoRise, HaveClaims, HaveCodes, HaveFates, has_race, of_race}
+use Rattle.sg_record.specs.Writing.{HaveCodes}
+use Rattle.sg_record.specs.inside.Parts.{ArePapers, DoNotFall, DoRise, HaveClaims, HaveFates, has_race, of_race}
 
 -- THE CODES OF A RACE
 

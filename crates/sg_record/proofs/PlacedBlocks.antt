@@ -3,7 +3,7 @@ use Rattle.std.proofs.Common.{◌≡◌, ℕ, zero, suc, ◌+◌, ◌-◌, ◌�
 use Rattle.std.proofs.lemmas.Bool.{and_parts, eq-eqb, eqb-true, lt-ltb}
 use Rattle.std.proofs.lemmas.List.{map-append}
 use Rattle.std.specs.List.{flat_map, list_all, list_any}
-use Rattle.sg_plan.specs.Ballots.{ballot_has, candidates_of}
+use Rattle.sg_plan.specs.Ballots.{ballot_has, candidates_of, races_of_ballot}
 use Rattle.sg_plan.specs.Limits.{fault_of}
 use Rattle.sg_plan.specs.declared.plan.Plan.{Plan}
 use Rattle.sg_forms.specs.Said.{Said}
@@ -23,7 +23,7 @@ use Rattle.sg_record.proofs.CastLines.{Steps, by_steps}
 use Rattle.sg_record.proofs.Placing.{FillsAs, GoesAs, as-append, goes_as-due}
 use Rattle.sg_record.proofs.SaidWalk.{cast-other, is_cast_line, opens}
 use Rattle.sg_record.specs.Formed.{are_blocks, are_due, are_marks, are_overs, are_papers, is_code, is_dispute, is_fate}
-use Rattle.sg_record.specs.Lines.{block_lines, cast_race_lines, dispute_lines, fate_lines, paper_lines, races_of_ballot}
+use Rattle.sg_record.specs.Lines.{block_lines, cast_race_lines, dispute_lines, fate_lines, paper_lines}
 use Rattle.sg_record.specs.Places.{block_places, cast_race_places, code_place, dispute_places, fate_places, paper_places}
 use Rattle.sg_record.specs.declared.record.BallotBlock.{BallotBlock}
 use Rattle.sg_record.specs.declared.record.BlockFate.{BlockFate}

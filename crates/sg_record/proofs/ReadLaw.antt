@@ -13,7 +13,7 @@ use Rattle.sg_record.proofs.BytesWalk.{AreIn-from_All}
 use Rattle.sg_record.proofs.FormedLaw.{end_of}
 use Rattle.sg_record.proofs.GatherLaw.{formed_gathered, whole_gathered}
 use Rattle.sg_record.proofs.TextLaw.{spelled_lines}
-use Rattle.sg_record.specs.Gathering.{Gathered, gather, gather_line, nothing_yet}
+use Rattle.sg_record.specs.inside.Gathering.{Gathered, gather, gather_line, nothing_yet}
 use Rattle.sg_record.specs.Laws.{HasWords, IsTextOf}
 use Rattle.sg_record.specs.Lines.{lines_in, text_of, texts_in}
 use Rattle.sg_record.specs.declared.record.Record.{Record}

@@ -2,7 +2,7 @@
 -- the order of the rules (this project's rules for the record).
 use Rattle.std.specs.Prelude.{ℕ, ◌+◌, ◌==◌, nat_lt, nat_le, Bool, true, false, ◌&&◌, List, [], ◌∷◌, length, is_none}
 use Rattle.std.specs.List.{list_all}
-use Rattle.sg_plan.specs.Ballots.{ballot_has, candidates_of, entries_of}
+use Rattle.sg_plan.specs.Ballots.{ballot_has, candidates_of, entries_of, races_of_ballot}
 use Rattle.sg_plan.specs.Codes.{codes_of}
 use Rattle.sg_plan.specs.Limits.{fault_of}
 use Rattle.sg_plan.specs.declared.plan.Draw.{Draw}
@@ -14,7 +14,6 @@ use Rattle.sg_grammar.specs.Walk.{in_order, is_column, is_later, is_race_left, m
 use Rattle.sg_grammar.specs.declared.state.Block.TheVariants as block
 use Rattle.sg_grammar.specs.declared.state.Slot.{Slot}
 use Rattle.sg_grammar.specs.declared.state.Slot.TheVariants as slot
-use Rattle.sg_record.specs.Lines.{races_of_ballot}
 use Rattle.sg_record.specs.declared.record.BallotBlock.{BallotBlock}
 use Rattle.sg_record.specs.declared.record.BlockFate.{BlockFate}
 use Rattle.sg_record.specs.declared.record.BlockFate.TheVariants as fate

@@ -3,8 +3,6 @@ pub mod Formed
 pub mod Laws
 pub mod Places
 pub mod Typed
-pub mod Gathering
-pub mod Growing
-pub mod Walking
 pub mod Writing
 pub mod Pens
+pub mod inside

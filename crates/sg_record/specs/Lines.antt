@@ -2,9 +2,8 @@
 -- (this project's rules for the record).
 use Rattle.std.specs.Prelude.{ℕ, ◌+◌, ◌-◌, ◌*◌, ◌==◌, if◌then◌else◌, Bool, List, [], ◌∷◌, ◌++◌, length, map, filter, take, drop, slice_index_or}
 use Rattle.std.specs.List.{concat, flat_map, list_any}
-use Rattle.std.specs.Option.{option_map_or}
 use Rattle.sg_commit.specs.declared.Digest.{Digest}
-use Rattle.sg_plan.specs.Ballots.{races_of_style, style_of_ballot}
+use Rattle.sg_plan.specs.Ballots.{races_of_ballot}
 use Rattle.sg_plan.specs.declared.plan.Draw.{Draw}
 use Rattle.sg_plan.specs.declared.plan.Draw.TheVariants as drawn
 use Rattle.sg_plan.specs.declared.plan.Plan.{Plan}
@@ -83,10 +82,6 @@ abbrev pub paper_lines : List ℕ → List (List ℕ) → List Said
 paper_lines [] papers = []
 paper_lines (race ∷ races) [] = []
 paper_lines (race ∷ races) (list ∷ papers) = Paper race list ∷ paper_lines races papers
-
--- the races of a ballot
-abbrev pub races_of_ballot : Plan → ℕ → List ℕ
-races_of_ballot plan ballot = option_map_or (races_of_style plan) (style_of_ballot plan ballot) []
 
 abbrev pub fate_lines : Plan → ℕ → BlockFate → List Said
 fate_lines plan ballot (fate.Cast codes overs) = Cast ballot ∷ cast_lines plan codes overs

@@ -3,9 +3,9 @@ use Rattle.std.specs.Prelude.{◌≡◌, ℕ, List, ◌++◌, Option, Some, None
 use Rattle.sg_commit.specs.Seals.{StandsFor}
 use Rattle.sg_commit.specs.declared.Sealer.{Sealer}
 use Rattle.sg_outside.specs.Faults.{HasCause}
-use Rattle.sg_outside.specs.Streams.{PutAppends}
+use Rattle.sg_outside.specs.Streams.{PutAppends, Seen, seen}
 use Rattle.sg_forms.specs.Said.{Said}
-use Rattle.sg_record.specs.Writing.{Seen, seen, text_in}
+use Rattle.sg_record.specs.Writing.{text_in}
 
 -- a pen: the version of the record that it writes, and the running seal over what it wrote, where it keeps one
 pub record Ink : Type 0 where

@@ -18,7 +18,8 @@ use Rattle.sg_grammar.specs.Walk.{Next, Posted, Walked, behind}
 use Rattle.sg_grammar.specs.declared.state.Block.{Block}
 use Rattle.sg_grammar.specs.declared.state.Block.TheVariants as block
 use Rattle.sg_grammar.specs.declared.state.Part.TheVariants as part
-use Rattle.sg_record.specs.Lines.{indexed, lines_in, plan_lines, races_of_ballot, signs_on}
+use Rattle.sg_plan.specs.Ballots.{races_of_ballot}
+use Rattle.sg_record.specs.Lines.{indexed, lines_in, plan_lines, signs_on}
 use Rattle.sg_record.specs.declared.record.BallotBlock.{BallotBlock}
 use Rattle.sg_record.specs.declared.record.BlockFate.{BlockFate}
 use Rattle.sg_record.specs.declared.record.BlockFate.TheVariants as fate

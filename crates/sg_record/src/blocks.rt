@@ -6,17 +6,18 @@ ghost use Rattle.sg_forms.specs.Said.Said.{Code, Over, Paper as PaperLine};
 ghost use Rattle.sg_forms.specs.Spelling.{IsCode};
 ghost use Rattle.sg_grammar.specs.Due.{each};
 ghost use Rattle.sg_record.specs.Formed.{is_fate};
-ghost use Rattle.sg_record.specs.Lines.{block_lines, cast_race_lines, dispute_lines, fate_lines, paper_lines, races_of_ballot};
+ghost use Rattle.sg_record.specs.Lines.{block_lines, cast_race_lines, dispute_lines, fate_lines, paper_lines};
+ghost use Rattle.sg_plan.specs.Ballots.{races_of_ballot};
 ghost use Rattle.sg_record.specs.declared.record.BlockFate.TheVariants as fate;
 ghost use Rattle.sg_record.specs.Pens.{Writes};
-ghost use Rattle.sg_record.specs.Writing.{ArePapers, DoNotFall, DoRise, GoesOn, GoesOnOver, HaveClaims, HaveCodes, HaveFates, has_race, of_race};
+ghost use Rattle.sg_record.specs.Writing.{HaveCodes};
+ghost use Rattle.sg_record.specs.inside.Parts.{ArePapers, DoNotFall, DoRise, GoesOn, GoesOnOver, HaveClaims, HaveFates, has_race, of_race};
 
 use crate::pen::Pen;
 use crate::record::{BallotBlock, BlockFate, DisputeBlock};
-use crate::walk::BallotWalk;
 use sg_forms::{CodeLine, Line};
 use sg_outside::{Failed, Sink};
-use sg_plan::{Items, Paper, Plan};
+use sg_plan::{BallotWalk, Items, Paper, Plan};
 
 /// Writes a code.
 fn put_code<O: Sink>(pen: &mut Pen, code: &CodeLine, out: &mut O) -> Result<(), Failed>

@@ -4,7 +4,7 @@
 ghost use Rattle.std.specs.Prelude.{◌≡◌, ℕ, ◌==◌, ◌<◌, ◌≤◌, None, IsTrue, IfSome, nat_lt, nat_le, if◌then◌else◌, ◌&&◌, ◌++◌, [], List, length, drop, false};
 ghost use Rattle.std.specs.List.{list_all, list_any};
 ghost use Rattle.std.specs.Option.{option_map_or};
-ghost use Rattle.sg_plan.specs.Ballots.{candidates_of, entries_of};
+ghost use Rattle.sg_plan.specs.Ballots.{candidates_of, entries_of, races_of_ballot};
 ghost use Rattle.sg_plan.specs.Limits.{fault_of};
 ghost use Rattle.sg_grammar.specs.Due.{ballot_codes, each, race_codes};
 ghost use Rattle.sg_grammar.specs.Walk.{in_order, most_disputes};
@@ -12,18 +12,11 @@ ghost use Rattle.sg_grammar.specs.declared.state.Block.{Block};
 ghost use Rattle.sg_grammar.specs.declared.state.Block.TheVariants as block;
 ghost use Rattle.sg_grammar.specs.declared.state.Slot.{Slot};
 ghost use Rattle.sg_record.specs.Formed.{are_blocks, are_due, are_marks, are_overs, are_papers, has_candidates, has_entries, has_rows, is_code, is_dispute, is_draw, is_fate, is_formed};
-ghost use Rattle.sg_record.specs.Lines.{races_of_ballot};
 
 use crate::record::{BallotBlock, BlockFate, DisputeBlock, Record};
-use crate::walk::BallotWalk;
 use sg_forms::CodeLine;
-use sg_plan::{Draw, Items, Paper, Plan};
-
-/// The most disputes.
-const MOST_DISPUTES: usize = 10_000;
-
-/// The most public bytes.
-const MOST_PUBLIC: usize = 4_096;
+use sg_plan::limits::{MOST_CLAIMS, MOST_PUBLIC_BYTES};
+use sg_plan::{BallotWalk, Draw, Items, Paper, Plan};
 
 /// Each race has a list with an item for each of its entries.
 #[tactic(auto, using(crate::proofs::Bounds::few_races))]
@@ -362,7 +355,7 @@ fn are_all_disputes(plan: &Plan, disputes: &[DisputeBlock]) -> bool
 fn are_disputes(plan: &Plan, disputes: &Items<DisputeBlock>) -> bool
     ensures { result ≡ (nat_le (length disputes.now) most_disputes && list_all (is_dispute plan.now) disputes.now) }
 {
-    if disputes.len() > MOST_DISPUTES {
+    if disputes.len() > MOST_CLAIMS {
         return false;
     }
     are_all_disputes(plan, disputes.as_slice())
@@ -374,7 +367,7 @@ fn is_draw(draw: &Draw) -> bool
 {
     match draw {
         Draw::Full => true,
-        Draw::Public(bytes) => (1..=MOST_PUBLIC).contains(&bytes.len()),
+        Draw::Public(bytes) => (1..=MOST_PUBLIC_BYTES).contains(&bytes.len()),
     }
 }
 

@@ -6,7 +6,7 @@ ghost use Rattle.sg_plan.specs.Names.{IsName};
 ghost use Rattle.sg_forms.specs.Said.Said.{Cand, Election, Instances, Race as RaceLine, Version};
 ghost use Rattle.sg_record.specs.Lines.{plan_lines, race_lines, run_line, style_line};
 ghost use Rattle.sg_record.specs.Pens.{Writes};
-ghost use Rattle.sg_record.specs.Writing.{StyleFits};
+ghost use Rattle.sg_record.specs.inside.Parts.{StyleFits};
 
 use crate::pen::Pen;
 use sg_forms::Line;

@@ -3,8 +3,8 @@
 //! A line that the last block has no room for adds nothing to it.
 ghost use Rattle.std.specs.Prelude.{◌≡◌, IfOk, OnOk};
 ghost use Rattle.sg_forms.specs.Said.{said};
-ghost use Rattle.sg_record.specs.Gathering.{begun, dispute_with, last_with, with_code, with_over, with_paper};
-ghost use Rattle.sg_record.specs.Growing.{change_of};
+ghost use Rattle.sg_record.specs.inside.Gathering.{begun, dispute_with, last_with, with_code, with_over, with_paper};
+ghost use Rattle.sg_record.specs.inside.Growing.{change_of};
 
 use crate::record::{BallotBlock, BlockFate, DisputeBlock};
 use sg_forms::{CodeLine, Line};
@@ -47,23 +47,16 @@ fn push_over(fate: &mut BlockFate, race: u32) -> Result<(), NoMemory>
     }
 }
 
-/// A list of the codes.
-fn list_of(alloc: Global, codes: &[u16]) -> Result<Items<u16>, NoMemory>
-    ensures { IfOk result (λ list. list ≡ codes.now) }
-{
-    let mut list = Items::new(alloc);
-    for at in 0..codes.len() {
-        list.push(codes[at])?;
-    }
-    Ok(list)
-}
-
 /// Puts a race's codes behind those read from the paper of an audited ballot.
 fn push_paper(alloc: Global, fate: &mut BlockFate, codes: &[u16]) -> Result<(), NoMemory>
     ensures { OnOk result (fate.new ≡ with_paper codes.now fate.old) }
 {
     match fate {
-        BlockFate::Audited(papers, _) => papers.push(list_of(alloc, codes)?),
+        BlockFate::Audited(papers, _) => {
+            let mut list = Items::new(alloc);
+            list.extend(codes)?;
+            papers.push(list)
+        }
         BlockFate::Cast(..) => Ok(()),
         BlockFate::Spoiled => Ok(()),
         BlockFate::Voided => Ok(()),

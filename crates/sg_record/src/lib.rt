@@ -2,7 +2,6 @@
 #![tactic(auto)]
 
 mod blocks;
-mod bytes;
 mod commits;
 mod formed;
 mod head;
@@ -17,7 +16,6 @@ mod read;
 mod record;
 mod results;
 mod typed;
-mod walk;
 mod write;
 
 pub use blocks::{put_block, put_dispute};

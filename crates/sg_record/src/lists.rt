@@ -5,8 +5,8 @@ ghost use Rattle.sg_forms.specs.Said.{Said, said};
 ghost use Rattle.sg_grammar.specs.Placed.Placed.{Begun, CodeAt, Disputed};
 ghost use Rattle.sg_grammar.specs.Spots.{placed_at};
 ghost use Rattle.sg_grammar.specs.Meaning.{meant_line};
-ghost use Rattle.sg_record.specs.Gathering.{blank, sealed};
-ghost use Rattle.sg_record.specs.Growing.{Adds, with_plan};
+ghost use Rattle.sg_record.specs.inside.Gathering.{blank, sealed};
+ghost use Rattle.sg_record.specs.inside.Growing.{Adds, with_plan};
 
 use crate::last::{Addition, begin_fate, push_dispute_code, push_last};
 use crate::nested::{empty_lists, empty_tables, push_at, push_bits_at, push_bits_in, push_in};

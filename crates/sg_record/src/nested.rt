@@ -2,7 +2,7 @@
 //!
 //! A place that a list does not have takes nothing.
 ghost use Rattle.std.specs.Prelude.{◌≡◌, [], ◌∷◌, ◌++◌, IfOk, OnOk, replicate};
-ghost use Rattle.sg_record.specs.Gathering.{append_at, append_in, bits_of};
+ghost use Rattle.sg_record.specs.inside.Gathering.{append_at, append_in, bits_of};
 
 use sg_plan::{Items, NoMemory};
 use std::alloc::Global;

@@ -7,16 +7,16 @@ ghost use Rattle.sg_record.specs.Lines.{draw_line, indexed, instance_row_lines, 
 ghost use Rattle.sg_record.specs.Pens.{Writes};
 
 use crate::lines::put_section_seal;
-use crate::bytes::know_bytes;
 use crate::pen::Pen;
 use crate::record::Record;
-use sg_forms::{Line, RowOpening};
+use sg_forms::{Line, RowOpening, know_bytes};
 use sg_lines::write_hex;
 use sg_outside::{Failed, Sink};
+use sg_plan::limits::MOST_PUBLIC_BYTES;
 use sg_plan::{Draw, Items};
 
 /// The most digits of public bytes.
-const MOST_DIGITS: usize = 8_192;
+const MOST_DIGITS: usize = 2 * MOST_PUBLIC_BYTES;
 
 /// Writes the draw: with public bytes there are 1 to 4,096 of them.
 pub fn put_draw<O: Sink>(pen: &mut Pen, draw: &Draw, out: &mut O) -> Result<(), Failed>

@@ -11,11 +11,9 @@ use sg_commit::{Digest, Sealer};
 use sg_forms::{Line, write_line};
 use sg_outside::{Failed, Sink};
 use sg_plan::NoMemory;
+use sg_plan::limits::LONGEST_LINE;
 use std::alloc::Global;
 use std::marker::Model;
-
-/// The most bytes of a line, its line feed included.
-const LONGEST_LINE: usize = 16_384;
 
 /// Writes lines of a record of one version, each with one put. It keeps SHA-256 of all that it has written, where that
 /// is wanted.

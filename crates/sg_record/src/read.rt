@@ -5,8 +5,8 @@ ghost use Rattle.sg_forms.specs.Said.{said};
 ghost use Rattle.sg_grammar.specs.Spots.{placed_at};
 ghost use Rattle.sg_grammar.specs.Walk.{is_whole};
 ghost use Rattle.sg_outside.specs.TextLines.{lines_of};
-ghost use Rattle.sg_record.specs.Gathering.{gather, gather_line, nothing_yet};
-ghost use Rattle.sg_record.specs.Growing.{AddsTo, made_of, so_far, with_plan};
+ghost use Rattle.sg_record.specs.inside.Gathering.{gather, gather_line, nothing_yet};
+ghost use Rattle.sg_record.specs.inside.Growing.{AddsTo, made_of, so_far, with_plan};
 ghost use Rattle.sg_record.specs.Laws.{IsTextOf};
 
 use crate::lists::Lists;

@@ -4,7 +4,7 @@ ghost use Rattle.sg_forms.specs.Said.Said.{Total};
 ghost use Rattle.sg_grammar.specs.Due.{each, lines_for};
 ghost use Rattle.sg_record.specs.Lines.{bit_sign, flag_line, flag_lines, indexed, place_line, place_lines, race_result_lines, result_lines, total_line};
 ghost use Rattle.sg_record.specs.Pens.{Writes};
-ghost use Rattle.sg_record.specs.Writing.{HasRaces};
+ghost use Rattle.sg_record.specs.inside.Parts.{HasRaces};
 
 use crate::lines::put_section_seal;
 use crate::pen::Pen;
@@ -12,9 +12,7 @@ use crate::record::Record;
 use sg_forms::Line;
 use sg_outside::{Failed, Sink};
 use sg_plan::Items;
-
-/// How many bits stand on a line.
-const BITS: usize = 64;
+use sg_plan::limits::MOST_BITS;
 
 /// The sign of a bit.
 fn bit_sign(bit: bool) -> u8
@@ -37,8 +35,12 @@ fn fill_signs(bits: &[bool], signs: &mut [u8])
 fn count_lines(bits: usize) -> usize
     ensures { result ≡ lines_for bits }
 {
-    let full = bits / BITS;
-    if bits % BITS == 0 { full } else { full + 1 }
+    let full = bits / MOST_BITS;
+    if bits % MOST_BITS == 0 {
+        full
+    } else {
+        full + 1
+    }
 }
 
 /// The bits of a line.
@@ -49,8 +51,8 @@ fn bits_on(bits: &[bool], line: usize) -> &[bool]
     ensures some { 1 ≤ length result.now }
     ensures most { length result.now ≤ 64 }
 {
-    let from = BITS * line;
-    let count = BITS.min(bits.len() - from);
+    let from = MOST_BITS * line;
+    let count = MOST_BITS.min(bits.len() - from);
     &bits[from..from + count]
 }
 
@@ -68,7 +70,7 @@ fn put_flag_line<O: Sink>(
     ensures { Writes O.written O.faults pen.old out.old pen.new out.new result (flag_line race instance bits.now line) }
 {
     let on_line = bits_on(bits.as_slice(), line);
-    let mut signs = [0; BITS];
+    let mut signs = [0; MOST_BITS];
     fill_signs(on_line, &mut signs);
     let flags = Line::Flags {
         race,
@@ -124,7 +126,7 @@ fn put_place_line<O: Sink>(
     ensures { Writes O.written O.faults pen.old out.old pen.new out.new result (place_line race bits.now line) }
 {
     let on_line = bits_on(bits.as_slice(), line);
-    let mut signs = [0; BITS];
+    let mut signs = [0; MOST_BITS];
     fill_signs(on_line, &mut signs);
     let places = Line::Places {
         race,

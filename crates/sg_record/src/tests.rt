@@ -1,8 +1,8 @@
 //! Two small records, put together by hand, and their texts.
 
 use crate::{
-    BallotBlock, BlockFate, CodeLine, DisputeBlock, Line, Pen, Record, RowCommit, RowOpening, Wrote,
-    read_record, write_record,
+    BallotBlock, BlockFate, CodeLine, DisputeBlock, Line, Pen, Record, RowCommit, RowOpening,
+    Wrote, read_record, write_record,
 };
 use sg_commit::{Digest, Key, Opening};
 use sg_outside::Page;
@@ -417,6 +417,26 @@ fn leaves_a_front(rt: HostRuntime) -> Result<(), Fail> {
         page.written(),
         b"scantegrity2 1\nelection Town\ninst".as_slice()
     );
+    Ok(())
+}
+
+/// How many line feeds there are.
+fn count_feeds(text: &[u8]) -> usize {
+    text.iter().filter(|byte| **byte == b'\n').count()
+}
+
+#[test]
+fn leaves_a_front_at_each_line(rt: HostRuntime) -> Result<(), Fail> {
+    let alloc = rt.alloc();
+    let posted = all_fates(alloc)?;
+    assert!(rt; posted.is_formed());
+    let text = text_of(alloc, &ALL_FATES)?;
+    for line in 0..count_feeds(&text) {
+        let mut page = Page::new(alloc, 30_000, vec![in alloc; line as u32]?, 4)?;
+        assert_eq!(rt; write_record(alloc, &posted, &mut page), Wrote::SinkFailed);
+        assert!(rt; text.starts_with(page.written()), "{line}");
+        assert_eq!(rt; count_feeds(page.written()), line);
+    }
     Ok(())
 }
 

@@ -7,10 +7,9 @@ ghost use Rattle.sg_record.specs.Formed.{is_formed};
 ghost use Rattle.sg_record.specs.Laws.{HasWords};
 ghost use Rattle.sg_record.specs.Typed.{AreDigests, AreDrawn, BlockHasKeys, DisputeHasKeys, HasKey, HaveKeys, IsDigest, IsTyped};
 
-use crate::bytes::{know_bytes, know_digest, know_key, know_numbers, know_row};
 use crate::record::{BallotBlock, BlockFate, DisputeBlock, Record, RowCommit};
 use sg_commit::Digest;
-use sg_forms::{CodeLine, RowOpening};
+use sg_forms::{CodeLine, RowOpening, know_bytes, know_digest, know_key, know_numbers, know_row};
 use sg_plan::{Draw, Items};
 
 /// The digests are such.

@@ -3,7 +3,8 @@ ghost use Rattle.std.specs.Prelude.{◌≡◌, ◌≤◌, IfOk, true};
 ghost use Rattle.sg_record.specs.Formed.{is_formed};
 ghost use Rattle.sg_record.specs.Lines.{lines_in, text_of};
 ghost use Rattle.sg_record.specs.Pens.{Writes};
-ghost use Rattle.sg_record.specs.Writing.{WriteEnds, seen};
+ghost use Rattle.sg_outside.specs.Streams.{seen};
+ghost use Rattle.sg_record.specs.Writing.{WriteEnds};
 
 use crate::blocks::{put_blocks, put_disputes};
 use crate::commits::put_commits;

@@ -7,9 +7,9 @@ use Rattle.sg_record.proofs.Marks.{due_codes, papers_pass}
 use Rattle.sg_record.proofs.Putting.{puts_stop, puts_then}
 use Rattle.sg_forms.specs.Said.Said.{Audited, Code}
 use Rattle.sg_grammar.specs.Due.{ballot_codes, each}
-use Rattle.sg_plan.specs.Ballots.{style_of_ballot}
+use Rattle.sg_plan.specs.Ballots.{races_of_ballot, style_of_ballot}
 use Rattle.sg_record.specs.Formed.{are_due, are_papers}
-use Rattle.sg_record.specs.Lines.{paper_lines, races_of_ballot}
+use Rattle.sg_record.specs.Lines.{paper_lines}
 use Rattle.sg_record.proofs.blocks.put_audited.Goals as goal
 
 pub returns-in_err-put_line : goal.returns-in_err-put_line

@@ -2,9 +2,9 @@ use Rattle.std.proofs.Common.{drop}
 use Rattle.sg_record.proofs.Putting.{LeftOf}
 use Rattle.std.specs.List.{flat_map}
 use Rattle.sg_record.specs.Lines.{block_lines}
-use Rattle.sg_record.specs.Walking.{StandsIn}
+use Rattle.sg_plan.specs.Walking.{StandsIn}
 use Rattle.sg_record.specs.Pens.{moment}
-use Rattle.sg_record.specs.Writing.{HaveFates}
+use Rattle.sg_record.specs.inside.Parts.{HaveFates}
 use Rattle.sg_record.proofs.blocks.put_blocks.Given as goal
 
 abbrev pub invariant-loop-at : goal.invariant-loop-at

@@ -2,7 +2,7 @@
 use Rattle.std.proofs.Common.{◌∷◌, [], map, drop, if◌then◌else◌}
 use Rattle.sg_forms.specs.Said.Said.{Code, Over}
 use Rattle.sg_record.proofs.Putting.{puts_as, puts_fault, puts_stop, puts_then}
-use Rattle.sg_record.specs.Writing.{has_race, of_race}
+use Rattle.sg_record.specs.inside.Parts.{has_race, of_race}
 use Rattle.sg_record.proofs.blocks.put_cast_race.Goals as goal
 
 pub returns-in_err-end-clause-puts : goal.returns-in_err-end-clause-puts

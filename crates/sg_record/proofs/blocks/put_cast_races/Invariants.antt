@@ -2,7 +2,8 @@ use Rattle.std.proofs.Common.{◌≡◌, ℕ, ◌≤◌, drop, length}
 use Rattle.sg_record.proofs.Putting.{LeftEach}
 use Rattle.sg_record.specs.Lines.{cast_race_lines}
 use Rattle.sg_record.specs.Pens.{moment}
-use Rattle.sg_record.specs.Writing.{DoNotFall, DoRise, HaveCodes, has_race, of_race}
+use Rattle.sg_record.specs.Writing.{HaveCodes}
+use Rattle.sg_record.specs.inside.Parts.{DoNotFall, DoRise, has_race, of_race}
 use Rattle.sg_record.proofs.blocks.put_cast_races.Given as goal
 
 abbrev pub invariant-loop-race : goal.invariant-loop-race

@@ -4,7 +4,7 @@ use Rattle.std.proofs.lemmas.List.{drop_all}
 use Rattle.sg_forms.specs.Said.Said.{Code}
 use Rattle.sg_record.proofs.Marks.{first_code, first_not_falling, later_codes, none_of, of_race_here, of_race_other}
 use Rattle.sg_record.proofs.Putting.{left_at_fault, left_behind, left_none}
-use Rattle.sg_record.specs.Writing.{of_race}
+use Rattle.sg_record.specs.inside.Parts.{of_race}
 use Rattle.sg_record.proofs.blocks.put_codes_of.Goals as goal
 
 pub returns-then-code-race-clause-puts : goal.returns-then-code-race-clause-puts

@@ -2,7 +2,8 @@ use Rattle.std.proofs.Common.{◌≡◌, ℕ, ◌<◌, ◌≤◌, drop, length, 
 use Rattle.sg_forms.specs.Said.Said.{Code}
 use Rattle.sg_record.proofs.Putting.{Left}
 use Rattle.sg_record.specs.Pens.{moment}
-use Rattle.sg_record.specs.Writing.{DoNotFall, HaveCodes, of_race}
+use Rattle.sg_record.specs.Writing.{HaveCodes}
+use Rattle.sg_record.specs.inside.Parts.{DoNotFall, of_race}
 use Rattle.sg_record.proofs.blocks.put_codes_of.Given as goal
 
 abbrev pub invariant-loop-at : goal.invariant-loop-at

@@ -2,7 +2,7 @@ use Rattle.std.proofs.Common.{drop}
 use Rattle.sg_record.proofs.Putting.{LeftOf}
 use Rattle.std.specs.List.{flat_map}
 use Rattle.sg_record.specs.Lines.{dispute_lines}
-use Rattle.sg_record.specs.Writing.{HaveClaims}
+use Rattle.sg_record.specs.inside.Parts.{HaveClaims}
 use Rattle.sg_record.specs.Pens.{moment}
 use Rattle.sg_record.proofs.blocks.put_disputes.Given as goal
 

@@ -6,7 +6,7 @@ use Rattle.sg_grammar.specs.Due.{ballot_codes, each}
 use Rattle.sg_grammar.specs.declared.state.Block.TheVariants as block
 use Rattle.sg_record.proofs.BlockTests.{codes_with, codes_without, due_done}
 use Rattle.sg_record.specs.Formed.{are_due}
-use Rattle.sg_record.specs.Lines.{races_of_ballot}
+use Rattle.sg_plan.specs.Ballots.{races_of_ballot}
 use Rattle.sg_record.proofs.formed.are_ballot_codes.Goals as goal
 
 pub loop-race-preserved-then-not-has_race : goal.loop-race-preserved-then-not-has_race

@@ -1,7 +1,7 @@
 use Rattle.std.proofs.Common.{◌≡◌, ℕ, ◌≤◌, drop, length}
 use Rattle.sg_grammar.specs.Due.{ballot_codes, each}
 use Rattle.sg_record.specs.Formed.{are_due}
-use Rattle.sg_record.specs.Lines.{races_of_ballot}
+use Rattle.sg_plan.specs.Ballots.{races_of_ballot}
 use Rattle.sg_record.proofs.formed.are_ballot_codes.Given as goal
 
 abbrev pub invariant-loop-race : goal.invariant-loop-race

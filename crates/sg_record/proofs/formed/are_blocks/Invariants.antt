@@ -1,6 +1,6 @@
 use Rattle.std.proofs.Common.{◌≡◌, ◌≤◌, drop}
 use Rattle.sg_record.specs.Formed.{are_blocks}
-use Rattle.sg_record.specs.Walking.{StandsIn}
+use Rattle.sg_plan.specs.Walking.{StandsIn}
 use Rattle.sg_record.proofs.formed.are_blocks.Given as goal
 
 abbrev pub invariant-loop-at : goal.invariant-loop-at

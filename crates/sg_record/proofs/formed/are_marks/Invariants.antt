@@ -1,6 +1,6 @@
 use Rattle.std.proofs.Common.{◌≡◌, ℕ, drop}
 use Rattle.sg_record.specs.Formed.{are_marks}
-use Rattle.sg_record.specs.Lines.{races_of_ballot}
+use Rattle.sg_plan.specs.Ballots.{races_of_ballot}
 use Rattle.sg_record.proofs.formed.are_marks.Given as goal
 
 abbrev pub invariant-loop-at : goal.invariant-loop-at

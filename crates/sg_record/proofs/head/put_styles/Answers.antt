@@ -1,7 +1,7 @@
 -- The styles follow one another.
 use Rattle.std.proofs.Common.{ap, refl, ◌∷◌, [], map, arith}
 use Rattle.sg_record.proofs.Putting.{item_of}
-use Rattle.sg_record.specs.Writing.{StyleFits}
+use Rattle.sg_record.specs.inside.Parts.{StyleFits}
 use Rattle.sg_record.proofs.Putting.{items_end, items_fault, items_next}
 use Rattle.sg_record.specs.Lines.{style_line}
 use Rattle.sg_record.proofs.head.put_styles.Goals as goal

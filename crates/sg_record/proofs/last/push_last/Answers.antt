@@ -1,5 +1,5 @@
 use Rattle.sg_record.proofs.Appending.{block_put_back}
-use Rattle.sg_record.specs.Growing.{change_of}
+use Rattle.sg_record.specs.inside.Growing.{change_of}
 use Rattle.sg_record.proofs.last.push_last.Goals as goal
 
 pub returns : goal.returns

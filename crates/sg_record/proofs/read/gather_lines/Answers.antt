@@ -1,6 +1,6 @@
 use Rattle.sg_record.proofs.ReadLaw.{gathered_end, gathered_step, gathered_stop}
 use Rattle.sg_record.proofs.read.gather_lines.Goals as goal
-use Rattle.sg_record.specs.Growing.{so_far}
+use Rattle.sg_record.specs.inside.Growing.{so_far}
 
 pub returns-then-not-branch : goal.returns-then-not-branch
 returns-then-not-branch c =

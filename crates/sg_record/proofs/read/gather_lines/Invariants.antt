@@ -1,8 +1,8 @@
 use Rattle.std.proofs.Common.{◌≡◌, ◌-◌, drop, length}
 use Rattle.sg_outside.specs.TextLines.{lines_of}
 use Rattle.sg_record.proofs.read.gather_lines.Given as goal
-use Rattle.sg_record.specs.Gathering.{gather, nothing_yet}
-use Rattle.sg_record.specs.Growing.{so_far}
+use Rattle.sg_record.specs.inside.Gathering.{gather, nothing_yet}
+use Rattle.sg_record.specs.inside.Growing.{so_far}
 
 -- what is left to gather behind the lines so far gives what all lines give
 abbrev pub invariant-loop-start : goal.invariant-loop-start

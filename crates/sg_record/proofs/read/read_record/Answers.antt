@@ -2,7 +2,7 @@ use Rattle.std.proofs.Common.{Some, ap, sym, subst, ◌∙◌}
 use Rattle.std.specs.Option.{option_map}
 use Rattle.sg_record.proofs.ReadLaw.{read_found, read_none, read_part, read_same}
 use Rattle.sg_record.proofs.read.read_record.Goals as goal
-use Rattle.sg_record.specs.Growing.{so_far}
+use Rattle.sg_record.specs.inside.Growing.{so_far}
 use Rattle.sg_record.specs.Laws.{IsTextOf}
 use Rattle.sg_record.specs.declared.record.Record.{Record}
 

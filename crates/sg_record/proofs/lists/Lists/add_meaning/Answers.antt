@@ -1,7 +1,7 @@
 use Rattle.std.proofs.Common.{ℕ, List, ap, refl, take}
 use Rattle.sg_record.proofs.Growing.{grows_ballots}
 use Rattle.sg_record.proofs.lists.Lists.add_meaning.Goals as goal
-use Rattle.sg_record.specs.Gathering.{last_with, with_over, with_paper}
+use Rattle.sg_record.specs.inside.Gathering.{last_with, with_over, with_paper}
 
 pub returns-in-Over : goal.returns-in-Over
 returns-in-Over c =

@@ -5,7 +5,7 @@ use Rattle.sg_grammar.specs.Spots.{placed_at}
 use Rattle.sg_plan.specs.declared.plan.Plan.{Plan}
 use Rattle.sg_record.proofs.Growing.{line_stops, line_taken, plan_line_taken}
 use Rattle.sg_record.proofs.read.Reading.take.Goals as goal
-use Rattle.sg_record.specs.Growing.{AddsTo}
+use Rattle.sg_record.specs.inside.Growing.{AddsTo}
 
 pub returns-in_default : goal.returns-in_default
 returns-in_default c = line_stops c.args.self.now.expect c.args.self.now.lists c.args.bytes.now (sym c.in_default.ensures.exact)

@@ -4,7 +4,7 @@ use Rattle.sg_plan.specs.declared.plan.Plan.{Plan}
 use Rattle.sg_forms.specs.Said.{Said}
 use Rattle.sg_grammar.specs.Placed.{Placed}
 use Rattle.sg_grammar.specs.Placed.Placed.{OfPlan}
-use Rattle.sg_record.specs.Gathering.{Gathered, added, blank, with_code, with_over, with_paper}
+use Rattle.sg_record.specs.inside.Gathering.{Gathered, added, blank, with_code, with_over, with_paper}
 use Rattle.sg_record.specs.declared.last.Addition.{Addition}
 use Rattle.sg_record.specs.declared.last.Addition.TheVariants as addition
 use Rattle.sg_record.specs.declared.lists.Lists.{Lists}
