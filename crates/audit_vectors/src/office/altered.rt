@@ -30,6 +30,7 @@ struct Halves {
 }
 
 /// An instance, with the code of each marked entry and the bit of each place.
+#[derive(Clone, Copy)]
 struct Instance<'a> {
     rows: &'a [Halves],
     flags: &'a [bool],
@@ -197,11 +198,11 @@ fn rows_of(
     openings: &[RowOpening],
 ) -> Result<Items<Halves>, NoMemory> {
     let mut rows = Items::new(alloc);
-    for (opening, row) in openings.iter().zip(0u32..) {
+    for (row, opening) in openings.iter().enumerate() {
         rows.push(match completion {
             Completion::Posted => halves_of(opening, None, None),
             Completion::Committed(exchange) => {
-                let left = left_pointer(instance, row);
+                let left = left_pointer(instance, row as u32);
                 let right = place_of(exchange, instance, left);
                 halves_of(opening, Some(left), Some(right))
             }
