@@ -3,22 +3,22 @@ use Rattle.std.proofs.Common.{◌≡◌, ℕ, ◌+◌, ◌<◌, ◌≤◌, List,
 use Rattle.std.specs.Prelude.{Option, false}
 use Rattle.std.specs.List.{concat}
 use Rattle.std.specs.Option.{option_map_or}
-use Rattle.std.specs.Io.KnownBytes.{Consumes, IsAtEnd, prepend_known}
+use Rattle.std.specs.Io.KnownBytes.{Consumes, IsAtEnd}
 use Rattle.sg_outside.specs.Cutting.{Cutting, to_come}
-use Rattle.sg_outside.specs.Faults.{Rose}
 use Rattle.sg_outside.specs.TextLines.{AreLines, HasNoFeed, IsLine, lines_of}
 use Rattle.sg_grammar.proofs.Walking.{walk-empty}
 use Rattle.sg_grammar.specs.Walk.{Walked, start}
 use Rattle.sg_outside.proofs.LineLemmas.{AreLines-append, lines_of-concat, lines_of-lines, lines_of-long, lines_of-part}
-use Rattle.sg_outside.proofs.StreamLemmas.{Consumes-nil, Consumes-trans}
+use Rattle.sg_outside.proofs.StreamLemmas.{Consumes-nil, Consumes-trans, Rose-later}
 use Rattle.sg_check.proofs.OneMore.{fine-empty}
 use Rattle.sg_check.specs.Verdict.{AreFine, IsVerdict}
 use Rattle.sg_check.specs.declared.judged.Judged.{Judged}
 use Rattle.sg_pass.specs.Pass.{StandsFor, is_behind_plan, is_open, is_ready}
 use Rattle.sg_pass.specs.inside.Taking.{is_behind}
 use Rattle.sg_pass.specs.declared.pass.Pass.{Pass}
-use Rattle.sg_app.specs.Audit.{Hears, Judges, TookHeader}
-use Rattle.sg_app.specs.Feeding.{IsFed}
+use Rattle.sg_app.specs.Audit.{Judges, TookHeader}
+use Rattle.sg_app.specs.inside.Ending.{Hears}
+use Rattle.sg_app.specs.inside.Feeding.{IsFed}
 use Rattle.sg_app.specs.declared.audit.Heard.{Heard}
 use Rattle.sg_app.specs.declared.audit.Heard.TheVariants as heard
 
@@ -55,15 +55,11 @@ fed-push pass next lines more before mid after fed is_line cut stands unbroken g
   limit = limit ∙ fed.limit;
 }
 
--- a count that rose later rose
-pub rose-later : (first mid last : ℕ) → first ≤ mid → Rose mid last → Rose first last
-rose-later first mid last le rose = omega (arith, le, rose)
-
 -- what is heard later, where the source has failed as often or more by then
 pub hears-later : (heard : Heard) (known after : Option (List ℕ)) (first mid last : ℕ) → first ≤ mid
     → Hears heard (record { bytes = known; faults = mid }) (record { bytes = after; faults = last }) → Hears heard (record { bytes = known; faults = first }) (record { bytes = after; faults = last })
 hears-later (heard.Verdict judged) known after first mid last le hears = hears
-hears-later heard.Fault known after first mid last le hears = (rose-later first mid last le hears.0, hears.1)
+hears-later heard.Fault known after first mid last le hears = (Rose-later first mid last le hears.0, hears.1)
 hears-later heard.NoMemory known after first mid last le hears = hears
 
 -- VERDICTS ON KNOWN BYTES
@@ -117,11 +113,6 @@ pub line-judged : (before mid after : Option (List ℕ)) (done : List (List ℕ)
 line-judged None mid after done line judged whole is_line p q verdict = tt
 line-judged (Some bytes) mid after done line judged whole is_line p q verdict =
     line-known bytes after done line judged whole is_line (line-taken (Some bytes) mid after done line p q) verdict
-
--- nothing is held at the end
-pub ended-prepend : (held : List ℕ) (left : Option (List ℕ)) → held ≡ [] → IsAtEnd left → IsAtEnd (prepend_known held left)
-ended-prepend held None none ended = tt
-ended-prepend held (Some rest) none ended = ap (λ l. l ++ rest) none ∙ ended
 
 -- at bytes without a line feed
 pub part-judged : (before mid after : Option (List ℕ)) (done : List (List ℕ)) (text : List ℕ) (judged : Judged)

@@ -1,4 +1,6 @@
+mod Endings
 mod Forms
+mod Headlines
 mod Judging
 mod Reporting
 mod Taking

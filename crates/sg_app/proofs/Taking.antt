@@ -17,7 +17,7 @@ use Rattle.sg_check.specs.declared.judged.Kind.{Kind}
 use Rattle.sg_pass.specs.Pass.{Judges as HasJudged}
 use Rattle.sg_pass.specs.declared.pass.Pass.{Pass}
 use Rattle.sg_app.specs.Audit.{HasRead, Judges, TookFine}
-use Rattle.sg_app.specs.Feeding.{IsFed}
+use Rattle.sg_app.specs.inside.Feeding.{IsFed}
 
 -- FINE LINES
 

@@ -3,8 +3,9 @@ use Rattle.std.specs.Prelude.{◌≡◌, ℕ, ◌+◌, ◌<◌, ◌≤◌, ◌�
 use Rattle.std.specs.List.{concat}
 use Rattle.std.specs.Io.KnownBytes.{Appends, Consumes, IsAtEnd, Keeps}
 use Rattle.sg_outside.specs.Faults.{Rose}
-use Rattle.sg_outside.specs.Streams.{AppendsFront}
+use Rattle.sg_outside.specs.Streams.{AppendsFront, Seen}
 use Rattle.sg_outside.specs.TextLines.{AreLines, HasNoFeed, lines_of}
+use Rattle.sg_check.specs.Bounds.{IsSound}
 use Rattle.sg_check.specs.Verdict.{AreFine, IsVerdict}
 use Rattle.sg_check.specs.declared.judged.Judged.{Judged}
 use Rattle.sg_check.specs.declared.judged.Judged.TheVariants.{Yes, No}
@@ -12,19 +13,15 @@ use Rattle.sg_check.specs.declared.judged.Kind.{Kind}
 use Rattle.sg_check.specs.declared.judged.Total.{Total}
 use Rattle.sg_pass.specs.Pass.{is_behind_plan}
 use Rattle.sg_app.specs.Report.{report_of}
-use Rattle.sg_app.specs.declared.audit.Ending.{Ending}
-use Rattle.sg_app.specs.declared.audit.Ending.TheVariants as ending
-use Rattle.sg_app.specs.declared.audit.Heard.{Heard}
-use Rattle.sg_app.specs.declared.audit.Heard.TheVariants as heard
-
--- a source or a sink at a moment: its bytes, where it tells them, and how often it has failed
-pub record Seen : Type 0 where
-  pub bytes : Option (List ℕ)
-  pub faults : ℕ
 
 -- where the source tells its bytes, this is the verdict on their lines
 abbrev pub Judges : Option (List ℕ) → Judged → Type 0
 Judges known judged = IfSome known (λ bytes. IsVerdict (lines_of bytes) judged)
+
+-- where the source tells its bytes, what a yes with these totals promises holds of their lines: the bound on altered rows,
+-- over every printing and every completion that opens no commitment twice
+abbrev pub AreSound : Option (List ℕ) → List Total → Type 0
+AreSound known totals = IfSome known (λ bytes. IsSound (lines_of bytes) totals)
 
 -- what was taken ends, where the bytes are told, fewer than 16,384 bytes behind the end of the line of this number; a
 -- number past the last line stands for that one
@@ -57,36 +54,14 @@ pub record TookHeader (before now : Option (List ℕ)) : Type 0 where
   pub few : length rest ≤ 16384
   pub taken : Consumes before now (concat done ++ rest)
 
--- what was heard of a source
-abbrev pub Hears : Heard → Seen → Seen → Type 0
-Hears (heard.Verdict judged) input input' = Judges input.bytes judged × HasRead judged input.bytes input'.bytes
-Hears heard.Fault input input' = Rose input.faults input'.faults × TookFine input.bytes input'.bytes
-Hears heard.NoMemory input input' = TookHeader input.bytes input'.bytes
-
--- the report of a verdict was written, or a front of it where the output failed
-abbrev pub Writes : Ending → Judged → Seen → Seen → Type 0
-Writes (ending.Done told) judged out out' = (told ≡ judged) × Appends out.bytes out'.bytes (report_of judged)
-Writes ending.ReadFault judged out out' = ⊥
-Writes (ending.WriteFault told) judged out out' = (told ≡ judged) × Rose out.faults out'.faults × AppendsFront out.bytes out'.bytes (report_of judged)
-Writes ending.NoMemory judged out out' = ⊥
-
--- how an audit ended: the input and the output, before and after it
-abbrev pub AuditEnds : Ending → Seen → Seen → Seen → Seen → Type 0
-AuditEnds (ending.Done judged) input input' out out' =
-    Judges input.bytes judged × HasRead judged input.bytes input'.bytes × Appends out.bytes out'.bytes (report_of judged)
-AuditEnds ending.ReadFault input input' out out' =
-    Rose input.faults input'.faults × TookFine input.bytes input'.bytes × Keeps out.bytes out'.bytes
-AuditEnds (ending.WriteFault judged) input input' out out' =
-    Judges input.bytes judged × Rose out.faults out'.faults × AppendsFront out.bytes out'.bytes (report_of judged)
-AuditEnds ending.NoMemory input input' out out' =
-    TookHeader input.bytes input'.bytes × Keeps out.bytes out'.bytes
-
 -- WHAT EACH STATUS SAYS
 
--- 0: the verdict on the input's bytes is yes, the input was read to its end, and the report was written whole
+-- 0: the verdict on the input's bytes is yes, and what it promises holds of the totals in the report; the input was read to
+-- its end, and the report was written whole
 pub record SaysYes (input input' out out' : Seen) : Type 0 where
   pub totals : List Total
   pub judged : Judges input.bytes (Yes totals)
+  pub sound : AreSound input.bytes totals
   pub read : IsAtEnd input'.bytes
   pub written : Appends out.bytes out'.bytes (report_of (Yes totals))
 
@@ -106,11 +81,13 @@ pub record ReadFails (input input' out out' : Seen) : Type 0 where
   pub taken : TookFine input.bytes input'.bytes
   pub written : Keeps out.bytes out'.bytes
 
--- 4: the output's count of faults rose, and a front of the verdict's report was written
-pub record WriteFails (input out out' : Seen) : Type 0 where
+-- 4: the output's count of faults rose; the input was read as far as the verdict on its bytes says, and a front of the
+-- verdict's report was written
+pub record WriteFails (input input' out out' : Seen) : Type 0 where
   pub cause : Rose out.faults out'.faults
   pub verdict : Judged
   pub judged : Judges input.bytes verdict
+  pub read : HasRead verdict input.bytes input'.bytes
   pub written : AppendsFront out.bytes out'.bytes (report_of verdict)
 
 -- 9: memory was wanted before the first line behind the plan was taken, and nothing was written
@@ -124,16 +101,5 @@ AuditSays status input input' out out' =
     ((status ≡ 0) × SaysYes input input' out out')
     ⊎ ((status ≡ 1) × SaysNo input input' out out')
     ⊎ ((status ≡ 3) × ReadFails input input' out out')
-    ⊎ ((status ≡ 4) × WriteFails input out out')
+    ⊎ ((status ≡ 4) × WriteFails input input' out out')
     ⊎ ((status ≡ 9) × WantsMemory input input' out out')
-
-abbrev pub status_of_verdict : Judged → ℕ
-status_of_verdict (Yes totals) = 0
-status_of_verdict (No line broken) = 1
-
--- 0: yes; 1: no; 3: a read failed; 4: a write failed; 9: memory was wanted
-abbrev pub status_in : Ending → ℕ
-status_in (ending.Done judged) = status_of_verdict judged
-status_in ending.ReadFault = 3
-status_in (ending.WriteFault judged) = 4
-status_in ending.NoMemory = 9

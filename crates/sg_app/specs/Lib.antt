@@ -1,4 +1,5 @@
 pub mod Audit
 pub mod Command
-pub mod Feeding
+pub mod Headline
 pub mod Report
+pub mod inside

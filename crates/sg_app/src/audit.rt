@@ -1,8 +1,10 @@
+//! The audit of a record: its lines, fed to a pass one by one, and the report of the verdict.
 ghost use Rattle.std.specs.Prelude.{◌≡◌, ℕ, List, [], Option, false, true};
 ghost use Rattle.sg_outside.specs.Cutting.{Cutting};
 ghost use Rattle.sg_pass.specs.Pass.{StandsFor, is_open, is_ready};
-ghost use Rattle.sg_app.specs.Audit.{AuditEnds, Hears, Seen, Writes, status_in, status_of_verdict};
-ghost use Rattle.sg_app.specs.Feeding.{IsFed, IsFedSome};
+ghost use Rattle.sg_outside.specs.Streams.{Seen};
+ghost use Rattle.sg_app.specs.inside.Ending.{AuditEnds, Hears, Writes, is_quiet, status_in, status_of_verdict};
+ghost use Rattle.sg_app.specs.inside.Feeding.{IsFed, IsFedSome};
 
 use crate::report::write_report;
 use sg_check::Judged;
@@ -61,8 +63,9 @@ fn verdict_status(judged: &Judged) -> u8
 
 /// Judges the record that the input gives, and writes the report.
 pub(crate) fn audit<S: Source, O: Sink>(alloc: Global, input: &mut S, out: &mut O) -> Ending
-    ensures { AuditEnds result (record { bytes = S.left input.old; faults = S.faults input.old }) (record { bytes = S.left input.new; faults = S.faults input.new })
+    ensures ends { AuditEnds result (record { bytes = S.left input.old; faults = S.faults input.old }) (record { bytes = S.left input.new; faults = S.faults input.new })
         (record { bytes = O.written out.old; faults = O.faults out.old }) (record { bytes = O.written out.new; faults = O.faults out.new }) }
+    ensures quiet { is_quiet result ≡ true → out.new ≡ out.old }
 {
     match hear(alloc, input) {
         Heard::Verdict(judged) => told(judged, out),
@@ -73,7 +76,8 @@ pub(crate) fn audit<S: Source, O: Sink>(alloc: Global, input: &mut S, out: &mut 
 
 /// Writes the report of a verdict.
 fn told<O: Sink>(judged: Judged, out: &mut O) -> Ending
-    ensures { Writes result judged (record { bytes = O.written out.old; faults = O.faults out.old }) (record { bytes = O.written out.new; faults = O.faults out.new }) }
+    ensures writes { Writes result judged (record { bytes = O.written out.old; faults = O.faults out.old }) (record { bytes = O.written out.new; faults = O.faults out.new }) }
+    ensures loud { is_quiet result ≡ false }
 {
     match write_report(out, &judged) {
         Ok(()) => Ending::Done(judged),

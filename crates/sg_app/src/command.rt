@@ -1,3 +1,4 @@
+//! The words after the program's name, and the command that they ask for.
 ghost use Rattle.std.specs.Prelude.{◌≡◌};
 ghost use Rattle.sg_app.specs.Command.{command_in, command_named};
 

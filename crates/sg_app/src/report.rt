@@ -1,3 +1,4 @@
+//! The report of a verdict, one put for each line.
 ghost use Rattle.std.specs.Prelude.{◌≡◌, ◌+◌, ◌≤◌, ◌∷◌, ◌++◌, [], length, take, codes, decimal};
 ghost use Rattle.sg_outside.specs.Faults.{HasCause};
 ghost use Rattle.sg_outside.specs.Streams.{PutAppends};

@@ -12,8 +12,8 @@ use Rattle.sg_forms.specs.declared.line.RowOpening.TheVariants as row
 use Rattle.sg_ledger.proofs.KeptSteps.{count-one, count-push, count-skip}
 use Rattle.sg_ledger.proofs.Lists.{any-push, given-push, given-skip, or-false}
 use Rattle.sg_ledger.proofs.Places.{entry_other, entry_place-end, entry_same, first-set, length-first, tells-set}
-use Rattle.sg_ledger.specs.Steps.{audit_counts_after, audited_after, both_counts_after, papers_after}
-use Rattle.sg_ledger.specs.Tables.{most_marks, with_first, with_firsts}
+use Rattle.sg_ledger.specs.inside.Steps.{audit_counts_after, audited_after, both_counts_after, papers_after}
+use Rattle.sg_ledger.specs.inside.Tables.{most_marks, with_first, with_firsts}
 use Rattle.sg_ledger.specs.Tells.{AtEntries, AtInstances, AtRaces, count_to, instance_place, opened_lefts}
 use Rattle.sg_plan.proofs.PlanLaws.{entry_place-below, entry_place-one, entry_tells}
 use Rattle.sg_plan.specs.Ballots.{all_entries, ballot_row, candidates_of, entries_of, entry_at, entry_place}

@@ -3,7 +3,7 @@ use Rattle.std.proofs.Common.{◌≡◌, ◌≢◌, ℕ, zero, suc, ◌+◌, ◌
 use Rattle.std.proofs.lemmas.Bool.{and_left, and_right, cases_Bool, cases_eq, cases_lt, lt-leb}
 use Rattle.sg_check.specs.Facts.{bit_at, votes_in}
 use Rattle.sg_ledger.proofs.Lists.{or-false, or-true}
-use Rattle.sg_ledger.specs.Tables.{most_votes, with_bits, with_one_more, with_votes}
+use Rattle.sg_ledger.specs.inside.Tables.{most_votes, with_bits, with_one_more, with_votes}
 
 pub length-bits : (table : List Bool) (at : ℕ) (bits : List ℕ) → length (with_bits table at bits) ≡ length table
 length-bits table at [] = refl

@@ -7,8 +7,8 @@ use Rattle.sg_check.specs.Facts.{bit_at, flags_row, is_flagged, is_set, sets_pla
 use Rattle.sg_ledger.proofs.BitLists.{bit_at-past, bits-at, is_one, votes-at}
 use Rattle.sg_ledger.proofs.Lists.{any-push, any-skip}
 use Rattle.sg_ledger.proofs.Places.{entry_place-end, row_place-end}
-use Rattle.sg_ledger.specs.Steps.{flagged_after, places_after, votes_after}
-use Rattle.sg_ledger.specs.Tables.{most_votes, with_one_more, with_votes}
+use Rattle.sg_ledger.specs.inside.Steps.{flagged_after, places_after, votes_after}
+use Rattle.sg_ledger.specs.inside.Tables.{most_votes, with_one_more, with_votes}
 use Rattle.sg_ledger.specs.Tells.{AtCandidates, AtEntries, AtRows, candidate_place}
 use Rattle.sg_plan.proofs.PlanLaws.{entry_place-one, row_place-one}
 use Rattle.sg_plan.specs.Ballots.{all_entries, candidates_of, entries_of, entry_place, r_rows, row_place}

@@ -6,7 +6,7 @@ use Rattle.sg_check.specs.Kinds.{bad_side, is_on_side}
 use Rattle.sg_forms.specs.Reading.{public_bytes as bytes_of_digits}
 use Rattle.sg_forms.specs.declared.line.RowOpening.{RowOpening}
 use Rattle.sg_ledger.proofs.Lists.{any-push, any-skip, given-push, given-skip, or-true}
-use Rattle.sg_ledger.specs.Steps.{claim_after, coins_after, full_after, with_shown}
+use Rattle.sg_ledger.specs.inside.Steps.{claim_after, coins_after, full_after, with_shown}
 use Rattle.sg_ledger.specs.Tells.{kept_of}
 use Rattle.sg_ledger.specs.declared.claims.Claimed.{Claimed}
 use Rattle.sg_plan.specs.declared.plan.ClaimWord.{ClaimWord}

@@ -16,8 +16,8 @@ use Rattle.sg_ledger.proofs.KeptSteps.{AgreesWith, TellsKnown, TellsMarks}
 use Rattle.sg_ledger.proofs.Lists.{any-along, any-none}
 use Rattle.sg_ledger.proofs.PathSteps.{are_small}
 use Rattle.sg_ledger.proofs.Places.{column_below, entry_one}
-use Rattle.sg_ledger.specs.Reads.{code_kind, row_kind}
-use Rattle.sg_ledger.specs.Tables.{leads_another, most_marks, shows_another}
+use Rattle.sg_ledger.specs.inside.Reads.{code_kind, row_kind}
+use Rattle.sg_ledger.specs.inside.Tables.{leads_another, most_marks, shows_another}
 use Rattle.sg_ledger.specs.Tells.{ArePlacedIn, TellsPaths, is_value, leads_entry, shows_entry}
 use Rattle.sg_plan.proofs.PlanLaws.{entry_tells}
 use Rattle.sg_plan.specs.Ballots.{ballot_has, candidates_of, entries_of, entry_at, entry_place, rows_of, votes_of}

@@ -11,8 +11,8 @@ use Rattle.sg_commit.specs.declared.Opening.{Opening}
 use Rattle.sg_forms.specs.declared.line.RowOpening.TheVariants as row
 use Rattle.sg_ledger.proofs.Lists.{any-along, any-push, any-skip, given-push, given-skip, or-false, or-true}
 use Rattle.sg_ledger.proofs.Places.{entry_one, entry_other, entry_same, first-set, row_other, row_same, tells-set}
-use Rattle.sg_ledger.specs.Steps.{codes_after, known_after, lefts_after, marked_after, marks_after, rights_after, seen_after, seen_lefts_after, seen_rights_after}
-use Rattle.sg_ledger.specs.Tables.{most_marks}
+use Rattle.sg_ledger.specs.inside.Steps.{codes_after, known_after, lefts_after, marked_after, marks_after, rights_after, seen_after, seen_lefts_after, seen_rights_after}
+use Rattle.sg_ledger.specs.inside.Tables.{most_marks}
 use Rattle.sg_ledger.specs.Tells.{ArePlacedIn, AtBallots, AtEntries, AtRows, is_value, shows_entry}
 use Rattle.sg_plan.proofs.PlanLaws.{entry_place-below, entry_place-one, entry_tells, row_place-below}
 use Rattle.sg_plan.specs.Ballots.{all_entries, ballot_has, candidates_of, entries_of, entry_at, entry_place, r_rows, row_place}

@@ -18,8 +18,8 @@ use Rattle.sg_ledger.proofs.Lists.{placed-push, totals-push}
 use Rattle.sg_ledger.proofs.PathSteps.{are_small, paths_step}
 use Rattle.sg_ledger.proofs.Places.{length-first}
 use Rattle.sg_grammar.specs.Meaning.{IsQuiet}
-use Rattle.sg_ledger.specs.Steps.{audit_counts_after, audited_after, both_counts_after, papers_after, codes_after, flagged_after, known_after, ledger_after, lefts_after, marked_after, marks_after, paths_after, places_after, rights_after, seen_after, seen_lefts_after, seen_rights_after, votes_after}
-use Rattle.sg_ledger.specs.Tables.{most_marks, with_one_more}
+use Rattle.sg_ledger.specs.inside.Steps.{audit_counts_after, audited_after, both_counts_after, papers_after, codes_after, flagged_after, known_after, ledger_after, lefts_after, marked_after, marks_after, paths_after, places_after, rights_after, seen_after, seen_lefts_after, seen_rights_after, votes_after}
+use Rattle.sg_ledger.specs.inside.Tables.{most_marks, with_one_more}
 use Rattle.sg_ledger.specs.Tells.{IsSized, Tells, candidate_place, instance_place, totals_kept, totals_placed}
 use Rattle.sg_ledger.specs.declared.ledger.Ledger.{Ledger}
 use Rattle.sg_plan.proofs.PlanLaws.{bounds}
@@ -109,6 +109,7 @@ both_counts_len table line = refl
 pub sized_after : (plan : Plan) (ledger : Ledger) (line : Placed) → IsSized plan ledger → IsSized plan (ledger_after plan ledger line)
 sized_after plan ledger line sized = record {
   sizes = sized.sizes;
+  index = sized.index;
   codes = codes_len plan ledger line ∙ sized.codes;
   lefts = lefts_len plan ledger line ∙ sized.lefts;
   rights = rights_len plan ledger line ∙ sized.rights;

@@ -1,5 +1,4 @@
 pub mod AuditSteps
-pub mod BallotRows
 pub mod BitLists
 pub mod BitSteps
 pub mod Digits

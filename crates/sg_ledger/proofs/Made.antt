@@ -7,7 +7,7 @@ use Rattle.std.specs.Option.{option_map}
 use Rattle.sg_forms.specs.Reading.{public_bytes as bytes_of_digits}
 use Rattle.sg_check.specs.Facts.{Claim, audits_entry, audits_race, commits_code, commits_left, commits_right, draws_digits, draws_full, flags_row, last_claim, marks_ballot, marks_entry, opens_both, opens_left, opens_right, sets_place, shows_paper, votes_for, votes_on}
 use Rattle.sg_ledger.proofs.Lists.{of_plan-any, of_plan-given, of_plan-placed, of_plan-sum, of_plan-totals}
-use Rattle.sg_ledger.specs.Tables.{most_marks, most_votes}
+use Rattle.sg_ledger.specs.inside.Tables.{most_marks, most_votes}
 use Rattle.sg_check.specs.Judging.{AreOfPlan, IsOfPlan}
 use Rattle.sg_ledger.specs.Tells.{AreSizes, IsSized, Tells, candidate_place, instance_place, kept_of, leads_entry, shows_entry}
 use Rattle.sg_ledger.specs.declared.ledger.Ledger.{Ledger}
@@ -22,6 +22,7 @@ use Rattle.sg_grammar.specs.Placed.Placed.{OfPlan}
 -- nothing is told in the tables
 pub record IsMade (plan : Plan) (ledger : Ledger) : Type 0 where
   pub sizes : AreSizes plan ledger.sizes
+  pub index : ledger.index ≡ plan
   pub codes : ledger.commitments.codes ≡ replicate (all_entries plan) None
   pub lefts : ledger.commitments.lefts ≡ replicate (r_rows plan) None
   pub rights : ledger.commitments.rights ≡ replicate (r_rows plan) None
@@ -52,6 +53,7 @@ holds {A} table count value place none is below = ap (λ (t : List A). get_or t 
 pub made_sized : (plan : Plan) (ledger : Ledger) → IsMade plan ledger → IsSized plan ledger
 made_sized plan ledger made = record {
   sizes = made.sizes;
+  index = made.index;
   codes = sized ledger.commitments.codes (all_entries plan) None made.codes;
   lefts = sized ledger.commitments.lefts (r_rows plan) None made.lefts;
   rights = sized ledger.commitments.rights (r_rows plan) None made.rights;

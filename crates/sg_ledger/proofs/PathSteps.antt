@@ -8,7 +8,7 @@ use Rattle.sg_forms.specs.declared.line.RowOpening.TheVariants as row
 use Rattle.sg_ledger.proofs.KeptSteps.{AgreesWith}
 use Rattle.sg_ledger.proofs.Lists.{any-along, any-push, any-skip}
 use Rattle.sg_ledger.proofs.Places.{entry_other, entry_same, tells-set}
-use Rattle.sg_ledger.specs.Steps.{paths_after}
+use Rattle.sg_ledger.specs.inside.Steps.{paths_after}
 use Rattle.sg_ledger.specs.Tells.{ArePlacedIn, TellsPaths, is_value, leads_entry, leads_to}
 use Rattle.sg_plan.proofs.PlanLaws.{entry_place-below}
 use Rattle.sg_plan.specs.Ballots.{all_entries, entries_of, entry_place}

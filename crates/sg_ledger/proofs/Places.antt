@@ -5,7 +5,7 @@ use Rattle.std.proofs.lemmas.Nat.{div-add-mod', div_below, mul-add-lt, mul-le}
 use Rattle.std.proofs.lemmas.Option.{same_Some}
 use Rattle.std.specs.Option.{option_or}
 use Rattle.sg_ledger.proofs.Lists.{option_or-none}
-use Rattle.sg_ledger.specs.Tables.{with_first}
+use Rattle.sg_ledger.specs.inside.Tables.{with_first}
 use Rattle.sg_plan.proofs.PlanLaws.{entries_before-more, entry_place-one, entry_tells, row_place-one, rows_are_one}
 use Rattle.sg_plan.specs.Ballots.{all_entries, ballot_has, candidates_of, entries_before, entries_of, entry_at, entry_in, entry_place, r_rows, row_place, rows_of}
 use Rattle.sg_plan.specs.declared.plan.Plan.{Plan}

@@ -20,7 +20,7 @@ use Rattle.sg_ledger.proofs.KeptSteps.{TellsKnown, TellsMarked}
 use Rattle.sg_ledger.proofs.Lists.{any-by, any-none, given-any}
 use Rattle.sg_ledger.proofs.PathSteps.{are_small}
 use Rattle.sg_ledger.proofs.Places.{column_below, entry_one}
-use Rattle.sg_ledger.specs.Reads.{beside, is_same_code, reads_another}
+use Rattle.sg_ledger.specs.inside.Reads.{beside, is_same_code, reads_another}
 use Rattle.sg_ledger.specs.Tells.{ArePlacedIn, is_value, kept_of, opened_lefts, shows_entry}
 use Rattle.sg_ledger.specs.declared.claims.Claimed.{Claimed}
 use Rattle.sg_plan.proofs.PlanLaws.{entry_tells}

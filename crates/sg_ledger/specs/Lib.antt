@@ -1,4 +1,2 @@
-pub mod Reads
-pub mod Steps
-pub mod Tables
 pub mod Tells
+pub mod inside

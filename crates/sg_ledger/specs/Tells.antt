@@ -8,7 +8,7 @@ use Rattle.sg_check.specs.declared.judged.Total.{Total}
 use Rattle.sg_forms.specs.Spelling.{AreDigits}
 use Rattle.sg_forms.specs.declared.line.RowOpening.{RowOpening}
 use Rattle.sg_forms.specs.declared.line.RowOpening.TheVariants as row
-use Rattle.sg_ledger.specs.Tables.{most_marks, most_votes, rows_before}
+use Rattle.sg_ledger.specs.inside.Tables.{most_marks, most_votes}
 use Rattle.sg_ledger.specs.declared.audits.Audits.{Audits}
 use Rattle.sg_ledger.specs.declared.bits.Bits.{Bits}
 use Rattle.sg_ledger.specs.declared.claims.Claimed.{Claimed}
@@ -18,7 +18,7 @@ use Rattle.sg_ledger.specs.declared.drawn.Drawn.{Drawn}
 use Rattle.sg_ledger.specs.declared.ledger.Ledger.{Ledger}
 use Rattle.sg_ledger.specs.declared.pointers.Pointers.{Pointers}
 use Rattle.sg_ledger.specs.declared.sizes.Sizes.{Sizes}
-use Rattle.sg_plan.specs.Ballots.{all_entries, ballot_has, ballot_styles, ballots_of, candidates_of, entries_before, entries_of, entry_at, entry_place, r_rows, row_place, style_has}
+use Rattle.sg_plan.specs.Ballots.{all_entries, ballot_has, candidates_of, entries_before, entries_of, entry_at, entry_place, r_rows, row_place}
 use Rattle.sg_plan.specs.declared.plan.Plan.{Plan}
 use Rattle.sg_grammar.specs.Placed.{Placed}
 use Rattle.sg_grammar.specs.Placed.Placed.{CodeAt, DrawnPublic, RowAt}
@@ -112,25 +112,18 @@ abbrev pub AtInstances : Plan → List ℕ → (ℕ → ℕ → ℕ → Type 0) 
 AtInstances plan table fact = (race instance : ℕ) → race < length plan.races → instance < plan.instances
     → fact race instance (slice_index_or table (instance_place race instance) 0)
 
--- of each of so many races, the ballot rows of all ballots; where a ballot does not have the race, that of the next
--- ballot that has it
-abbrev pub rows_to : Plan → ℕ → List ℕ
-rows_to plan zero = []
-rows_to plan (suc race) = rows_to plan race ++ rows_before (style_has plan race) 0 (ballot_styles plan.runs)
-
--- how many entries come before those of each race, and how many it has; and the ballot rows
+-- how many entries come before those of each race, and how many it has
 pub record AreSizes (plan : Plan) (sizes : Sizes) : Type 0 where
   pub befores : length sizes.before ≡ length plan.races
   pub counts : length sizes.entries ≡ length plan.races
   pub before : (race : ℕ) → race < length plan.races → slice_get sizes.before race ≡ Some (entries_before plan race)
   pub count : (race : ℕ) → race < length plan.races → slice_get sizes.entries race ≡ Some (entries_of plan race)
   pub all : sizes.all ≡ all_entries plan
-  pub ballots : sizes.ballots ≡ ballots_of plan
-  pub rows : sizes.rows ≡ rows_to plan (length plan.races)
 
--- each table has a place for each coordinate
+-- each table has a place for each coordinate, and the index is that of the plan
 pub record IsSized (plan : Plan) (ledger : Ledger) : Type 0 where
   pub sizes : AreSizes plan ledger.sizes
+  pub index : ledger.index ≡ plan
   pub codes : length ledger.commitments.codes ≡ all_entries plan
   pub lefts : length ledger.commitments.lefts ≡ r_rows plan
   pub rights : length ledger.commitments.rights ≡ r_rows plan

@@ -4,13 +4,13 @@ ghost use Rattle.std.specs.List.{list_any};
 ghost use Rattle.sg_grammar.specs.Lines.{is_audit};
 ghost use Rattle.sg_check.specs.Facts.{is_both};
 ghost use Rattle.sg_check.specs.Kinds.{has_repeat};
-ghost use Rattle.sg_ledger.specs.Reads.{is_same_code, reads_another};
-ghost use Rattle.sg_ledger.specs.Tables.{most_marks, with_one_more};
+ghost use Rattle.sg_ledger.specs.inside.Reads.{is_same_code, reads_another};
+ghost use Rattle.sg_ledger.specs.inside.Tables.{most_marks, with_one_more};
 ghost use Rattle.sg_ledger.specs.Tells.{AreSizes};
 ghost use Rattle.sg_plan.specs.Ballots.{all_entries};
 ghost use Rattle.sg_plan.specs.Limits.{fault_of};
 
-use crate::sizes::{Sizes, count_candidates};
+use crate::sizes::Sizes;
 use crate::tables::{count_mark, look};
 use sg_forms::RowOpening;
 use sg_grammar::Block;
@@ -138,7 +138,7 @@ pub fn is_paper_wrong(
     if right.value >= entries {
         return false;
     }
-    let candidates = count_candidates(plan, race) as u32;
+    let candidates = plan.candidates(race) as u32;
     let beside = left.value - left.value % candidates + right.value % candidates;
     let at = sizes.entry_place(plan, race, left.value);
     let paper = look(&audits.papers, sizes.entry_place(plan, race, beside));

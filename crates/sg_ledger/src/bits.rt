@@ -2,7 +2,7 @@
 ghost use Rattle.std.specs.Prelude.{◌≡◌, ℕ, ◌+◌, ◌<◌, ◌≤◌, ◌^◌, ◌&&◌, nat_lt, IfOk, None, false, length, replicate, slice_index_or};
 ghost use Rattle.std.specs.Option.{option_map_or};
 ghost use Rattle.sg_check.specs.Kinds.{differ};
-ghost use Rattle.sg_ledger.specs.Tables.{with_bits, with_votes};
+ghost use Rattle.sg_ledger.specs.inside.Tables.{with_bits, with_votes};
 ghost use Rattle.sg_ledger.specs.Tells.{AreSizes};
 ghost use Rattle.sg_plan.specs.Ballots.{all_entries, entries_of, entry_place};
 

@@ -3,7 +3,7 @@ ghost use Rattle.std.specs.Prelude.{◌≡◌};
 ghost use Rattle.std.specs.Option.{option_map};
 ghost use Rattle.sg_grammar.specs.Lines.{is_dispute};
 ghost use Rattle.sg_check.specs.Kinds.{is_right};
-ghost use Rattle.sg_ledger.specs.Steps.{with_shown};
+ghost use Rattle.sg_ledger.specs.inside.Steps.{with_shown};
 
 use sg_grammar::Block;
 use sg_plan::ClaimWord;

@@ -2,7 +2,7 @@
 ghost use Rattle.std.specs.Prelude.{◌≡◌, ℕ, ◌+◌, ◌<◌, ◌≤◌, ◌^◌, ◌&&◌, if◌then◌else◌, IfOk, true, false, nat_le, nat_lt, length, replicate, slice_index_or, slice_set};
 ghost use Rattle.sg_grammar.specs.Lines.{is_cast};
 ghost use Rattle.sg_check.specs.Kinds.{is_there};
-ghost use Rattle.sg_ledger.specs.Tables.{most_marks, shows_another, with_one_more};
+ghost use Rattle.sg_ledger.specs.inside.Tables.{most_marks, shows_another, with_one_more};
 
 use crate::tables::{count_mark, look};
 use sg_grammar::Block;

@@ -2,7 +2,7 @@
 ghost use Rattle.std.specs.Prelude.{◌≡◌, ◌<◌, ◌^◌, ◌||◌, IfOk, not, length, replicate, slice_index_or};
 ghost use Rattle.sg_check.specs.Facts.{left_of, right_of};
 ghost use Rattle.sg_check.specs.Kinds.{bad_pointer_opening, code_opening, opens_digest};
-ghost use Rattle.sg_ledger.specs.Tables.{with_first};
+ghost use Rattle.sg_ledger.specs.inside.Tables.{with_first};
 
 use crate::tables::{look, put_first};
 use sg_commit::{CommitKind, Digest, Opening, opens};

@@ -11,10 +11,8 @@ use crate::audits::are_both;
 use crate::coins::Walk;
 use sg_forms::{RowOpening, draw_bytes};
 use sg_plan::Side;
+use sg_plan::limits::MOST_PUBLIC_BYTES;
 use sg_streams::{Seed, coin_key};
-
-/// The most public bytes.
-const MOST: usize = 4096;
 
 /// Whether both sides of each row are drawn, and the coins, where public bytes were drawn.
 #[derive(Debug, Drop)]
@@ -102,7 +100,7 @@ fn seed_of(digits: &[u8]) -> Seed
     requires { AreDigits digits.now }
     ensures { result.0 ≡ coin_seed (bytes_of_digits digits.now) }
 {
-    let mut bytes = [0; MOST];
+    let mut bytes = [0; MOST_PUBLIC_BYTES];
     let count = draw_bytes(digits, &mut bytes);
     coin_key(&bytes[..count])
 }

@@ -4,8 +4,8 @@ ghost use Rattle.sg_check.specs.Kinds.{bad_dispute, bad_flag, bad_opening, bad_p
 ghost use Rattle.sg_check.specs.Verdict.{total_on};
 ghost use Rattle.sg_forms.specs.Said.{said};
 ghost use Rattle.sg_forms.specs.Spelling.{AreDigits};
-ghost use Rattle.sg_ledger.specs.Reads.{code_kind, row_kind, rule_kind};
-ghost use Rattle.sg_ledger.specs.Tables.{most_totals};
+ghost use Rattle.sg_ledger.specs.inside.Reads.{code_kind, row_kind, rule_kind};
+ghost use Rattle.sg_ledger.specs.inside.Tables.{most_totals};
 ghost use Rattle.sg_plan.specs.Ballots.{candidates_of, entry_at, entry_place, r_rows, row_place};
 ghost use Rattle.sg_plan.specs.Limits.{fault_of};
 ghost use Rattle.sg_plan.specs.declared.plan.Plan.{Plan as PlanOf};
@@ -21,26 +21,29 @@ use crate::commitments::{Commitments, left_opening, right_opening};
 use crate::drawn::Drawn;
 use crate::paths::{is_path_bad, keep_path};
 use crate::pointers::{Pointers, is_pointer_bad, keep_pointer};
-use crate::sizes::{Sizes, count_candidates, count_votes};
+use crate::sizes::{Sizes, first_entry};
 use crate::tables::{look, put_first, put_firsts, set_bits};
 use crate::totals::Totals;
 use sg_check::{Kind, Total};
 use sg_commit::Digest;
 use sg_forms::{CodeLine, Line, RowOpening};
-use sg_grammar::{Block, Spot, Meaning, meaning_of};
-use sg_plan::{ClaimWord, Items, NoMemory, Plan};
+use sg_grammar::{Block, Meaning, Spot, meaning_of};
+use sg_plan::limits::{MOST_CANDIDATES, MOST_INSTANCES};
+use sg_plan::{BallotIndex, ClaimWord, Items, NoMemory, Plan};
 use std::alloc::Global;
 
 /// How many places the table of votes has for each race: the most candidates of a race.
-const CANDIDATES: usize = 16;
+const CANDIDATES: usize = MOST_CANDIDATES;
 
 /// How many places the count of rows opened on both sides has for each race: the most instances.
-const INSTANCES: usize = 16;
+const INSTANCES: usize = MOST_INSTANCES as usize;
 
 /// What the lines of a record have said so far.
 #[derive(Debug, Drop)]
 pub struct Ledger {
     sizes: Sizes,
+    /// The ballots of the plan.
+    index: BallotIndex,
     commitments: Commitments,
     codes: Codes,
     bits: Bits,
@@ -55,7 +58,7 @@ pub struct Ledger {
 }
 
 impl Ledger {
-    ghost use Rattle.sg_ledger.specs.Steps.{ledger_after};
+    ghost use Rattle.sg_ledger.specs.inside.Steps.{ledger_after};
     ghost use Rattle.sg_check.specs.Judging.{AreOfPlan};
     ghost use Rattle.sg_ledger.specs.Tells.{HasDigits, IsSized, Tells, TellsSome, totals_kept, totals_placed};
 
@@ -76,8 +79,10 @@ impl Ledger {
         let audits = Audits::make(alloc, entries, races, INSTANCES * races)?;
         let drawn = Drawn::make();
         let totals = Totals::make(alloc)?;
+        let index = BallotIndex::make(alloc, plan)?;
         Ok(Ledger {
             sizes,
+            index,
             commitments,
             codes,
             bits,
@@ -156,14 +161,14 @@ impl Ledger {
         requires sized { IsSized plan.now self.now }
         ensures { (lines : List Placed) → Tells plan.now self.now lines → result ≡ first_bad plan.now lines (CodeAt block ballot race column code.now) }
     {
-        let first = self.sizes.first_entry(plan, race, ballot);
+        let first = first_entry(&self.index, plan, race, ballot);
         let at = self.sizes.entry_place(plan, race, first);
         let own = at + column as usize;
         let opening = self
             .commitments
             .is_code_bad(own, race, first + column, code);
-        let many = self.codes.has_enough(block, at, count_votes(plan, race));
-        let candidates = count_candidates(plan, race);
+        let many = self.codes.has_enough(block, at, plan.votes(race));
+        let candidates = plan.candidates(race);
         let against = self
             .codes
             .are_against(at, candidates, column as usize, code.code);
@@ -191,7 +196,7 @@ impl Ledger {
         if !is_dispute(block) {
             return false;
         }
-        let candidates = count_candidates(plan, race);
+        let candidates = plan.candidates(race);
         if column as usize + 1 != candidates {
             return false;
         }
@@ -210,7 +215,7 @@ impl Ledger {
         requires sized { IsSized plan.now self.now }
         ensures { (lines : List Placed) → Tells plan.now self.now lines → result ≡ first_bad plan.now lines (OverAt ballot race) }
     {
-        let first = self.sizes.first_entry(plan, race, ballot);
+        let first = first_entry(&self.index, plan, race, ballot);
         let at = self.sizes.entry_place(plan, race, first);
         kind_of_rule(self.codes.has_mark(at))
     }
@@ -228,7 +233,7 @@ impl Ledger {
         requires placed { IsPlacedIn plan.now (PaperAt ballot race (take count codes.now)) }
         ensures { (lines : List Placed) → Tells plan.now self.now lines → result ≡ first_bad plan.now lines (PaperAt ballot race (take count codes.now)) }
     {
-        let candidates = count_candidates(plan, race);
+        let candidates = plan.candidates(race);
         kind_of_rule(has_repeat(&codes[..candidates]))
     }
 
@@ -497,7 +502,7 @@ impl Ledger {
         requires sized { IsSized plan.now self.old }
         ensures { self.new ≡ ledger_after plan.now self.old (CodeAt block ballot race column code.now) }
     {
-        let first = self.sizes.first_entry(plan, race, ballot);
+        let first = first_entry(&self.index, plan, race, ballot);
         let at = self.sizes.entry_place(plan, race, first);
         let own = at + column as usize;
         self.codes.keep(block, at, column as usize, code.code);
@@ -512,9 +517,9 @@ impl Ledger {
         requires sized { IsSized plan.now self.old }
         ensures { self.new ≡ ledger_after plan.now self.old (PaperAt ballot race (take count codes.now)) }
     {
-        let first = self.sizes.first_entry(plan, race, ballot);
+        let first = first_entry(&self.index, plan, race, ballot);
         let at = self.sizes.entry_place(plan, race, first);
-        let candidates = count_candidates(plan, race);
+        let candidates = plan.candidates(race);
         put_firsts(&mut self.audits.papers, at, &codes[..candidates]);
     }
 
@@ -538,7 +543,7 @@ impl Ledger {
     {
         let at = self.sizes.entry_place(plan, race, from);
         let first = CANDIDATES * race as usize;
-        let candidates = count_candidates(plan, race);
+        let candidates = plan.candidates(race);
         self.bits
             .keep_places(at, first, candidates, from as usize, bits);
     }

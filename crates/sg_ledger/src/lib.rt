@@ -14,7 +14,6 @@ mod drawn;
 mod ledger;
 mod paths;
 mod pointers;
-mod rows;
 mod sizes;
 mod tables;
 #[cfg(test)]

@@ -1,14 +1,14 @@
 //! Where rows lead the ballots' entries.
 ghost use Rattle.std.specs.Prelude.{◌≡◌, ℕ, ◌+◌, ◌<◌, ◌≤◌, ◌^◌, None, List, false, true, length, slice_index_or};
 ghost use Rattle.sg_check.specs.Kinds.{bad_path_of};
-ghost use Rattle.sg_ledger.specs.Steps.{path_after};
-ghost use Rattle.sg_ledger.specs.Tables.{leads_another};
+ghost use Rattle.sg_ledger.specs.inside.Steps.{path_after};
+ghost use Rattle.sg_ledger.specs.inside.Tables.{leads_another};
 ghost use Rattle.sg_ledger.specs.Tells.{AreSizes, ArePlacedIn, TellsPaths};
 ghost use Rattle.sg_plan.specs.Ballots.{all_entries};
 ghost use Rattle.sg_plan.specs.Limits.{fault_of};
 ghost use Rattle.sg_grammar.specs.Placed.{Placed};
 
-use crate::sizes::{Sizes, count_candidates};
+use crate::sizes::Sizes;
 use crate::tables::look;
 use sg_forms::RowOpening;
 use sg_plan::{Items, Plan};
@@ -37,7 +37,7 @@ pub fn is_path_bad(
     if right.value >= entries {
         return false;
     }
-    let candidates = count_candidates(plan, race) as u32;
+    let candidates = plan.candidates(race) as u32;
     let first = left.value - left.value % candidates;
     let at = sizes.entry_place(plan, race, first);
     are_against(paths, at, candidates, first, left.value, right.value)

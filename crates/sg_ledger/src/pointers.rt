@@ -1,7 +1,7 @@
 //! Pointers that are opened.
 ghost use Rattle.std.specs.Prelude.{◌≡◌, ◌<◌, ◌||◌, nat_le, IfOk, None, false, length, replicate, slice_index_or};
 ghost use Rattle.std.specs.Option.{option_map_or};
-ghost use Rattle.sg_ledger.specs.Steps.{seen_after};
+ghost use Rattle.sg_ledger.specs.inside.Steps.{seen_after};
 ghost use Rattle.sg_ledger.specs.Tells.{AreSizes};
 ghost use Rattle.sg_plan.specs.Ballots.{entries_of, r_rows, row_place};
 ghost use Rattle.sg_plan.specs.Limits.{fault_of};

@@ -1,10 +1,9 @@
 //! How large the races are, and where a coordinate stands in a flat table.
 ghost use Rattle.std.specs.Prelude.{◌≡◌, ◌+◌, ◌<◌, ◌≤◌, IfOk, None, length, true};
-ghost use Rattle.sg_plan.specs.Ballots.{all_entries, ballot_has, candidates_of, entries_of, entry_at, entry_place, r_rows, row_place, votes_of};
+ghost use Rattle.sg_plan.specs.Ballots.{all_entries, ballot_has, candidates_of, entries_of, entry_at, entry_place, r_rows, row_place};
 ghost use Rattle.sg_plan.specs.Limits.{fault_of};
 
-use crate::rows::rows_of_races;
-use sg_plan::{Items, NoMemory, Plan};
+use sg_plan::{BallotIndex, Items, NoMemory, Plan};
 use std::alloc::Global;
 
 /// How many entries the races have, so that a place in a table is found in constant time.
@@ -16,10 +15,6 @@ pub struct Sizes {
     entries: Items<u32>,
     /// How many entries all races have.
     all: u32,
-    /// How many ballots the plan has.
-    ballots: u32,
-    /// The ballot rows of all ballots in each race.
-    rows: Items<u16>,
 }
 
 impl Sizes {
@@ -30,9 +25,8 @@ impl Sizes {
         requires good { fault_of plan.now ≡ None }
         ensures { IfOk result (λ sizes. AreSizes plan.now sizes) }
     {
-        let rows = rows_of_races(alloc, plan)?;
-        let mut before = Items::new(alloc);
-        let mut entries = Items::new(alloc);
+        let mut before = Items::with_room(alloc, plan.races.len())?;
+        let mut entries = Items::with_room(alloc, plan.races.len())?;
         let mut all = 0;
         for race in 0..plan.races.len() {
             let count = plan.entries(race as u32);
@@ -44,8 +38,6 @@ impl Sizes {
             before,
             entries,
             all,
-            ballots: plan.ballots(),
-            rows,
         })
     }
 
@@ -75,20 +67,6 @@ impl Sizes {
         *self.entries.get(race as usize)
     }
 
-    /// The first entry of the ballot in the race.
-    pub fn first_entry(&self, plan: &Plan, race: u32, ballot: u32) -> u32
-        requires good { fault_of plan.now ≡ None }
-        requires sizes { AreSizes plan.now self.now }
-        requires race { race < length plan.now.races }
-        requires has { ballot_has plan.now ballot race ≡ true }
-        ensures first { result ≡ entry_at plan.now race ballot 0 }
-        ensures within { result + candidates_of plan.now race ≤ entries_of plan.now race }
-    {
-        let at = race as usize * self.ballots as usize + (ballot as usize - 1);
-        let row = u32::from(*self.rows.get(at));
-        row * count_candidates(plan, race) as u32
-    }
-
     /// Where the entry stands in a table of all entries.
     pub fn entry_place(&self, plan: &Plan, race: u32, entry: u32) -> usize
         requires sizes { AreSizes plan.now self.now }
@@ -116,18 +94,15 @@ impl Sizes {
     }
 }
 
-/// How many candidates the race has.
-pub fn count_candidates(plan: &Plan, race: u32) -> usize
-    requires { race < length plan.now.races }
-    ensures { result ≡ candidates_of plan.now race }
+/// The first entry of the ballot in the race.
+pub fn first_entry(index: &BallotIndex, plan: &Plan, race: u32, ballot: u32) -> u32
+    requires good { fault_of plan.now ≡ None }
+    requires index { index.now ≡ plan.now }
+    requires race { race < length plan.now.races }
+    requires has { ballot_has plan.now ballot race ≡ true }
+    ensures first { result ≡ entry_at plan.now race ballot 0 }
+    ensures within { result + candidates_of plan.now race ≤ entries_of plan.now race }
 {
-    plan.races.get(race as usize).candidates.len()
-}
-
-/// How many votes a voter has in the race.
-pub fn count_votes(plan: &Plan, race: u32) -> u32
-    requires { race < length plan.now.races }
-    ensures { result ≡ votes_of plan.now race }
-{
-    plan.races.get(race as usize).votes
+    let row = index.row(race, ballot);
+    row * plan.candidates(race) as u32
 }

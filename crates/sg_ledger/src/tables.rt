@@ -1,6 +1,6 @@
 //! Small steps on one flat table.
 ghost use Rattle.std.specs.Prelude.{◌≡◌, ◌+◌, ◌<◌, ◌≤◌, ◌^◌, length, slice_index_or};
-ghost use Rattle.sg_ledger.specs.Tables.{most_marks, most_votes, with_bits, with_first, with_firsts, with_one_more};
+ghost use Rattle.sg_ledger.specs.inside.Tables.{most_marks, most_votes, with_bits, with_first, with_firsts, with_one_more};
 
 use sg_plan::Items;
 

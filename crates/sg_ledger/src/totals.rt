@@ -1,14 +1,15 @@
 //! Totals, in a list whose room is taken at its start.
 ghost use Rattle.std.specs.Prelude.{◌≡◌, [], ◌∷◌, ◌++◌, ◌<◌, ◌≤◌, IfOk, length, take};
-ghost use Rattle.sg_ledger.specs.Tables.{most_totals};
+ghost use Rattle.sg_ledger.specs.inside.Tables.{most_totals};
 
 use sg_check::Total;
+use sg_plan::limits::{MOST_CANDIDATES, MOST_RACES};
 use sg_plan::{Items, NoMemory};
 use std::alloc::Global;
 use std::marker::Model;
 
-/// The most totals of a plan: 32 races of 16 candidates.
-const MOST: usize = 512;
+/// The most totals of a plan: one for each candidate of each race.
+const MOST: usize = MOST_RACES * MOST_CANDIDATES;
 
 /// A list of totals, with room for the most that a plan has.
 #[derive(Debug, Drop)]
@@ -22,7 +23,7 @@ pub struct Totals {
 impl Model for Totals {
     ghost use Rattle.std.specs.Prelude.{◌≡◌, ◌≤◌, List, length, take};
     ghost use Rattle.sg_check.specs.declared.judged.Total.{Total};
-    ghost use Rattle.sg_ledger.specs.Tables.{most_totals};
+    ghost use Rattle.sg_ledger.specs.inside.Tables.{most_totals};
 
     ghost Value = { List Total };
 

@@ -1,8 +1,10 @@
 //! The program: the real input and output, and `main`.
 #![tactic(auto)]
 
+mod causes;
 mod streams;
 
+use causes::say_why;
 use sg_app::run;
 use sg_plan::{Items, NoMemory, Word};
 use std::process::ExitCode;
@@ -55,15 +57,13 @@ fn words_of(rt: &HostRuntime) -> Result<Items<Word>, WordFault> {
 }
 
 fn main(rt: HostRuntime) -> ExitCode {
+    let mut input = StdSource::new(rt.stdin());
+    let mut out = StdSink::new(rt.stdout());
     let status = match words_of(&rt) {
-        Ok(words) => run(
-            rt.alloc(),
-            &words,
-            &mut StdSource::new(rt.stdin()),
-            &mut StdSink::new(rt.stdout()),
-        ),
+        Ok(words) => run(rt.alloc(), &words, &mut input, &mut out),
         Err(WordFault::NotText) => BAD_WORDS,
         Err(WordFault::NoMemory) => WANT_OF_MEMORY,
     };
+    say_why(&rt, status, &input, &out);
     ExitCode::from(status)
 }

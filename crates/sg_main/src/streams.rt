@@ -1,14 +1,15 @@
-//! Standard input and output. They count their faults, and tell nothing of their bytes.
-ghost use Rattle.std.specs.Prelude.{◌≡◌, ◌≤◌, None, length};
+//! Standard input and output. They count their faults, keep the cause of the last one, and tell nothing of their bytes.
+ghost use Rattle.std.specs.Prelude.{◌≡◌, ◌≤◌, None, IfOk, length};
 
 use sg_outside::{Failed, Sink, Source};
-use std::io::{Read, Stdin, Stdout, Write};
+use std::io::{self, ErrorKind, Read, Stdin, Stdout, Write};
 
 /// Standard input.
 #[derive(Drop)]
 pub struct StdSource {
     stdin: Stdin,
     faults: u64,
+    cause: Option<io::Error>,
 }
 
 impl StdSource {
@@ -16,7 +17,16 @@ impl StdSource {
     pub fn new(stdin: Stdin) -> StdSource
         ensures { result.faults ≡ 0 }
     {
-        StdSource { stdin, faults: 0 }
+        StdSource {
+            stdin,
+            faults: 0,
+            cause: None,
+        }
+    }
+
+    /// What the system said of the last read that failed.
+    pub fn cause(&self) -> Option<&io::Error> {
+        self.cause.as_ref()
     }
 }
 
@@ -26,14 +36,29 @@ impl Source for StdSource {
     ghost faults = { λ source. source.faults };
 
     fn read(&mut self, buf: &mut [u8]) -> Result<usize, Failed> {
-        match self.stdin.read(buf) {
+        match read_on(&mut self.stdin, buf) {
             Ok(count) => Ok(count),
-            Err(_) => {
+            Err(error) => {
                 self.faults = self.faults.saturating_add(1);
+                self.cause = Some(error);
                 Err(Failed)
             }
         }
     }
+}
+
+/// Reads, and reads again where the call was interrupted before a byte came.
+fn read_on(stdin: &mut Stdin, buf: &mut [u8]) -> io::Result<usize>
+    ensures { IfOk result (λ count. count ≤ length buf.new) }
+{
+    for _ in 0..u64::MAX {
+        match stdin.read(buf) {
+            Ok(count) => return Ok(count),
+            Err(error) if error.kind() == ErrorKind::Interrupted => {}
+            Err(error) => return Err(error),
+        }
+    }
+    Err(io::Error::from(ErrorKind::Interrupted))
 }
 
 /// Standard output.
@@ -41,6 +66,7 @@ impl Source for StdSource {
 pub struct StdSink {
     stdout: Stdout,
     faults: u64,
+    cause: Option<io::Error>,
 }
 
 impl StdSink {
@@ -48,18 +74,16 @@ impl StdSink {
     pub fn new(stdout: Stdout) -> StdSink
         ensures { result.faults ≡ 0 }
     {
-        StdSink { stdout, faults: 0 }
+        StdSink {
+            stdout,
+            faults: 0,
+            cause: None,
+        }
     }
 
-    /// Writes some of the bytes: how many, or 0 where none could be written.
-    fn write_some(&mut self, bytes: &[u8]) -> usize
-        ensures bound { result ≤ length bytes.now }
-        ensures same { self.new.faults ≡ self.old.faults }
-    {
-        match self.stdout.write(bytes) {
-            Ok(count) => count,
-            Err(_) => 0,
-        }
+    /// What the system said of the last write that failed.
+    pub fn cause(&self) -> Option<&io::Error> {
+        self.cause.as_ref()
     }
 }
 
@@ -70,15 +94,40 @@ impl Sink for StdSink {
 
     /// A write that takes nothing of a piece is a fault.
     fn put(&mut self, bytes: &[u8]) -> Result<(), Failed> {
-        let mut rest = bytes;
-        while !rest.is_empty() {
-            let count = self.write_some(rest);
-            if count == 0 {
+        match write_whole(&mut self.stdout, bytes) {
+            Ok(()) => Ok(()),
+            Err(error) => {
                 self.faults = self.faults.saturating_add(1);
-                return Err(Failed);
+                self.cause = Some(error);
+                Err(Failed)
             }
-            rest = &rest[count..];
         }
-        Ok(())
     }
+}
+
+/// Writes all of the bytes.
+fn write_whole(stdout: &mut Stdout, bytes: &[u8]) -> io::Result<()> {
+    let mut rest = bytes;
+    while !rest.is_empty() {
+        let count = write_on(stdout, rest)?;
+        if count == 0 {
+            return Err(io::Error::from(ErrorKind::WriteZero));
+        }
+        rest = &rest[count..];
+    }
+    Ok(())
+}
+
+/// Writes some of the bytes, and writes again where the call was interrupted before a byte went.
+fn write_on(stdout: &mut Stdout, bytes: &[u8]) -> io::Result<usize>
+    ensures { IfOk result (λ count. count ≤ length bytes.now) }
+{
+    for _ in 0..u64::MAX {
+        match stdout.write(bytes) {
+            Ok(count) => return Ok(count),
+            Err(error) if error.kind() == ErrorKind::Interrupted => {}
+            Err(error) => return Err(error),
+        }
+    }
+    Err(io::Error::from(ErrorKind::Interrupted))
 }

@@ -7,7 +7,7 @@ ghost use Rattle.sg_forms.specs.Said.{said};
 ghost use Rattle.sg_grammar.specs.Spots.{placed_at};
 
 use sg_commit::{Digest, Sealer};
-use sg_grammar::{Line, Spot, Meaning, meaning_of};
+use sg_grammar::{Line, Meaning, Spot, meaning_of};
 
 /// The line is a seal, and not the hash of the bytes before it.
 #[tactic(auto, using(crate::proofs::Sealing::seals))]

@@ -152,7 +152,7 @@ body-stays plan due may_begin said t e =
     let is = body-behind plan due may_begin said t e in
     (ap (λ (p : Plan). p.version) is.0, ap is_first is.1)
 
-abbrev StaysMade : Plan → Making → Type 0
+abbrev pub StaysMade : Plan → Making → Type 0
 StaysMade plan making = (making.plan.version ≡ plan.version) × (is_first making.head ≡ false)
 
 style_line-stays : (plan : Plan) (name races : List ℕ) (m : Making) → style_line plan (Style name races) ≡ Some m → StaysMade plan m
@@ -166,7 +166,7 @@ run_line-stays plan (Ballots style count) m e =
     (made (with_run plan style count) head.Runs) m (λ ok. (refl, refl)) e
 run_line-stays plan said m e = cc
 
-head_line-stays : (plan : Plan) (stage : Head) (said : Said) (m : Making) → is_first stage ≡ false → head_line plan stage said ≡ Some m → StaysMade plan m
+pub head_line-stays : (plan : Plan) (stage : Head) (said : Said) (m : Making) → is_first stage ≡ false → head_line plan stage said ≡ Some m → StaysMade plan m
 head_line-stays plan head.Version said m later e = cc
 head_line-stays plan head.Election (Election name) m later e = if_then-claim (StaysMade plan) (is_name_word name) (made (with_name plan name) head.Instances) m (λ ok. (refl, refl)) e
 head_line-stays plan head.Election said m later e = cc

@@ -34,11 +34,11 @@ races_but left (race ∷ []) = Race race.name (length race.candidates + left) ra
 races_but left (race ∷ next ∷ races) = race_lines race ++ races_but left (next ∷ races)
 
 -- the plan's lines behind its races
-abbrev later_lines : Plan → List Said
+abbrev pub later_lines : Plan → List Said
 later_lines plan = map style_line plan.styles ++ map run_line plan.runs
 
 -- the lines of the plan so far, where these are its races
-abbrev lines_with : Plan → List Said → List Said
+abbrev pub lines_with : Plan → List Said → List Said
 lines_with plan races = Version plan.version ∷ Election plan.name ∷ Instances plan.instances ∷ (races ++ later_lines plan)
 
 -- the lines of a plan in the making
@@ -53,12 +53,12 @@ head_lines plan head.Runs = plan_lines plan
 head_lines plan head.Whole = plan_lines plan
 
 -- the plan is not whole yet
-abbrev is_head : Head → Bool
+abbrev pub is_head : Head → Bool
 is_head head.Whole = false
 is_head stage = true
 
 -- the plan's lines go on by this line
-abbrev Adds : List Said → Said → Making → Type 0
+abbrev pub Adds : List Said → Said → Making → Type 0
 Adds lines said making = (head_lines making.plan making.head ≡ lines ++ said ∷ []) × (is_head making.head ≡ true)
 
 map-push : {A B : Type 0} (f : A → B) (xs : List A) (y : A) → map f (xs ++ y ∷ []) ≡ map f xs ++ f y ∷ []

@@ -1,3 +1,4 @@
+-- The proofs of records: their writers, their reader and their laws.
 pub mod Appending
 pub mod BitLines
 pub mod Bits

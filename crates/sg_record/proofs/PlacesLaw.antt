@@ -8,7 +8,7 @@ use Rattle.sg_forms.specs.Spelling.{spelling}
 use Rattle.sg_grammar.specs.Due.{results}
 use Rattle.sg_grammar.specs.Placed.{Placed}
 use Rattle.sg_grammar.specs.Placed.Placed.{OfPlan}
-use Rattle.sg_grammar.specs.Walk.{Next, Posted, behind, start, walk}
+use Rattle.sg_grammar.specs.Walk.{Next, Posted, behind, start}
 use Rattle.sg_grammar.specs.declared.state.Part.TheVariants as part
 use Rattle.sg_record.proofs.BodyOut.{run_state}
 use Rattle.sg_record.proofs.BytesWalk.{AreIn-from_All}

@@ -1,3 +1,4 @@
+-- What a reader of records believes, and the laws.
 pub mod Lines
 pub mod Formed
 pub mod Laws

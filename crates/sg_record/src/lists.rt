@@ -14,7 +14,7 @@ use crate::record::{BallotBlock, DisputeBlock, Record, RowCommit};
 use hex::FromHexError;
 use sg_commit::Digest;
 use sg_forms::{CodeLine, Line, RowOpening};
-use sg_grammar::{Block, Spot, Meaning, meaning_of};
+use sg_grammar::{Block, Meaning, Spot, meaning_of};
 use sg_plan::{ClaimWord, Draw, Items, NoMemory, Plan, Word};
 use std::alloc::Global;
 

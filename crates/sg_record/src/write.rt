@@ -1,10 +1,11 @@
 //! The text of a record, written line by line.
-ghost use Rattle.std.specs.Prelude.{◌≡◌, ◌≤◌, IfOk, true};
+ghost use Rattle.std.specs.Prelude.{◌≡◌, ◌≤◌, IfOk, true, None};
+ghost use Rattle.sg_plan.specs.Limits.{fault_of};
 ghost use Rattle.sg_record.specs.Formed.{is_formed};
-ghost use Rattle.sg_record.specs.Lines.{lines_in, text_of};
+ghost use Rattle.sg_record.specs.Lines.{lines_in, plan_lines, text_of};
 ghost use Rattle.sg_record.specs.Pens.{Writes};
 ghost use Rattle.sg_outside.specs.Streams.{seen};
-ghost use Rattle.sg_record.specs.Writing.{WriteEnds};
+ghost use Rattle.sg_record.specs.Writing.{WriteEnds, text_in};
 
 use crate::blocks::{put_blocks, put_disputes};
 use crate::commits::put_commits;
@@ -14,6 +15,7 @@ use crate::pen::Pen;
 use crate::record::Record;
 use crate::results::put_results;
 use sg_outside::{Failed, Sink};
+use sg_plan::Plan;
 use std::alloc::Global;
 
 /// How the writing of a record ended.
@@ -39,6 +41,21 @@ fn put_record<O: Sink>(pen: &mut Pen, posted: &Record, out: &mut O) -> Result<()
     put_results(pen, posted, out)?;
     put_openings(pen, posted, out)?;
     put_disputes(pen, &posted.disputes, out)
+}
+
+/// Writes the lines of a plan into the sink: one piece for each line. It ends as [`write_record`] does.
+pub fn write_plan<O: Sink>(alloc: Global, plan: &Plan, out: &mut O) -> Wrote
+    requires { fault_of plan.now ≡ None }
+    ensures ends { WriteEnds result (seen (O.written out.old) (O.faults out.old)) (seen (O.written out.new) (O.faults out.new)) (text_in plan.now.version (plan_lines plan.now)) }
+    ensures later { O.faults out.old ≤ O.faults out.new }
+{
+    let Ok(mut pen) = Pen::new(alloc, plan.version) else {
+        return Wrote::NoMemory;
+    };
+    match put_plan(&mut pen, plan, out) {
+        Ok(()) => Wrote::Written,
+        Err(Failed) => Wrote::SinkFailed,
+    }
 }
 
 /// Writes the text of a record into the sink: one piece for each line.

@@ -1,3 +1,4 @@
+-- Where there was no room for the tables nothing was taken.
 use Rattle.sg_app.proofs.Judging.{took_nothing}
 use Rattle.sg_app.proofs.audit.hear.Goals as goal
 

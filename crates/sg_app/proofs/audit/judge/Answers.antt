@@ -1,8 +1,10 @@
+-- Each answer of the cutter, and each step of the pass, at the plan's lines and the first behind them.
 use Rattle.std.proofs.Common.{◌≡◌, ◌<◌, ◌≤◌, ◌∷◌, ◌++◌, [], length, refl, arith, ap, ◌∙◌, subst, false}
 use Rattle.sg_app.proofs.Forms.{long-has_no_form, part-has_no_form}
-use Rattle.sg_app.proofs.Judging.{end-judged, ended-prepend, fed-push, header-push, header-start, hears-later, line-judged, long-judged, part-judged, rose-later, took_lines}
+use Rattle.sg_app.proofs.Judging.{end-judged, fed-push, header-push, header-start, hears-later, line-judged, long-judged, part-judged, took_lines}
 use Rattle.sg_app.proofs.Taking.{end-read, fault-taken, line-read, open-read}
 use Rattle.sg_outside.specs.Cutting.{to_come}
+use Rattle.sg_outside.proofs.StreamLemmas.{IsAtEnd-held, Rose-later}
 use Rattle.sg_pass.specs.Pass.{Says, StandsFor, is_fine, is_open, says_ready}
 use Rattle.sg_pass.specs.declared.pass.Step.{Step}
 use Rattle.sg_pass.specs.declared.pass.Step.TheVariants as step
@@ -18,7 +20,7 @@ returns-in-Part g c =
     let judged : Judges (g.S.Source.left c.args.input.now) c.end_at_no_line.result =
     part-judged (g.S.Source.left c.args.input.now) (to_come c.loop-pass.lines (g.S.Source.left c.loop-pass.input)) (to_come c.next.new.self (g.S.Source.left c.next.new.source)) fed.done c.next.new.self.text c.end_at_no_line.result
     fed.are_lines found.0 found.1
-    (ended-prepend c.next.new.self.ahead (g.S.Source.left c.next.new.source) found.3 found.4) fed.taken cut verdict in (
+    (IsAtEnd-held c.next.new.self.ahead (g.S.Source.left c.next.new.source) found.3 found.4) fed.taken cut verdict in (
       judged,
       open-read c.loop-pass.pass c.loop-pass.lines c.next.new.self (g.S.Source.left c.args.input.now) (g.S.Source.left c.loop-pass.input) (g.S.Source.left c.next.new.source) c.end_at_no_line.result
           fed cut c.in-Part.ensures.limit (c.in-Part.ensures.few refl) found.0 found.1 c.end_at_no_line.ensures.no judged,
@@ -49,7 +51,7 @@ returns-in-End g c =
     let judged : Judges (g.S.Source.left c.args.input.now) c.end.result =
     end-judged (g.S.Source.left c.args.input.now) (to_come c.loop-pass.lines (g.S.Source.left c.loop-pass.input)) (to_come c.next.new.self (g.S.Source.left c.next.new.source)) fed.done [] c.end.result
     fed.are_lines refl
-    (ended-prepend c.next.new.self.ahead (g.S.Source.left c.next.new.source) found.0 found.1) fed.taken cut
+    (IsAtEnd-held c.next.new.self.ahead (g.S.Source.left c.next.new.source) found.0 found.1) fed.taken cut
     (c.end.ensures.all fed.done fed.stands) in (
       judged,
       end-read c.loop-pass.pass c.loop-pass.lines c.next.new.self (g.S.Source.left c.args.input.now) (g.S.Source.left c.loop-pass.input) (g.S.Source.left c.next.new.source) c.end.result
@@ -60,7 +62,7 @@ pub returns-in-ReadFault : goal.returns-in-ReadFault
 returns-in-ReadFault g c =
     let fed = c.loop-pass.invariant.0.fed in
     let found = c.in-ReadFault.ensures.found fed.goes_on in (
-      rose-later (g.S.Source.faults c.args.input.now) (g.S.Source.faults c.loop-pass.input) (g.S.Source.faults c.next.new.source) c.loop-pass.invariant.1 (c.in-ReadFault.ensures.failed refl),
+      Rose-later (g.S.Source.faults c.args.input.now) (g.S.Source.faults c.loop-pass.input) (g.S.Source.faults c.next.new.source) c.loop-pass.invariant.1 (c.in-ReadFault.ensures.failed refl),
       fault-taken c.loop-pass.pass c.loop-pass.lines c.next.new.self (g.S.Source.left c.args.input.now) (g.S.Source.left c.loop-pass.input) (g.S.Source.left c.next.new.source)
           fed (c.in-ReadFault.ensures.cut fed.goes_on) c.in-ReadFault.ensures.limit found.0 found.1,
     )

@@ -1,3 +1,4 @@
+-- The pass was fed fine lines of the plan.
 use Rattle.std.proofs.Common.{◌≤◌}
 use Rattle.sg_pass.specs.Pass.{left_in}
 use Rattle.sg_app.proofs.Judging.{IsFedHeader}

@@ -1,8 +1,10 @@
+-- Each answer of the cutter, and each step of the pass, behind those lines.
 use Rattle.std.proofs.Common.{◌≡◌, ◌<◌, ◌∷◌, ◌++◌, [], length, refl, arith, ap, ◌∙◌, subst, true, false}
 use Rattle.sg_app.proofs.Forms.{long-has_no_form, part-has_no_form}
-use Rattle.sg_app.proofs.Judging.{end-judged, ended-prepend, fed-push, line-judged, long-judged, part-judged, rose-later}
+use Rattle.sg_app.proofs.Judging.{end-judged, fed-push, line-judged, long-judged, part-judged}
 use Rattle.sg_app.proofs.Taking.{end-read, fault-taken, line-read, open-read}
 use Rattle.sg_outside.specs.Cutting.{to_come}
+use Rattle.sg_outside.proofs.StreamLemmas.{IsAtEnd-held, Rose-later}
 use Rattle.sg_pass.specs.Pass.{StandsFor, is_fine, is_open}
 use Rattle.sg_app.specs.Audit.{Judges}
 use Rattle.sg_app.proofs.audit.judge_behind.Goals as goal
@@ -16,7 +18,7 @@ returns-in-Part g c = λ before entry.
     let judged : Judges before c.end_at_no_line.result =
     part-judged before (to_come c.loop-pass.lines (g.S.Source.left c.loop-pass.input)) (to_come c.next.new.self (g.S.Source.left c.next.new.source)) fed.done c.next.new.self.text c.end_at_no_line.result
     fed.are_lines found.0 found.1
-    (ended-prepend c.next.new.self.ahead (g.S.Source.left c.next.new.source) found.3 found.4) fed.taken cut verdict in (
+    (IsAtEnd-held c.next.new.self.ahead (g.S.Source.left c.next.new.source) found.3 found.4) fed.taken cut verdict in (
       judged,
       open-read c.loop-pass.pass c.loop-pass.lines c.next.new.self before (g.S.Source.left c.loop-pass.input) (g.S.Source.left c.next.new.source) c.end_at_no_line.result
           fed cut c.in-Part.ensures.limit (c.in-Part.ensures.few refl) found.0 found.1 c.end_at_no_line.ensures.no judged,
@@ -47,7 +49,7 @@ returns-in-End g c = λ before entry.
     let judged : Judges before c.end.result =
     end-judged before (to_come c.loop-pass.lines (g.S.Source.left c.loop-pass.input)) (to_come c.next.new.self (g.S.Source.left c.next.new.source)) fed.done [] c.end.result
     fed.are_lines refl
-    (ended-prepend c.next.new.self.ahead (g.S.Source.left c.next.new.source) found.0 found.1) fed.taken cut
+    (IsAtEnd-held c.next.new.self.ahead (g.S.Source.left c.next.new.source) found.0 found.1) fed.taken cut
     (c.end.ensures.all fed.done fed.stands) in (
       judged,
       end-read c.loop-pass.pass c.loop-pass.lines c.next.new.self before (g.S.Source.left c.loop-pass.input) (g.S.Source.left c.next.new.source) c.end.result
@@ -58,7 +60,7 @@ pub returns-in-ReadFault : goal.returns-in-ReadFault
 returns-in-ReadFault g c = λ before entry.
     let fed = c.loop-pass.invariant.fed before entry in
     let found = c.in-ReadFault.ensures.found fed.goes_on in (
-      rose-later (g.S.Source.faults c.args.input.now) (g.S.Source.faults c.loop-pass.input) (g.S.Source.faults c.next.new.source) c.loop-pass.invariant.later (c.in-ReadFault.ensures.failed refl),
+      Rose-later (g.S.Source.faults c.args.input.now) (g.S.Source.faults c.loop-pass.input) (g.S.Source.faults c.next.new.source) c.loop-pass.invariant.later (c.in-ReadFault.ensures.failed refl),
       fault-taken c.loop-pass.pass c.loop-pass.lines c.next.new.self before (g.S.Source.left c.loop-pass.input) (g.S.Source.left c.next.new.source)
           fed (c.in-ReadFault.ensures.cut fed.goes_on) c.in-ReadFault.ensures.limit found.0 found.1,
     )

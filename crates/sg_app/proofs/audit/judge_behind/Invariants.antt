@@ -1,6 +1,7 @@
+-- The pass was fed fine lines.
 use Rattle.std.proofs.Common.{◌≡◌, ◌≤◌, ℕ, List, Option, true}
 use Rattle.sg_pass.specs.Pass.{StandsForSome, is_open, is_ready, left_in}
-use Rattle.sg_app.specs.Feeding.{IsFed}
+use Rattle.sg_app.specs.inside.Feeding.{IsFed}
 use Rattle.sg_app.proofs.audit.judge_behind.Given as goal
 
 abbrev pub invariant-loop-pass : goal.invariant-loop-pass

@@ -1,3 +1,4 @@
+-- A number has at most ten digits.
 use Rattle.std.proofs.Common.{arith, ◌<◌, ◌^◌}
 use Rattle.std.proofs.lemmas.Grind.{common_steps}
 use Rattle.sg_lines.proofs.Numbers.{length-decimal}

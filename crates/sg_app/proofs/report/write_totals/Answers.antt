@@ -1,3 +1,4 @@
+-- One more line of the totals was appended, or a front of it.
 use Rattle.std.proofs.Common.{arith, ◌+◌, subst, drop, List}
 use Rattle.sg_check.specs.declared.judged.Total.{Total}
 use Rattle.sg_app.proofs.Reporting.{HasWritten, front_written, one_written}

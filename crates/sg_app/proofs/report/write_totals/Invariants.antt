@@ -1,3 +1,4 @@
+-- The lines of the totals so far were appended.
 use Rattle.std.proofs.Common.{◌≤◌, drop}
 use Rattle.sg_app.proofs.Reporting.{HasWritten}
 use Rattle.sg_app.proofs.report.write_totals.Given as goal

@@ -1,3 +1,4 @@
+-- The totals' lines come behind the first line.
 use Rattle.std.proofs.Common.{codes}
 use Rattle.sg_outside.proofs.StreamLemmas.{AppendsFront-more}
 use Rattle.sg_app.specs.Report.{totals_text}

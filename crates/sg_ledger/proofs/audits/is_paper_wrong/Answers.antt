@@ -15,4 +15,4 @@ entry_place-requires-clause-entry c =
     let some : 0 < n = omega (arith, (bounds plan c.requires.good).two_candidates race c.requires.race) in
     let below : left.value < rows_of plan race * n = omega (arith, c.if-left-entries.false, c.entries-entries.ensures) in
     let small = column_below (rows_of plan race) n left.value (right.value % n) below (mod_below right.value n some) in
-    rw c.count_candidates-candidates.ensures (omega (arith, small, div-add-mod' left.value n))
+    rw c.candidates-candidates.ensures (omega (arith, small, div-add-mod' left.value n))

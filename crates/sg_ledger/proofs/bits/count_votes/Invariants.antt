@@ -1,5 +1,5 @@
 use Rattle.std.proofs.Common.{◌≡◌, ◌+◌, drop, length}
-use Rattle.sg_ledger.specs.Tables.{with_votes}
+use Rattle.sg_ledger.specs.inside.Tables.{with_votes}
 use Rattle.sg_ledger.proofs.bits.count_votes.Given as goal
 
 abbrev pub invariant-loop-place : goal.invariant-loop-place

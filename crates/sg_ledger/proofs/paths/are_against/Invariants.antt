@@ -1,5 +1,5 @@
 use Rattle.std.proofs.Common.{◌≡◌, ℕ, ◌+◌, ◌<◌, false, slice_index_or, None}
-use Rattle.sg_ledger.specs.Tables.{leads_another}
+use Rattle.sg_ledger.specs.inside.Tables.{leads_another}
 use Rattle.sg_ledger.proofs.paths.are_against.Given as goal
 
 abbrev pub invariant-loop-column : goal.invariant-loop-column

@@ -11,11 +11,11 @@ use Rattle.sg_ledger.proofs.paths.is_path_bad.Goals as goal
 pub are_against-requires-clause-within : goal.are_against-requires-clause-within
 are_against-requires-clause-within c =
     let plan = c.args.plan.now in
-    let place = rw c.count_candidates-candidates.ensures at c.entry_place-at.ensures.place in
+    let place = rw c.candidates-candidates.ensures at c.entry_place-at.ensures.place in
     omega (
       arith,
       place,
-      c.count_candidates-candidates.ensures,
+      c.candidates-candidates.ensures,
       c.requires.paths,
       ballot_end plan c.args.race c.in-Both.left.value c.requires.race ((bounds plan c.requires.good).two_candidates c.args.race c.requires.race) (omega (arith, c.if-left-entries.false, c.entries-entries.ensures)),
     )
@@ -23,11 +23,11 @@ are_against-requires-clause-within c =
 pub are_against-requires-clause-few_places : goal.are_against-requires-clause-few_places
 are_against-requires-clause-few_places c =
     let plan = c.args.plan.now in
-    let place = rw c.count_candidates-candidates.ensures at c.entry_place-at.ensures.place in
+    let place = rw c.candidates-candidates.ensures at c.entry_place-at.ensures.place in
     omega (
       arith,
       place,
-      c.count_candidates-candidates.ensures,
+      c.candidates-candidates.ensures,
       (bounds plan c.requires.good).few_all_entries,
       ballot_end plan c.args.race c.in-Both.left.value c.requires.race ((bounds plan c.requires.good).two_candidates c.args.race c.requires.race) (omega (arith, c.if-left-entries.false, c.entries-entries.ensures)),
     )
@@ -43,9 +43,9 @@ returns c = λ lines placed told.
     let right_below : right.value < entries_of plan race = omega (arith, c.if-right-entries.false, c.entries-entries.ensures) in
     let small : are_small plan race left right ≡ true = and_from _ _ (lt-ltb left.value (entries_of plan race) left_below) (lt-ltb right.value (entries_of plan race) right_below) in
     let first_is : left.value - left.value % n ≡ left.value / n * n = omega (arith, div-add-mod' left.value n) in
-    let place = rw c.count_candidates-candidates.ensures at c.entry_place-at.ensures.place in
-    let found = rw c.count_candidates-candidates.ensures at c.are_against.ensures.some in
-    let none = rw c.count_candidates-candidates.ensures at c.are_against.ensures.none in
+    let place = rw c.candidates-candidates.ensures at c.entry_place-at.ensures.place in
+    let found = rw c.candidates-candidates.ensures at c.are_against.ensures.some in
+    let none = rw c.candidates-candidates.ensures at c.are_against.ensures.none in
     let judged = path_judged plan c.args.paths.now lines race left right (left.value - left.value % n) c.entry_place-at.result c.are_against.result c.requires.race
     (omega (arith, (bounds plan c.requires.good).two_candidates race c.requires.race)) placed told small first_is place found none in
     rw (c.in-Both.is, small) judged

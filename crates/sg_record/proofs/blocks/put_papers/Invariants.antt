@@ -1,3 +1,4 @@
+-- What is written so far, and what is left.
 use Rattle.std.proofs.Common.{drop}
 use Rattle.sg_record.proofs.Putting.{Left}
 use Rattle.sg_record.specs.Lines.{paper_lines}

@@ -1,3 +1,4 @@
+-- The items walked over pass, and the rest decide.
 use Rattle.std.proofs.Common.{◌≡◌, ℕ, ◌≤◌, drop, length}
 use Rattle.sg_grammar.specs.Due.{ballot_codes, each}
 use Rattle.sg_record.specs.Formed.{are_due}

@@ -1,3 +1,4 @@
+-- The items walked over pass, and the rest decide.
 use Rattle.std.proofs.Common.{◌≡◌, ◌≤◌, drop}
 use Rattle.sg_record.specs.Formed.{are_blocks}
 use Rattle.sg_plan.specs.Walking.{StandsIn}

@@ -1,3 +1,4 @@
+-- The items walked over pass, and the rest decide.
 use Rattle.std.proofs.Common.{◌≡◌, ℕ, drop}
 use Rattle.sg_record.specs.Formed.{are_marks}
 use Rattle.sg_plan.specs.Ballots.{races_of_ballot}

@@ -1,3 +1,4 @@
+-- The items walked over pass, and the rest decide.
 use Rattle.std.proofs.Common.{◌≡◌, ◌≤◌, drop, length}
 use Rattle.sg_record.specs.Formed.{are_papers}
 use Rattle.sg_record.proofs.formed.are_papers.Given as goal

@@ -1,3 +1,4 @@
+-- How far the walk has come.
 use Rattle.std.proofs.Common.{◌≡◌, ℕ, ◌≤◌, List, ◌++◌, drop, length}
 use Rattle.sg_plan.specs.Ballots.{candidates_of}
 use Rattle.sg_grammar.specs.Due.{code_line, each, race_codes}

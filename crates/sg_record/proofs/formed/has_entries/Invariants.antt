@@ -1,3 +1,4 @@
+-- The items walked over pass, and the rest decide.
 use Rattle.std.proofs.Common.{◌≡◌, ◌==◌, drop, length}
 use Rattle.sg_plan.specs.Ballots.{entries_of}
 use Rattle.sg_record.specs.Formed.{each_passes}

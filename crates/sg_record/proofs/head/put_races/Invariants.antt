@@ -1,3 +1,4 @@
+-- What is written so far, and what is left.
 use Rattle.sg_record.proofs.Putting.{LeftOf}
 use Rattle.std.specs.List.{flat_map}
 use Rattle.sg_record.specs.Lines.{race_lines}

@@ -1,3 +1,4 @@
+-- What is written so far, and what is left.
 use Rattle.std.proofs.Common.{map}
 use Rattle.sg_record.proofs.Putting.{LeftOf}
 use Rattle.sg_record.specs.Lines.{style_line}

@@ -1,3 +1,4 @@
+-- What the steps before give.
 use Rattle.sg_record.proofs.Appending.{dispute_put_back}
 use Rattle.sg_record.proofs.last.push_dispute_code.Goals as goal
 

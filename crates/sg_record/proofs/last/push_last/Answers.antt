@@ -1,3 +1,4 @@
+-- What the steps before give.
 use Rattle.sg_record.proofs.Appending.{block_put_back}
 use Rattle.sg_record.specs.inside.Growing.{change_of}
 use Rattle.sg_record.proofs.last.push_last.Goals as goal

@@ -1,3 +1,4 @@
+-- The law is the lemma.
 use Rattle.sg_record.proofs.WholeLaw.{whole_are_formed}
 use Rattle.sg_record.proofs.laws.whole_law.Goals as goal
 

@@ -1,3 +1,4 @@
+-- What is put in so far.
 use Rattle.std.proofs.Common.{◌≡◌, [], replicate}
 use Rattle.sg_record.proofs.nested.empty_lists.Given as goal
 

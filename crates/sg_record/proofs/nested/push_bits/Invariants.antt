@@ -1,3 +1,4 @@
+-- What is put in so far.
 use Rattle.std.proofs.Common.{◌≡◌, ◌++◌, drop}
 use Rattle.sg_record.proofs.nested.push_bits.Given as goal
 use Rattle.sg_record.specs.inside.Gathering.{bits_of}

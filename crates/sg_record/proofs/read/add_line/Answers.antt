@@ -1,3 +1,4 @@
+-- What the steps before give.
 use Rattle.sg_forms.specs.Said.{said}
 use Rattle.sg_grammar.specs.Spots.{placed_at}
 use Rattle.sg_record.proofs.Growing.{grows_first, grows_more}

@@ -1,3 +1,4 @@
+-- What the steps before give.
 use Rattle.sg_record.proofs.ReadLaw.{gathered_end, gathered_step, gathered_stop}
 use Rattle.sg_record.proofs.read.gather_lines.Goals as goal
 use Rattle.sg_record.specs.inside.Growing.{so_far}

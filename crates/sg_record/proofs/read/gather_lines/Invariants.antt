@@ -1,3 +1,4 @@
+-- How far the walk has come.
 use Rattle.std.proofs.Common.{◌≡◌, ◌-◌, drop, length}
 use Rattle.sg_outside.specs.TextLines.{lines_of}
 use Rattle.sg_record.proofs.read.gather_lines.Given as goal

@@ -1,3 +1,4 @@
+-- What the steps before give.
 use Rattle.std.proofs.Common.{Some, ap, sym, subst, ◌∙◌}
 use Rattle.std.specs.Option.{option_map}
 use Rattle.sg_record.proofs.ReadLaw.{read_found, read_none, read_part, read_same}

@@ -1,3 +1,4 @@
+-- What is put in so far.
 use Rattle.std.proofs.Common.{◌≡◌, ◌≤◌, length, map, take}
 use Rattle.sg_record.specs.Lines.{bit_sign}
 use Rattle.sg_record.proofs.results.fill_signs.Given as goal

@@ -1,3 +1,4 @@
+-- What is written so far, and what is left.
 use Rattle.std.proofs.Common.{length}
 use Rattle.sg_record.proofs.Putting.{LeftEach}
 use Rattle.sg_grammar.specs.Due.{lines_for}

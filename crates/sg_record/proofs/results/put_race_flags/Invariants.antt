@@ -1,3 +1,4 @@
+-- What is written so far, and what is left.
 use Rattle.sg_record.proofs.Putting.{LeftFrom}
 use Rattle.sg_record.specs.Lines.{flag_lines}
 use Rattle.sg_record.specs.Pens.{moment}

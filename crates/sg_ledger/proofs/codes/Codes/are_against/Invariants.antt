@@ -1,5 +1,5 @@
 use Rattle.std.proofs.Common.{◌≡◌, ℕ, ◌+◌, ◌<◌, false, slice_index_or, None}
-use Rattle.sg_ledger.specs.Tables.{shows_another}
+use Rattle.sg_ledger.specs.inside.Tables.{shows_another}
 use Rattle.sg_ledger.proofs.codes.Codes.are_against.Given as goal
 
 abbrev pub invariant-loop-at : goal.invariant-loop-at

@@ -5,7 +5,7 @@ use Rattle.sg_check.specs.Kinds.{differ, wrong_audit, wrong_number, wrong_paper}
 use Rattle.sg_commit.specs.declared.Opening.{Opening}
 use Rattle.sg_ledger.proofs.DrawSteps.{public_judged}
 use Rattle.sg_ledger.proofs.ShownJudged.{audit_judged, number_judged, paper_judged}
-use Rattle.sg_ledger.specs.Tables.{most_marks}
+use Rattle.sg_ledger.specs.inside.Tables.{most_marks}
 use Rattle.sg_plan.proofs.PlanLaws.{bounds}
 use Rattle.sg_plan.specs.Ballots.{entries_of, entry_place}
 use Rattle.sg_ledger.proofs.ledger.Ledger.is_row_print_bad.Goals as goal

@@ -6,7 +6,7 @@ use Rattle.sg_commit.specs.declared.CommitKind.TheVariants as commit
 use Rattle.sg_commit.specs.declared.Digest.{Digest}
 use Rattle.sg_ledger.proofs.Judged.{rule_judged}
 use Rattle.sg_ledger.proofs.Places.{entry_place-end}
-use Rattle.sg_ledger.specs.Reads.{code_kind}
+use Rattle.sg_ledger.specs.inside.Reads.{code_kind}
 use Rattle.sg_plan.proofs.PlanLaws.{bounds, entry_tells}
 use Rattle.sg_plan.specs.Ballots.{candidates_of, entry_at, entry_place}
 use Rattle.sg_grammar.specs.Placed.Placed.{CodeAt}
@@ -48,7 +48,7 @@ are_against-against-requires-clause-few c =
     omega (
       arith,
       c.entry_place-at.ensures.place,
-      c.count_candidates-candidates.ensures,
+      c.candidates-candidates.ensures,
       (bounds plan c.requires.good).few_all_entries,
       entry_place-end plan c.args.race (c.first_entry-first.result + candidates_of plan c.args.race) c.requires.placed.0 c.first_entry-first.ensures.within,
     )
@@ -59,7 +59,7 @@ are_against-against-requires-clause-within c =
     omega (
       arith,
       c.entry_place-at.ensures.place,
-      c.count_candidates-candidates.ensures,
+      c.candidates-candidates.ensures,
       c.requires.sized.known,
       entry_place-end plan c.args.race (c.first_entry-first.result + candidates_of plan c.args.race) c.requires.placed.0 c.first_entry-first.ensures.within,
     )
@@ -80,12 +80,12 @@ returns c = λ lines tells.
     rw place_is (tells.commitments.codes race entry in_plan.0 (entry_tells plan race c.args.ballot c.args.column in_plan.3 in_plan.4).below) in
     let opening = c.is_code_bad-opening.ensures
     ∙ ap₂ (λ (d : Option Digest) (e : ℕ). not (opens_digest d commit.Q race 0 e (code_opening c.args.code.now))) digest_is entry_is in
-    let found = rw c.count_candidates-candidates.ensures at c.are_against-against.ensures.some in
-    let none = rw c.count_candidates-candidates.ensures at c.are_against-against.ensures.none in
+    let found = rw c.candidates-candidates.ensures at c.are_against-against.ensures.some in
+    let none = rw c.candidates-candidates.ensures at c.are_against-against.ensures.none in
     let rule = rule_judged plan kept.known kept.marks lines c.args.block c.args.ballot race c.args.column c.args.code.now place c.has_enough-many.result c.are_against-against.result
     in_plan.0 in_plan.3 (omega (arith, few.few_votes race, few.few_candidates race)) tells.placed tells.codes.known tells.codes.marks
     (c.entry_place-at.ensures.place ∙ ap (λ (e : ℕ). entry_place plan race e) c.first_entry-first.ensures.first)
-    (c.has_enough-many.ensures ∙ ap (λ (v : ℕ). is_cast c.args.block && nat_le v (get_or kept.marks place 0)) c.count_votes.ensures) found none in
+    (c.has_enough-many.ensures ∙ ap (λ (v : ℕ). is_cast c.args.block && nat_le v (get_or kept.marks place 0)) c.votes.ensures) found none in
     let dispute = c.is_answer_wrong-dispute.ensures lines tells in
     c.kind_of_code.ensures
     ∙ (ap₂ (λ (o r : Bool). code_kind o r c.is_answer_wrong-dispute.result) opening rule

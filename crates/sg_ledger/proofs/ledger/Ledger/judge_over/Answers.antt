@@ -1,8 +1,8 @@
 use Rattle.std.proofs.Common.{Bool, ap, ◌∙◌, arith}
 use Rattle.sg_check.specs.Facts.{marks_ballot}
 use Rattle.sg_ledger.proofs.ShownJudged.{over_judged}
-use Rattle.sg_ledger.specs.Reads.{rule_kind}
-use Rattle.sg_ledger.specs.Tables.{most_marks}
+use Rattle.sg_ledger.specs.inside.Reads.{rule_kind}
+use Rattle.sg_ledger.specs.inside.Tables.{most_marks}
 use Rattle.sg_plan.proofs.PlanLaws.{bounds}
 use Rattle.sg_ledger.proofs.ledger.Ledger.judge_over.Goals as goal
 

@@ -2,7 +2,7 @@ use Rattle.std.proofs.Common.{◌≡◌, ℕ, ◌==◌, min, if◌then◌else◌
 use Rattle.sg_check.specs.Facts.{votes_for}
 use Rattle.sg_check.specs.declared.judged.Kind.TheVariants as kind
 use Rattle.sg_ledger.proofs.Judged.{total_judged, total_kind}
-use Rattle.sg_ledger.specs.Tables.{most_votes}
+use Rattle.sg_ledger.specs.inside.Tables.{most_votes}
 use Rattle.sg_plan.proofs.PlanLaws.{bounds}
 use Rattle.sg_ledger.proofs.ledger.Ledger.judge_total.Goals as goal
 

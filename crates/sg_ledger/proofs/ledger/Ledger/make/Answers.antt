@@ -13,6 +13,7 @@ returns c = λ lines are.
     let rows_are = c.all_rows-rows.ensures in
     let ledger : Ledger = record {
       sizes = c.in_ok-sizes.sizes;
+      index = c.in_ok-index.index;
       commitments = c.in_ok-commitments.commitments;
       codes = c.in_ok-codes.codes;
       bits = c.in_ok-bits.bits;
@@ -25,6 +26,7 @@ returns c = λ lines are.
     } in
     let made : IsMade c.args.plan.now ledger = record {
       sizes = c.in_ok-sizes.ensures;
+      index = c.in_ok-index.ensures;
       codes = c.in_ok-commitments.ensures.codes ∙ ap (λ (n : ℕ). replicate n None) entries_are;
       lefts = c.in_ok-commitments.ensures.lefts ∙ ap (λ (n : ℕ). replicate n None) rows_are;
       rights = c.in_ok-commitments.ensures.rights ∙ ap (λ (n : ℕ). replicate n None) rows_are;

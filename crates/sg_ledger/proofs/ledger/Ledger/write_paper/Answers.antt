@@ -10,8 +10,8 @@ put_firsts-requires-clause-within c =
     omega (
       arith,
       c.entry_place-at.ensures.place,
-      c.count_candidates-candidates.ensures,
-      length-take c.count_candidates-candidates.result c.args.codes.now,
+      c.candidates-candidates.ensures,
+      length-take c.candidates-candidates.result c.args.codes.now,
       c.requires.sized.papers,
       entry_place-end plan c.args.race (c.first_entry-first.result + candidates_of plan c.args.race) c.requires.placed.0 c.first_entry-first.ensures.within,
     )
@@ -22,8 +22,8 @@ put_firsts-requires-clause-few c =
     omega (
       arith,
       c.entry_place-at.ensures.place,
-      c.count_candidates-candidates.ensures,
-      length-take c.count_candidates-candidates.result c.args.codes.now,
+      c.candidates-candidates.ensures,
+      length-take c.candidates-candidates.result c.args.codes.now,
       (bounds plan c.requires.good).few_all_entries,
       entry_place-end plan c.args.race (c.first_entry-first.result + candidates_of plan c.args.race) c.requires.placed.0 c.first_entry-first.ensures.within,
     )

@@ -15,7 +15,7 @@ keep_places-requires-clause-few_places c =
 pub keep_places-requires-clause-few_votes : goal.keep_places-requires-clause-few_votes
 keep_places-requires-clause-few_votes c =
     let few = bounds c.args.plan.now c.requires.good in
-    omega (arith, c.count_candidates-candidates.ensures, few.few_candidates c.args.race, few.few_races, c.requires.placed.0)
+    omega (arith, c.candidates-candidates.ensures, few.few_candidates c.args.race, few.few_races, c.requires.placed.0)
 
 pub keep_places-requires-clause-places : goal.keep_places-requires-clause-places
 keep_places-requires-clause-places c =
@@ -27,11 +27,11 @@ keep_places-requires-clause-places c =
     )
 
 pub keep_places-requires-clause-some : goal.keep_places-requires-clause-some
-keep_places-requires-clause-some c = omega (arith, c.count_candidates-candidates.ensures, (bounds c.args.plan.now c.requires.good).two_candidates c.args.race c.requires.placed.0)
+keep_places-requires-clause-some c = omega (arith, c.candidates-candidates.ensures, (bounds c.args.plan.now c.requires.good).two_candidates c.args.race c.requires.placed.0)
 
 pub keep_places-requires-clause-few : goal.keep_places-requires-clause-few
 keep_places-requires-clause-few c = omega (arith, c.requires.placed.1, (bounds c.args.plan.now c.requires.good).few_entries c.args.race c.requires.placed.0)
 
 pub keep_places-requires-clause-votes : goal.keep_places-requires-clause-votes
 keep_places-requires-clause-votes c =
-    omega (arith, c.count_candidates-candidates.ensures, (bounds c.args.plan.now c.requires.good).few_candidates c.args.race, c.requires.placed.0, c.requires.sized.votes)
+    omega (arith, c.candidates-candidates.ensures, (bounds c.args.plan.now c.requires.good).few_candidates c.args.race, c.requires.placed.0, c.requires.sized.votes)

@@ -1,3 +1,4 @@
+-- What the steps before give.
 use Rattle.sg_forms.specs.Said.{said}
 use Rattle.sg_record.proofs.Growing.{grows_told}
 use Rattle.sg_record.proofs.lists.Lists.add.Goals as goal

@@ -1,3 +1,4 @@
+-- What the steps before give.
 use Rattle.std.proofs.Common.{ℕ, List, ap, refl, take}
 use Rattle.sg_record.proofs.Growing.{grows_ballots}
 use Rattle.sg_record.proofs.lists.Lists.add_meaning.Goals as goal

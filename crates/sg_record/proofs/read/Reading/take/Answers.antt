@@ -1,3 +1,4 @@
+-- What the steps before give.
 use Rattle.std.proofs.Common.{sym, subst, ◌∙◌}
 use Rattle.sg_forms.specs.Said.{said}
 use Rattle.sg_grammar.proofs.Walking.{none_there}

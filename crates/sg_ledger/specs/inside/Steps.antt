@@ -9,7 +9,7 @@ use Rattle.sg_commit.specs.declared.Opening.{Opening}
 use Rattle.sg_forms.specs.Reading.{public_bytes as bytes_of_digits}
 use Rattle.sg_forms.specs.declared.line.RowOpening.{RowOpening}
 use Rattle.sg_forms.specs.declared.line.RowOpening.TheVariants as row
-use Rattle.sg_ledger.specs.Tables.{most_marks, with_bits, with_first, with_firsts, with_one_more, with_votes}
+use Rattle.sg_ledger.specs.inside.Tables.{most_marks, with_bits, with_first, with_firsts, with_one_more, with_votes}
 use Rattle.sg_ledger.specs.Tells.{candidate_place, instance_place}
 use Rattle.sg_ledger.specs.declared.claims.Claimed.{Claimed}
 use Rattle.sg_ledger.specs.declared.ledger.Ledger.{Ledger}
@@ -115,6 +115,7 @@ claim_after claim line = claim
 abbrev pub ledger_after : Plan → Ledger → Placed → Ledger
 ledger_after plan ledger line = record {
   sizes = ledger.sizes;
+  index = ledger.index;
   commitments = record { codes = codes_after plan ledger.commitments.codes line; lefts = lefts_after plan ledger.commitments.lefts line; rights = rights_after plan ledger.commitments.rights line };
   codes = record { known = known_after plan ledger.codes.known line; marked = marked_after plan ledger.codes.marked line; marks = marks_after plan ledger.codes.marks line };
   bits = record { flagged = flagged_after plan ledger.bits.flagged line; places = places_after plan ledger.bits.places line; votes = votes_after plan ledger.bits.votes line };

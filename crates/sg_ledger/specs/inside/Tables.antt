@@ -33,11 +33,6 @@ abbrev pub with_votes : ℕ → ℕ → List ℕ → ℕ → List ℕ → List �
 with_votes candidates first votes place [] = votes
 with_votes candidates first votes place (bit ∷ bits) = with_votes candidates first (if bit == 0x31 then with_one_more most_votes votes (first + place % candidates) else votes) (place + 1) bits
 
--- of each ballot, by its style, how many ballots before it pass the test; so many come before the first
-abbrev pub rows_before : (ℕ → Bool) → ℕ → List ℕ → List ℕ
-rows_before has row [] = []
-rows_before has row (style ∷ styles) = row ∷ rows_before has (row + (if has style then 1 else 0)) styles
-
 -- the most totals of a plan: 32 races of 16 candidates
 abbrev pub most_totals : ℕ
 most_totals = 512

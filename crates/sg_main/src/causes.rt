@@ -1,0 +1,39 @@
+//! The one line on standard error that says why the program ended without doing what it was asked.
+ghost use Rattle.std.specs.Prelude.{◌≡◌, ◌⊎◌, ◌≤◌, None, IsSome};
+
+use crate::streams::{StdSink, StdSource};
+use std::io;
+
+/// Why the program ends with this status: nothing where a verdict was reported.
+fn cause_of(status: u8) -> Option<&'static str>
+    ensures silent { status ≤ 1 → result ≡ None }
+    ensures says { (status ≡ 2) ⊎ (status ≡ 3) ⊎ (status ≡ 4) ⊎ (status ≡ 9) → IsSome result }
+{
+    match status {
+        2 => Some("the words must be: audit"),
+        3 => Some("reading standard input failed"),
+        4 => Some("writing standard output failed"),
+        9 => Some("there was not enough memory"),
+        _ => None,
+    }
+}
+
+/// What the system said of the read or the write that failed.
+fn told_by_system<'a>(status: u8, input: &'a StdSource, out: &'a StdSink) -> Option<&'a io::Error> {
+    match status {
+        3 => input.cause(),
+        4 => out.cause(),
+        _ => None,
+    }
+}
+
+/// Writes the line, where there is a cause. Nothing depends on whether standard error takes it.
+pub fn say_why(rt: &HostRuntime, status: u8, input: &StdSource, out: &StdSink) {
+    let Some(cause) = cause_of(status) else {
+        return;
+    };
+    let _written = match told_by_system(status, input, out) {
+        Some(error) => eprintln!(rt; "voldkaumi: {cause}: {error}"),
+        None => eprintln!(rt; "voldkaumi: {cause}"),
+    };
+}
