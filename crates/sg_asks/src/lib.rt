@@ -1,7 +1,7 @@
 //! Asks, replies and the election file as JSON.
 //!
-//! Asks come in nine forms. Of a name that comes twice in an object the last value stands. No call takes more memory
-//! than a few times the bytes that it reads or writes, and want of memory is the one answer without a cause.
+//! An ask or a setup is read exactly where bytes have its form, and each fault tells what they have not. Want of memory
+//! is the one answer without a cause.
 #![tactic(auto)]
 
 mod acts;

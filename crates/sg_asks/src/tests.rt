@@ -1,4 +1,6 @@
 //! Asks, replies and election files on examples, whose texts and answers were found by hand or by another program.
+ghost use Rattle.sg_asks.specs.Replies.{HasPlainText, HasReplyCodes};
+
 use super::*;
 use sg_keeper::{Act, Ask, Body, CodeSeen, FateWord, Look, Phase, Receipt, Reply};
 use sg_plan::{ClaimWord, Draw, Items, NoMemory, PlanFault, Word};
@@ -248,131 +250,293 @@ fn numbers(alloc: Global, list: &[u32]) -> Result<Items<u32>, NoMemory> {
     Ok(items)
 }
 
+/// The reply has this text.
+fn has_text(alloc: Global, version: u32, reply: &Reply, text: &str) -> Result<bool, NoMemory>
+    requires codes { HasReplyCodes version reply.now }
+    requires kept { HasPlainText reply.now }
+{
+    Ok(reply_text(alloc, version, reply)?.bytes() == text.as_bytes())
+}
+
 #[test]
 fn bodies_are_written(rt: HostRuntime) -> Result<(), NoMemory> {
     let alloc = rt.alloc();
-    let mut seen = Items::new(alloc);
-    seen.push(CodeSeen { race: 0, code: 679 })?;
-    seen.push(CodeSeen { race: 31, code: 7 })?;
-    let receipt = Receipt {
-        ballot: 1,
-        fate: FateWord::Cast,
-        codes: seen,
-        over: numbers(alloc, &[1])?,
-    };
     let mut totals = Items::new(alloc);
     totals.push(numbers(alloc, &[1, 0])?)?;
     totals.push(numbers(alloc, &[4_294_967_295])?)?;
-    for (body, text) in [
-        (
-            Body::Scanned(numbers(alloc, &[])?),
-            "{\"over\":[],\"status\":200}",
-        ),
-        (
-            Body::Scanned(numbers(alloc, &[1, 4_294_967_295])?),
-            "{\"over\":[1,4294967295],\"status\":200}",
-        ),
-        (Body::Spoiled, "{\"status\":200}"),
-        (Body::Voided, "{\"status\":200}"),
-        (Body::Audited(true), "{\"match\":true,\"status\":200}"),
-        (Body::Audited(false), "{\"match\":false,\"status\":200}"),
-        (Body::Closed, "{\"status\":200}"),
-        (Body::Drawn, "{\"status\":200}"),
-        (
-            Body::Claimed(ClaimWord::Posted),
-            "{\"status\":200,\"word\":\"posted\"}",
-        ),
-        (
-            Body::Claimed(ClaimWord::Unposted),
-            "{\"status\":200,\"word\":\"unposted\"}",
-        ),
-        (
-            Body::Claimed(ClaimWord::Absent),
-            "{\"status\":200,\"word\":\"absent\"}",
-        ),
-        (
-            Body::Receipt(receipt),
-            "{\"ballot\":1,\"codes\":[[0,\"679\"],[31,\"007\"]],\"fate\":\"cast\",\"over\":[1],\"status\":200}",
-        ),
-        (
-            Body::Totals(totals),
-            "{\"status\":200,\"totals\":[[1,0],[4294967295]]}",
-        ),
-    ] {
-        let written = reply_text(alloc, 1, &Reply::Done(body))?;
-        assert_eq!(rt; written.bytes(), text.as_bytes(), "{text}");
-    }
+    assert!(rt;
+        has_text(
+            alloc,
+            1,
+            &Reply::Done(Body::Scanned(numbers(alloc, &[])?)),
+            "{\"over\":[],\"status\":200}"
+        )?
+    );
+    assert!(rt;
+        has_text(
+            alloc,
+            1,
+            &Reply::Done(Body::Scanned(numbers(alloc, &[1, 4_294_967_295])?)),
+            "{\"over\":[1,4294967295],\"status\":200}"
+        )?
+    );
+    assert!(rt; has_text(alloc, 1, &Reply::Done(Body::Spoiled), "{\"status\":200}")?);
+    assert!(rt; has_text(alloc, 1, &Reply::Done(Body::Voided), "{\"status\":200}")?);
+    assert!(rt;
+        has_text(
+            alloc,
+            1,
+            &Reply::Done(Body::Audited(true)),
+            "{\"match\":true,\"status\":200}"
+        )?
+    );
+    assert!(rt;
+        has_text(
+            alloc,
+            1,
+            &Reply::Done(Body::Audited(false)),
+            "{\"match\":false,\"status\":200}"
+        )?
+    );
+    assert!(rt; has_text(alloc, 1, &Reply::Done(Body::Closed), "{\"status\":200}")?);
+    assert!(rt; has_text(alloc, 1, &Reply::Done(Body::Drawn), "{\"status\":200}")?);
+    assert!(rt;
+        has_text(
+            alloc,
+            1,
+            &Reply::Done(Body::Claimed(ClaimWord::Posted)),
+            "{\"status\":200,\"word\":\"posted\"}"
+        )?
+    );
+    assert!(rt;
+        has_text(
+            alloc,
+            1,
+            &Reply::Done(Body::Claimed(ClaimWord::Unposted)),
+            "{\"status\":200,\"word\":\"unposted\"}"
+        )?
+    );
+    assert!(rt;
+        has_text(
+            alloc,
+            1,
+            &Reply::Done(Body::Claimed(ClaimWord::Absent)),
+            "{\"status\":200,\"word\":\"absent\"}"
+        )?
+    );
+    assert!(rt;
+        has_text(
+            alloc,
+            1,
+            &Reply::Done(Body::Totals(totals)),
+            "{\"status\":200,\"totals\":[[1,0],[4294967295]]}"
+        )?
+    );
+    Ok(())
+}
+
+#[test]
+fn receipts_are_written(rt: HostRuntime) -> Result<(), NoMemory> {
+    let alloc = rt.alloc();
+    let mut codes = Items::new(alloc);
+    codes.push(CodeSeen { race: 31, code: 7 })?;
+    let receipt = Receipt {
+        ballot: 1,
+        fate: FateWord::Cast,
+        codes,
+        over: numbers(alloc, &[1])?,
+    };
+    let reply = Reply::Done(Body::Receipt(receipt));
+    assert!(rt;
+        has_text(
+            alloc,
+            1,
+            &reply,
+            "{\"ballot\":1,\"codes\":[[31,\"007\"]],\"fate\":\"cast\",\"over\":[1],\"status\":200}"
+        )?
+    );
+    assert!(rt;
+        has_text(
+            alloc,
+            2,
+            &reply,
+            "{\"ballot\":1,\"codes\":[[31,\"229\"]],\"fate\":\"cast\",\"over\":[1],\"status\":200}"
+        )?
+    );
     Ok(())
 }
 
 #[test]
 fn refusals_are_written(rt: HostRuntime) -> Result<(), NoMemory> {
     let alloc = rt.alloc();
+    assert!(rt;
+        has_text(
+            alloc,
+            2,
+            &Reply::Secret,
+            "{\"error\":\"secret\",\"status\":403}"
+        )?
+    );
+    assert!(rt;
+        has_text(
+            alloc,
+            2,
+            &Reply::Ballot,
+            "{\"error\":\"ballot\",\"status\":404}"
+        )?
+    );
+    assert!(rt;
+        has_text(
+            alloc,
+            2,
+            &Reply::Phase(Phase::Voting),
+            "{\"error\":\"phase\",\"phase\":\"voting\",\"status\":409}"
+        )?
+    );
+    assert!(rt;
+        has_text(
+            alloc,
+            2,
+            &Reply::Phase(Phase::Closed),
+            "{\"error\":\"phase\",\"phase\":\"closed\",\"status\":409}"
+        )?
+    );
+    assert!(rt;
+        has_text(
+            alloc,
+            2,
+            &Reply::Phase(Phase::Drawn),
+            "{\"error\":\"phase\",\"phase\":\"drawn\",\"status\":409}"
+        )?
+    );
+    assert!(rt;
+        has_text(
+            alloc,
+            2,
+            &Reply::Fate(FateWord::Unused),
+            "{\"error\":\"fate\",\"fate\":\"unused\",\"status\":409}"
+        )?
+    );
+    assert!(rt;
+        has_text(
+            alloc,
+            2,
+            &Reply::Fate(FateWord::Cast),
+            "{\"error\":\"fate\",\"fate\":\"cast\",\"status\":409}"
+        )?
+    );
+    assert!(rt;
+        has_text(
+            alloc,
+            2,
+            &Reply::Fate(FateWord::Spoiled),
+            "{\"error\":\"fate\",\"fate\":\"spoiled\",\"status\":409}"
+        )?
+    );
+    assert!(rt;
+        has_text(
+            alloc,
+            2,
+            &Reply::Fate(FateWord::Audited),
+            "{\"error\":\"fate\",\"fate\":\"audited\",\"status\":409}"
+        )?
+    );
+    assert!(rt;
+        has_text(
+            alloc,
+            2,
+            &Reply::Fate(FateWord::Voided),
+            "{\"error\":\"fate\",\"fate\":\"voided\",\"status\":409}"
+        )?
+    );
+    assert!(rt;
+        has_text(
+            alloc,
+            2,
+            &Reply::Full,
+            "{\"error\":\"full\",\"limit\":10000,\"status\":409}"
+        )?
+    );
+    assert!(rt;
+        has_text(
+            alloc,
+            2,
+            &Reply::Race(0),
+            "{\"at\":0,\"error\":\"race\",\"status\":422}"
+        )?
+    );
+    assert!(rt;
+        has_text(
+            alloc,
+            2,
+            &Reply::Candidate(0),
+            "{\"at\":0,\"error\":\"candidate\",\"status\":422}"
+        )?
+    );
+    assert!(rt;
+        has_text(
+            alloc,
+            2,
+            &Reply::Twice(1),
+            "{\"at\":1,\"error\":\"twice\",\"status\":422}"
+        )?
+    );
+    assert!(rt;
+        has_text(
+            alloc,
+            2,
+            &Reply::Station(0),
+            "{\"error\":\"station\",\"kept\":0,\"status\":409}"
+        )?
+    );
+    assert!(rt;
+        has_text(
+            alloc,
+            2,
+            &Reply::Paper,
+            "{\"error\":\"paper\",\"status\":422}"
+        )?
+    );
+    assert!(rt;
+        has_text(
+            alloc,
+            2,
+            &Reply::Draw,
+            "{\"error\":\"draw\",\"status\":422}"
+        )?
+    );
+    assert!(rt;
+        has_text(
+            alloc,
+            2,
+            &Reply::Memory,
+            "{\"error\":\"memory\",\"status\":500}"
+        )?
+    );
+    assert!(rt;
+        has_text(
+            alloc,
+            2,
+            &Reply::Store,
+            "{\"error\":\"store\",\"status\":503}"
+        )?
+    );
+    Ok(())
+}
+
+#[test]
+fn kept_acts_are_written(rt: HostRuntime) -> Result<(), NoMemory> {
+    let alloc = rt.alloc();
     let mut kept = Word::new(alloc);
-    kept.extend(b"audit 2 067,DGT 999")?;
-    for (reply, text) in [
-        (Reply::Secret, "{\"error\":\"secret\",\"status\":403}"),
-        (Reply::Ballot, "{\"error\":\"ballot\",\"status\":404}"),
-        (
-            Reply::Ref(kept),
-            "{\"error\":\"ref\",\"kept\":\"audit 2 067,DGT 999\",\"status\":409}",
-        ),
-        (
-            Reply::Phase(Phase::Voting),
-            "{\"error\":\"phase\",\"phase\":\"voting\",\"status\":409}",
-        ),
-        (
-            Reply::Phase(Phase::Closed),
-            "{\"error\":\"phase\",\"phase\":\"closed\",\"status\":409}",
-        ),
-        (
-            Reply::Phase(Phase::Drawn),
-            "{\"error\":\"phase\",\"phase\":\"drawn\",\"status\":409}",
-        ),
-        (
-            Reply::Fate(FateWord::Unused),
-            "{\"error\":\"fate\",\"fate\":\"unused\",\"status\":409}",
-        ),
-        (
-            Reply::Fate(FateWord::Spoiled),
-            "{\"error\":\"fate\",\"fate\":\"spoiled\",\"status\":409}",
-        ),
-        (
-            Reply::Fate(FateWord::Audited),
-            "{\"error\":\"fate\",\"fate\":\"audited\",\"status\":409}",
-        ),
-        (
-            Reply::Fate(FateWord::Voided),
-            "{\"error\":\"fate\",\"fate\":\"voided\",\"status\":409}",
-        ),
-        (
-            Reply::Full,
-            "{\"error\":\"full\",\"limit\":10000,\"status\":409}",
-        ),
-        (
-            Reply::Race(0),
-            "{\"at\":0,\"error\":\"race\",\"status\":422}",
-        ),
-        (
-            Reply::Candidate(0),
-            "{\"at\":0,\"error\":\"candidate\",\"status\":422}",
-        ),
-        (
-            Reply::Twice(1),
-            "{\"at\":1,\"error\":\"twice\",\"status\":422}",
-        ),
-        (
-            Reply::Station(0),
-            "{\"error\":\"station\",\"kept\":0,\"status\":409}",
-        ),
-        (Reply::Paper, "{\"error\":\"paper\",\"status\":422}"),
-        (Reply::Draw, "{\"error\":\"draw\",\"status\":422}"),
-        (Reply::Memory, "{\"error\":\"memory\",\"status\":500}"),
-        (Reply::Store, "{\"error\":\"store\",\"status\":503}"),
-    ] {
-        let written = reply_text(alloc, 2, &reply)?;
-        assert_eq!(rt; written.bytes(), text.as_bytes(), "{text}");
-    }
+    kept.extend(b"spoil 2")?;
+    assert!(rt;
+        has_text(
+            alloc,
+            1,
+            &Reply::Ref(kept),
+            "{\"error\":\"ref\",\"kept\":\"spoil 2\",\"status\":409}"
+        )?
+    );
     Ok(())
 }
 
@@ -408,17 +572,20 @@ fn election_files_are_read(rt: HostRuntime) -> Result<(), Fail> {
     assert_eq!(rt; setup.plan.version, 2);
     assert_eq!(rt; setup.plan.instances, 1);
     assert_eq!(rt; setup.plan.name.bytes(), b"E".as_slice());
-    assert_eq!(rt;
-        setup.plan.races.as_slice()[0].candidates.as_slice()[1].bytes(),
-        b"Ben".as_slice()
-    );
+    assert_eq!(rt; setup.plan.races.len(), 1);
+    let candidates = &setup.plan.races.as_slice()[0].candidates;
+    assert_eq!(rt; candidates.len(), 2);
+    assert_eq!(rt; candidates.as_slice()[1].bytes(), b"Ben".as_slice());
+    assert_eq!(rt; setup.plan.styles.len(), 1);
     assert_eq!(rt;
         setup.plan.styles.as_slice()[0].races.as_slice(),
         [0].as_slice()
     );
+    assert_eq!(rt; setup.plan.runs.len(), 1);
     assert_eq!(rt; setup.plan.runs.as_slice()[0].count, 1);
     assert_eq!(rt; setup.seed.0[0], 255);
     assert_eq!(rt; setup.seed.0[31], 1);
+    assert_eq!(rt; setup.secrets.len(), 1);
     assert_eq!(rt; setup.secrets.as_slice()[0][15], 15);
     Ok(())
 }

@@ -165,7 +165,7 @@ fn copy_codes(from: &[u16], to: &mut [u16])
 }
 
 /// Writes the papers of a ballot with these races.
-fn put_papers<O: Sink>(
+pub fn put_papers<O: Sink>(
     pen: &mut Pen,
     races: &[u32],
     papers: &Paper,

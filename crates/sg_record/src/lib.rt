@@ -18,7 +18,7 @@ mod results;
 mod typed;
 mod write;
 
-pub use blocks::{put_block, put_dispute};
+pub use blocks::{put_block, put_dispute, put_papers};
 pub use commits::{put_code_commit, put_row_commit};
 pub use head::put_plan;
 pub use laws::{formed_law, lines_law, text_law, walk_law, whole_law, words_law};

@@ -64,7 +64,7 @@ impl Tables {
     }
 
     /// The entry in a column of a ballot row.
-    fn row_entry(&self, race: u32, ballot_row: u32, column: u32) -> u32
+    pub fn row_entry(&self, race: u32, ballot_row: u32, column: u32) -> u32
         requires race { race < length self.now.plan.races }
         requires ballot_row { ballot_row < rows_of self.now.plan race }
         requires column { column < candidates_of self.now.plan race }

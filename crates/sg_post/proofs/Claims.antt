@@ -1,0 +1,117 @@
+-- Fates and claims that fit, one by one.
+use Rattle.std.proofs.Common.{◌≡◌, ℕ, ◌<◌, ◌≤◌, ◌==◌, nat_lt, Bool, true, false, ◌&&◌, ◌||◌, not, cond, inl, inr, All, List, [], ◌∷◌, length, None, refl, sym, subst, ap, ◌∙◌, arith}
+use Rattle.std.proofs.lemmas.Bool.{and_parts, cases_Bool, cases_lt, eqb-true}
+use Rattle.std.proofs.lemmas.Bool.Decides.{nat_tests}
+use Rattle.std.proofs.lemmas.Bool.{true≢false}
+use Rattle.std.proofs.lemmas.List.Elements.{All-cons, All-head, All-nil, All-tail}
+use Rattle.std.proofs.lemmas.List.Sums.{sum_by-cons}
+use Rattle.std.specs.List.{list_all, list_any}
+use Rattle.std.proofs.lemmas.Option.{slice_get_past}
+use Rattle.std.specs.Option.{option_map_or}
+use Rattle.sg_plan.specs.Ballots.{ballot_has, ballots_of, candidates_of, is_over, marks_in, races_of_ballot, style_of_ballot, votes_of}
+use Rattle.sg_plan.specs.Codes.{is_code}
+use Rattle.sg_plan.specs.Fates.{detail_fits, fate_fits, has_mark, is_in, mark_fits, marks_differ, paper_fits}
+use Rattle.sg_plan.specs.Limits.{fault_of}
+use Rattle.sg_plan.specs.Names.{is_within}
+use Rattle.sg_plan.specs.declared.plan.Fate.{Fate}
+use Rattle.sg_plan.specs.declared.plan.Fate.TheVariants as fate
+use Rattle.sg_plan.specs.declared.plan.Mark.{Mark}
+use Rattle.sg_plan.specs.declared.plan.Plan.{Plan}
+use Rattle.sg_plan.specs.declared.plan.Race.{Race}
+use Rattle.sg_tables.specs.Posts.{fate_marks, is_void}
+use Rattle.sg_record.proofs.BlockTests.{has_among}
+use Rattle.sg_record.proofs.Limits.{ballot_two}
+use Rattle.sg_record.specs.Formed.{are_papers}
+use Rattle.sg_post.specs.Fits.{claim_fits}
+use Rattle.sg_post.specs.declared.story.Claimed.{Claimed}
+
+-- CLAIMS
+
+pub each-claim : (plan : Plan) (claims : List Claimed) → list_all (claim_fits plan) claims ≡ true → All (λ claimed. claim_fits plan claimed ≡ true) claims
+each-claim plan [] fit = All-nil (λ (claimed : Claimed). claim_fits plan claimed ≡ true)
+each-claim plan (claimed ∷ claims) fit =
+    let parts = and_parts (claim_fits plan claimed) (list_all (claim_fits plan) claims) fit in
+    All-cons (λ (one : Claimed). claim_fits plan one ≡ true) claimed claims parts.0 (each-claim plan claims parts.1)
+
+-- FATES
+
+-- the parts of a fate that fits
+pub detail-of : (plan : Plan) (ballot : ℕ) (what : Fate) → fate_fits plan ballot what ≡ true → detail_fits plan (races_of_ballot plan ballot) what ≡ true
+detail-of plan ballot what fit = (and_parts (is_within 1 (ballots_of plan) ballot) (detail_fits plan (races_of_ballot plan ballot) what) fit).1
+
+-- a paper that fits is one that a record may have
+pub paper-same : (plan : Plan) (races : List ℕ) (paper : List (List ℕ)) → paper_fits plan races paper ≡ are_papers plan races paper
+paper-same plan [] [] = refl
+paper-same plan [] (codes ∷ paper) = refl
+paper-same plan (race ∷ races) [] = refl
+paper-same plan (race ∷ races) (codes ∷ paper) = ap (λ (b : Bool). (length codes == candidates_of plan race && list_all (is_code plan) codes) && b) (paper-same plan races paper)
+
+abbrev tally : Bool → ℕ
+tally b = cond b 1 0
+
+-- no mark is of a race that is not among those that they are of
+abbrev pub IsUnnamed : ℕ → List Mark → Type 0
+IsUnnamed race marks = ((candidate : ℕ) → has_mark marks race candidate ≡ false) × (marks_in race marks ≡ 0)
+
+unnamed : (plan : Plan) (races : List ℕ) (race : ℕ) (marks : List Mark) → list_all (mark_fits plan races) marks ≡ true → is_in races race ≡ false → IsUnnamed race marks
+unnamed plan races race [] fit out = (λ candidate. refl, refl)
+unnamed plan races race (mark ∷ marks) fit out =
+    let parts = and_parts (mark_fits plan races mark) (list_all (mark_fits plan races) marks) fit in
+    let rest = unnamed plan races race marks parts.1 out in
+    let named : is_in races mark.race ≡ true = (and_parts (is_in races mark.race) (nat_lt mark.candidate (candidates_of plan mark.race)) parts.0).0 in
+    elim (cases_Bool (mark.race == race)) [
+      | inl here ↦ absurd (true≢false (sym named ∙ (ap (is_in races) (eqb-true mark.race race here) ∙ out)))
+      | inr other ↦ (
+        λ candidate. ap (λ (b : Bool). (b && mark.candidate == candidate) || has_mark marks race candidate) other ∙ rest.0 candidate,
+        omega (arith, sum_by-cons (λ (m : Mark). tally (m.race == race)) mark marks, ap tally other, rest.1),
+      )
+    ]
+
+-- a ballot posts nothing in a race that it does not have
+pub record PostsNothing (plan : Plan) (race : ℕ) (what : Fate) : Type 0 where
+  pub marks : (candidate : ℕ) → fate_marks plan race candidate what ≡ false
+  pub void : is_void plan what race ≡ false
+
+none_over : (votes count : ℕ) → count ≡ 0 → nat_lt votes count ≡ false
+none_over votes count none = ap (nat_lt votes) none ∙ never votes
+  where
+    never : (n : ℕ) → nat_lt n 0 ≡ false
+    never n = grind (arith, nat_tests)
+
+pub posts-nothing : (plan : Plan) (ballot race : ℕ) (what : Fate) → fate_fits plan ballot what ≡ true → ballot_has plan ballot race ≡ false → PostsNothing plan race what
+posts-nothing plan ballot race (fate.Cast marks) fit lacks =
+    let races = races_of_ballot plan ballot in
+    let tests = and_parts (list_all (mark_fits plan races) marks) (marks_differ marks) (detail-of plan ballot (fate.Cast marks) fit) in
+    let none = unnamed plan races race marks tests.0 (sym (has_among plan ballot race) ∙ lacks) in
+    let over : is_over plan marks race ≡ false = none_over (votes_of plan race) (marks_in race marks) none.1 in
+    record { marks = λ candidate. ap (λ (b : Bool). b && not (is_over plan marks race)) (none.0 candidate); void = over }
+posts-nothing plan ballot race fate.Unused fit lacks = record { marks = λ candidate. refl; void = refl }
+posts-nothing plan ballot race fate.Spoiled fit lacks = record { marks = λ candidate. refl; void = refl }
+posts-nothing plan ballot race (fate.Audited paper) fit lacks = record { marks = λ candidate. refl; void = refl }
+posts-nothing plan ballot race fate.Voided fit lacks = record { marks = λ candidate. refl; void = refl }
+
+-- A RACE THAT A BALLOT HAS
+
+any_is : (P : ℕ → Type 0) (race : ℕ) (list : List ℕ) → list_any (λ carried. carried == race) list ≡ true → All P list → P race
+any_is P race [] found all = cc
+any_is P race (x ∷ xs) found all =
+    elim (cases_Bool (x == race)) [
+      | inl here ↦ subst P (eqb-true x race here) (All-head P x xs all)
+      | inr none ↦ any_is P race xs (sym (ap (λ (b : Bool). b || list_any (λ carried. carried == race) xs) none) ∙ found) (All-tail P x xs all)
+    ]
+
+-- only a race of the plan has candidates
+some-within : (plan : Plan) (race : ℕ) → 2 ≤ candidates_of plan race → race < length plan.races
+some-within plan race two =
+    elim (cases_lt race (length plan.races)) [
+      | inl within ↦ within
+      | inr past ↦
+          let none : candidates_of plan race ≡ 0 = ap (λ o. option_map_or (λ (r : Race). length r.candidates) o 0) (slice_get_past plan.races race past) in
+          absurd (omega (arith, none, two))
+    ]
+
+-- it is one of the plan
+pub has-within : (plan : Plan) (ballot race : ℕ) → fault_of plan ≡ None → ballot_has plan ballot race ≡ true → race < length plan.races
+has-within plan ballot race fine has =
+    some-within plan race
+    (any_is (λ (r : ℕ). 2 ≤ candidates_of plan r) race (races_of_ballot plan ballot) (sym (has_among plan ballot race) ∙ has) (ballot_two plan fine (style_of_ballot plan ballot)))

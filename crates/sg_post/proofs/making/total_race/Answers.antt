@@ -1,0 +1,16 @@
+-- The places are those of the race, and few.
+use Rattle.std.proofs.Common.{[], length, sym, ap, ◌∙◌, arith}
+use Rattle.std.proofs.lemmas.Option.{get_or_from_slice_get}
+use Rattle.sg_post.proofs.making.total_race.Goals as goal
+
+pub get-requires : goal.get-requires
+get-requires c = omega (arith, c.requires.places.many, c.requires.race)
+
+pub total_candidates-requires : goal.total_candidates-requires
+total_candidates-requires c =
+    let many = ap length (sym (get_or_from_slice_get c.args.places.now c.args.race c.get.result.now [] c.get.ensures.item)) ∙ c.requires.places.each c.args.race c.requires.race in
+    omega (arith, many, c.count_entries.ensures, c.ranges)
+
+pub returns : goal.returns
+returns c =
+    rw (get_or_from_slice_get c.args.places.now c.args.race c.get.result.now [] c.get.ensures.item) (rw c.count_candidates-candidates.ensures at c.total_candidates.ensures)

@@ -1,0 +1,4 @@
+-- What no reader needs to believe: the steps by which a posting is made and written.
+pub mod Lines
+pub mod Making
+pub mod RowMarks

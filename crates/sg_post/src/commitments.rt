@@ -1,0 +1,157 @@
+//! Section 1 of what is posted: the plan and the commitments.
+ghost use Rattle.std.specs.Prelude.{◌≡◌, ◌<◌, [], length};
+ghost use Rattle.sg_plan.specs.Ballots.{entries_of};
+ghost use Rattle.sg_record.specs.Pens.{IsSealOf, Writes};
+ghost use Rattle.sg_post.specs.Posted.{code_commit_of, row_commit_of};
+ghost use Rattle.sg_post.specs.inside.Lines.{code_commits, entry_commit, instance_row_commits, race_commits, race_row_commits, row_commit, row_commits, section_1};
+
+use crate::counts::{count_entries, count_instances, count_races};
+use sg_commit::{CommitKind, Digest, commit};
+use sg_outside::{Failed, Sink};
+use sg_record::{Pen, RowCommit, put_code_commit, put_plan, put_row_commit};
+use sg_tables::Tables;
+
+/// The commitment to an entry's code.
+#[tactic(auto, unfolding(crate::specs::Posted::code_commit_of))]
+fn code_commit(tables: &Tables, race: u32, entry: u32) -> Digest
+    requires race { race < length tables.now.plan.races }
+    requires entry { entry < entries_of tables.now.plan race }
+    ensures { result ≡ code_commit_of tables.now.plan tables.now.seed race entry }
+{
+    let _ = count_races(tables);
+    let opening = tables.q_opening(race, entry);
+    commit(CommitKind::Q, race, 0, entry, &opening)
+}
+
+/// Writes the commitment to an entry's code.
+fn put_entry_commit<O: Sink>(
+    pen: &mut Pen,
+    tables: &Tables,
+    race: u32,
+    entry: u32,
+    out: &mut O,
+) -> Result<(), Failed>
+    requires race { race < length tables.now.plan.races }
+    requires entry { entry < entries_of tables.now.plan race }
+    ensures { Writes O.written O.faults pen.old out.old pen.new out.new result (entry_commit tables.now.plan tables.now.seed race entry) }
+{
+    let digest = code_commit(tables, race, entry);
+    put_code_commit(pen, race, &digest, out)
+}
+
+/// Writes the commitments to the codes of a race.
+fn put_race_commits<O: Sink>(
+    pen: &mut Pen,
+    tables: &Tables,
+    race: u32,
+    out: &mut O,
+) -> Result<(), Failed>
+    requires race { race < length tables.now.plan.races }
+    ensures { Writes O.written O.faults pen.old out.old pen.new out.new result (race_commits tables.now.plan tables.now.seed race) }
+{
+    for entry in 0..count_entries(tables, race) {
+        put_entry_commit(pen, tables, race, entry, out)?;
+    }
+    Ok(())
+}
+
+/// Writes the commitments to the codes of all races.
+fn put_code_commits<O: Sink>(pen: &mut Pen, tables: &Tables, out: &mut O) -> Result<(), Failed>
+    ensures { Writes O.written O.faults pen.old out.old pen.new out.new result (code_commits tables.now.plan tables.now.seed) }
+{
+    for race in 0..count_races(tables) {
+        put_race_commits(pen, tables, race, out)?;
+    }
+    Ok(())
+}
+
+/// The commitments to a row's pointers.
+#[tactic(auto, unfolding(crate::specs::Posted::row_commit_of))]
+fn row_commits(tables: &Tables, race: u32, instance: u32, row: u32) -> RowCommit
+    requires race { race < length tables.now.plan.races }
+    requires instance { instance < tables.now.plan.instances }
+    requires row { row < entries_of tables.now.plan race }
+    ensures { result ≡ row_commit_of tables.now.plan tables.now.seed race instance row }
+{
+    let _ = count_races(tables);
+    let left = tables.left_opening(race, instance, row);
+    let right = tables.right_opening(race, instance, row);
+    RowCommit {
+        left: commit(CommitKind::L, race, instance, row, &left),
+        right: commit(CommitKind::R, race, instance, row, &right),
+    }
+}
+
+/// Writes the commitments to a row's pointers.
+fn put_row<O: Sink>(
+    pen: &mut Pen,
+    tables: &Tables,
+    race: u32,
+    instance: u32,
+    row: u32,
+    out: &mut O,
+) -> Result<(), Failed>
+    requires race { race < length tables.now.plan.races }
+    requires instance { instance < tables.now.plan.instances }
+    requires row { row < entries_of tables.now.plan race }
+    ensures { Writes O.written O.faults pen.old out.old pen.new out.new result (row_commit tables.now.plan tables.now.seed race instance row) }
+{
+    let digests = row_commits(tables, race, instance, row);
+    put_row_commit(pen, race, instance, &digests, out)
+}
+
+/// Writes the commitments to the pointers of an instance's rows.
+fn put_instance<O: Sink>(
+    pen: &mut Pen,
+    tables: &Tables,
+    race: u32,
+    instance: u32,
+    out: &mut O,
+) -> Result<(), Failed>
+    requires race { race < length tables.now.plan.races }
+    requires instance { instance < tables.now.plan.instances }
+    ensures { Writes O.written O.faults pen.old out.old pen.new out.new result (instance_row_commits tables.now.plan tables.now.seed race instance) }
+{
+    for row in 0..count_entries(tables, race) {
+        put_row(pen, tables, race, instance, row, out)?;
+    }
+    Ok(())
+}
+
+/// Writes the commitments to the pointers of a race.
+fn put_race_rows<O: Sink>(
+    pen: &mut Pen,
+    tables: &Tables,
+    race: u32,
+    out: &mut O,
+) -> Result<(), Failed>
+    requires race { race < length tables.now.plan.races }
+    ensures { Writes O.written O.faults pen.old out.old pen.new out.new result (race_row_commits tables.now.plan tables.now.seed race) }
+{
+    for instance in 0..count_instances(tables) {
+        put_instance(pen, tables, race, instance, out)?;
+    }
+    Ok(())
+}
+
+/// Writes the commitments to the pointers of all races.
+fn put_row_commits<O: Sink>(pen: &mut Pen, tables: &Tables, out: &mut O) -> Result<(), Failed>
+    ensures { Writes O.written O.faults pen.old out.old pen.new out.new result (row_commits tables.now.plan tables.now.seed) }
+{
+    for race in 0..count_races(tables) {
+        put_race_rows(pen, tables, race, out)?;
+    }
+    Ok(())
+}
+
+/// Writes the plan, all commitments and the seal.
+pub fn put_commitments<O: Sink>(pen: &mut Pen, tables: &Tables, out: &mut O) -> Result<(), Failed>
+    requires version { pen.old.version ≡ tables.now.plan.version }
+    requires seal { IsSealOf pen.old.seal [] }
+    ensures { Writes O.written O.faults pen.old out.old pen.new out.new result (section_1 tables.now.plan tables.now.seed) }
+{
+    put_plan(pen, tables.plan(), out)?;
+    put_code_commits(pen, tables, out)?;
+    put_row_commits(pen, tables, out)?;
+    pen.put_seal(1, out)
+}

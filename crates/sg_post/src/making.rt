@@ -1,0 +1,221 @@
+//! Flags, places and totals, made from marks.
+ghost use Rattle.std.specs.Prelude.{◌≡◌, ◌<◌, ◌≤◌, ◌^◌, if◌then◌else◌, true, length, map, slice_set, IfOk};
+ghost use Rattle.sg_plan.specs.Ballots.{entries_of};
+ghost use Rattle.sg_streams.specs.Numbers.{numbers_below};
+ghost use Rattle.sg_post.specs.inside.Making.{HaveEntries, flags_by, is_vote, places_by, race_flags_by, race_places_by, race_totals_by, total_by};
+
+use crate::counts::{count_candidates, count_entries, count_instances, count_races};
+use sg_plan::{Items, NoMemory};
+use sg_tables::Tables;
+use std::alloc::Global;
+
+/// The flags of all races, by their marks.
+pub fn flag_races(
+    alloc: Global,
+    tables: &Tables,
+    marks: &Items<Items<bool>>,
+) -> Result<Items<Items<Items<bool>>>, NoMemory>
+    requires { HaveEntries tables.now.plan marks.now }
+    ensures { IfOk result (λ flags. flags ≡ map (race_flags_by tables.now.plan tables.now.seed marks.now) (numbers_below (length tables.now.plan.races))) }
+{
+    let count = count_races(tables);
+    let mut flags = Items::with_room(alloc, count as usize)?;
+    for race in 0..count {
+        flags.push(flag_race(alloc, tables, race, marks)?)?;
+    }
+    Ok(flags)
+}
+
+/// The flags of a race's instances.
+fn flag_race(
+    alloc: Global,
+    tables: &Tables,
+    race: u32,
+    marks: &Items<Items<bool>>,
+) -> Result<Items<Items<bool>>, NoMemory>
+    requires race { race < length tables.now.plan.races }
+    requires marks { HaveEntries tables.now.plan marks.now }
+    ensures { IfOk result (λ flags. flags ≡ race_flags_by tables.now.plan tables.now.seed marks.now race) }
+{
+    flag_instances(alloc, tables, race, marks.get(race as usize))
+}
+
+/// The flags of the instances of a race with these marks.
+fn flag_instances(
+    alloc: Global,
+    tables: &Tables,
+    race: u32,
+    marks: &Items<bool>,
+) -> Result<Items<Items<bool>>, NoMemory>
+    requires race { race < length tables.now.plan.races }
+    requires marks { length marks.now ≡ entries_of tables.now.plan race }
+    ensures { IfOk result (λ flags. flags ≡ map (flags_by tables.now.plan tables.now.seed race marks.now) (numbers_below tables.now.plan.instances)) }
+{
+    let count = count_instances(tables);
+    let mut flags = Items::with_room(alloc, count as usize)?;
+    for instance in 0..count {
+        flags.push(flag_rows(alloc, tables, race, instance, marks)?)?;
+    }
+    Ok(flags)
+}
+
+/// The flags of an instance's rows.
+fn flag_rows(
+    alloc: Global,
+    tables: &Tables,
+    race: u32,
+    instance: u32,
+    marks: &Items<bool>,
+) -> Result<Items<bool>, NoMemory>
+    requires race { race < length tables.now.plan.races }
+    requires instance { instance < tables.now.plan.instances }
+    requires marks { length marks.now ≡ entries_of tables.now.plan race }
+    ensures { IfOk result (λ flags. flags ≡ flags_by tables.now.plan tables.now.seed race marks.now instance) }
+{
+    let rows = count_entries(tables, race);
+    let mut flags = Items::with_room(alloc, rows as usize)?;
+    for row in 0..rows {
+        let (entry, _) = tables.r_row(race, instance, row);
+        flags.push(*marks.get(entry as usize))?;
+    }
+    Ok(flags)
+}
+
+/// The places of all races, by their marks.
+pub fn place_races(
+    alloc: Global,
+    tables: &Tables,
+    marks: &Items<Items<bool>>,
+) -> Result<Items<Items<bool>>, NoMemory>
+    requires { HaveEntries tables.now.plan marks.now }
+    ensures { IfOk result (λ places. places ≡ map (race_places_by tables.now.plan tables.now.seed marks.now) (numbers_below (length tables.now.plan.races))) }
+{
+    let count = count_races(tables);
+    let mut places = Items::with_room(alloc, count as usize)?;
+    for race in 0..count {
+        places.push(place_race(alloc, tables, race, marks)?)?;
+    }
+    Ok(places)
+}
+
+/// The places of a race.
+fn place_race(
+    alloc: Global,
+    tables: &Tables,
+    race: u32,
+    marks: &Items<Items<bool>>,
+) -> Result<Items<bool>, NoMemory>
+    requires race { race < length tables.now.plan.races }
+    requires marks { HaveEntries tables.now.plan marks.now }
+    ensures { IfOk result (λ places. places ≡ race_places_by tables.now.plan tables.now.seed marks.now race) }
+{
+    place_entries(alloc, tables, race, marks.get(race as usize))
+}
+
+/// The places to which the marked entries of a race lead.
+fn place_entries(
+    alloc: Global,
+    tables: &Tables,
+    race: u32,
+    marks: &Items<bool>,
+) -> Result<Items<bool>, NoMemory>
+    requires race { race < length tables.now.plan.races }
+    requires marks { length marks.now ≡ entries_of tables.now.plan race }
+    ensures { IfOk result (λ places. places ≡ places_by tables.now.plan tables.now.seed race marks.now (entries_of tables.now.plan race)) }
+{
+    let entries = count_entries(tables, race);
+    let mut places = Items::filled(alloc, false, entries as usize)?;
+    for entry in 0..entries {
+        let place = tables.path(race, entry);
+        let is_marked = *marks.get(entry as usize);
+        set_where(&mut places, place as usize, is_marked);
+    }
+    Ok(places)
+}
+
+/// Sets the bit where it is wanted.
+pub fn set_where(bits: &mut Items<bool>, at: usize, is_wanted: bool)
+    requires { at < length bits.old }
+    ensures { bits.new ≡ (if is_wanted then slice_set bits.old at true else bits.old) }
+{
+    if is_wanted {
+        bits.replace(at, true);
+    }
+}
+
+/// The totals of all races, by their places.
+pub fn total_races(
+    alloc: Global,
+    tables: &Tables,
+    places: &Items<Items<bool>>,
+) -> Result<Items<Items<u32>>, NoMemory>
+    requires { HaveEntries tables.now.plan places.now }
+    ensures { IfOk result (λ totals. totals ≡ map (race_totals_by tables.now.plan places.now) (numbers_below (length tables.now.plan.races))) }
+{
+    let count = count_races(tables);
+    let mut totals = Items::with_room(alloc, count as usize)?;
+    for race in 0..count {
+        totals.push(total_race(alloc, tables, race, places)?)?;
+    }
+    Ok(totals)
+}
+
+/// The totals of a race's candidates.
+fn total_race(
+    alloc: Global,
+    tables: &Tables,
+    race: u32,
+    places: &Items<Items<bool>>,
+) -> Result<Items<u32>, NoMemory>
+    requires race { race < length tables.now.plan.races }
+    requires places { HaveEntries tables.now.plan places.now }
+    ensures { IfOk result (λ totals. totals ≡ race_totals_by tables.now.plan places.now race) }
+{
+    let candidates = count_candidates(tables, race);
+    let _ = count_entries(tables, race);
+    total_candidates(alloc, places.get(race as usize), candidates)
+}
+
+/// The totals of so many candidates.
+fn total_candidates(
+    alloc: Global,
+    places: &Items<bool>,
+    candidates: u32,
+) -> Result<Items<u32>, NoMemory>
+    requires few { length places.now < 2 ^ 32 }
+    ensures { IfOk result (λ totals. totals ≡ map (total_by places.now candidates) (numbers_below candidates)) }
+{
+    let mut totals = Items::with_room(alloc, candidates as usize)?;
+    for candidate in 0..candidates {
+        totals.push(count_votes(places, candidates, candidate))?;
+    }
+    Ok(totals)
+}
+
+/// How many of the places in a candidate's column are set.
+fn count_votes(places: &Items<bool>, candidates: u32, candidate: u32) -> u32
+    requires few { length places.now < 2 ^ 32 }
+    requires some { 0 < candidates }
+    ensures { result ≡ total_by places.now candidates candidate }
+{
+    let mut count = 0;
+    for place in 0..places.len() as u32 {
+        if !is_vote(places, candidates, candidate, place) {
+            continue;
+        }
+        count += 1;
+    }
+    count
+}
+
+/// The place is set, and in the candidate's column.
+fn is_vote(places: &Items<bool>, candidates: u32, candidate: u32, place: u32) -> bool
+    requires place { place < length places.now }
+    requires some { 0 < candidates }
+    ensures { result ≡ is_vote places.now candidates candidate place }
+{
+    if place % candidates != candidate {
+        return false;
+    }
+    *places.get(place as usize)
+}
