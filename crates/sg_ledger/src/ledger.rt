@@ -115,7 +115,9 @@ impl Ledger {
             ),
             Meaning::Flags(..) => None,
             Meaning::Places(..) => None,
-            Meaning::Total(race, candidate, count) => self.judge_total(plan, race, candidate, count),
+            Meaning::Total(race, candidate, count) => self.judge_total(
+                plan, race, candidate, count,
+            ),
             Meaning::Seal(..) => None,
             Meaning::DrawFull => None,
             Meaning::DrawPublic(_) => None,
@@ -444,7 +446,9 @@ impl Ledger {
                 plan, race, instance, from, bits,
             ),
             Meaning::Places(race, from, bits) => self.write_places(plan, race, from, bits),
-            Meaning::Total(race, candidate, count) => self.write_total(plan, race, candidate, count),
+            Meaning::Total(race, candidate, count) => self.write_total(
+                plan, race, candidate, count,
+            ),
             Meaning::Seal(..) => (),
             Meaning::DrawFull => self.write_full(plan),
             Meaning::DrawPublic(digits) => self.write_public(plan, digits),
