@@ -2,7 +2,7 @@
 use Rattle.std.proofs.Common.{◌≡◌, ℕ, ◌<◌, ◌==◌, Bool, true, false, cond, List, [], ◌∷◌, ◌++◌, length, map, filter, refl, sym, ap, ◌∙◌, append-nil}
 use Rattle.std.specs.List.{flat_map, list_any}
 use Rattle.sha2.specs.Sha256.{sha256}
-use Rattle.sg_plan.specs.Ballots.{ballot_row, candidates_of, entries_of}
+use Rattle.sg_plan.specs.Ballots.{ballot_row, candidates_of, entries_of, races_of_ballot}
 use Rattle.sg_plan.specs.declared.plan.Draw.{Draw}
 use Rattle.sg_plan.specs.declared.plan.Draw.TheVariants as drawn
 use Rattle.sg_plan.specs.declared.plan.Fate.{Fate}
@@ -16,7 +16,7 @@ use Rattle.sg_forms.specs.Said.{Said}
 use Rattle.sg_forms.specs.Said.Said.{Audited, Cast, Code, Dispute, Over, Seal, Spoiled, Voided}
 use Rattle.sg_forms.specs.declared.line.CodeLine.{CodeLine}
 use Rattle.sg_grammar.specs.Due.{each}
-use Rattle.sg_record.specs.Lines.{block_lines, cast_race_lines, code_commit_line, dispute_lines, draw_line, fate_lines, indexed, instance_row_commit_lines, instance_row_lines, opening_lines, paper_lines, plan_lines, race_code_commit_lines, race_result_lines, race_row_commit_lines, race_row_lines, races_of_ballot, result_lines, row_commit_line, row_line}
+use Rattle.sg_record.specs.Lines.{block_lines, cast_race_lines, code_commit_line, dispute_lines, draw_line, fate_lines, indexed, instance_row_commit_lines, instance_row_lines, opening_lines, paper_lines, plan_lines, race_code_commit_lines, race_result_lines, race_row_commit_lines, race_row_lines, result_lines, row_commit_line, row_line}
 use Rattle.sg_record.specs.Writing.{text_in}
 use Rattle.sg_record.specs.declared.record.BlockFate.TheVariants as block
 use Rattle.sg_post.specs.Marks.{flag_of, is_set}

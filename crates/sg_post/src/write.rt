@@ -1,9 +1,10 @@
 //! The text of a story, written line by line.
 ghost use Rattle.std.specs.Prelude.{◌≡◌, ◌≤◌, ◌++◌, [], true};
 ghost use Rattle.std.specs.List.{flat_map, list_all};
+ghost use Rattle.sg_outside.specs.Streams.{seen};
 ghost use Rattle.sg_record.specs.Formed.{is_draw};
 ghost use Rattle.sg_record.specs.Pens.{IsSealOf, Writes};
-ghost use Rattle.sg_record.specs.Writing.{WriteEnds, seen, text_in};
+ghost use Rattle.sg_record.specs.Writing.{WriteEnds, text_in};
 ghost use Rattle.sg_post.specs.Fits.{claim_fits, fates_fit, story_fits};
 ghost use Rattle.sg_post.specs.Posted.{posted_lines, posted_text};
 ghost use Rattle.sg_post.specs.Posting.{IsPosting};

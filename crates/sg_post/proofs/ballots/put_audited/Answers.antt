@@ -9,10 +9,10 @@ use Rattle.sg_record.proofs.Limits.{ballot_two}
 use Rattle.sg_record.proofs.Marks.{Papers, papers_pass}
 use Rattle.sg_record.proofs.Putting.{puts_stop, puts_then}
 use Rattle.sg_record.specs.Lines.{paper_lines}
-use Rattle.sg_record.specs.Writing.{ArePapers}
 use Rattle.sg_post.specs.inside.Lines.{audited_race}
 use Rattle.sg_post.proofs.Claims.{paper-same}
 use Rattle.sg_post.proofs.ballots.put_audited.Goals as goal
+use Rattle.sg_record.specs.inside.Parts.{ArePapers}
 
 pub put_papers-requires-clause-len : goal.put_papers-requires-clause-len
 put_papers-requires-clause-len g c =
