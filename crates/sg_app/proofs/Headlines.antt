@@ -14,6 +14,8 @@ use Rattle.sg_check.specs.declared.judged.Judged.{Judged}
 use Rattle.sg_check.specs.declared.judged.Judged.TheVariants.{Yes, No}
 use Rattle.sg_check.specs.declared.judged.Kind.{Kind}
 use Rattle.sg_check.specs.declared.judged.Total.{Total}
+use Rattle.sg_accepted.proofs.RecordTotals.{unaltered_is_never_no}
+use Rattle.sg_accepted.specs.Totals.{told_totals}
 use Rattle.sg_app.specs.Audit.{AuditSays}
 use Rattle.sg_app.specs.Headline.{Headline, IsWholeAndAgrees}
 use Rattle.sg_app.specs.inside.Ending.{status_of_verdict}
@@ -35,12 +37,16 @@ verdict_headline lines (Yes totals) status good is =
       yes = λ e. record { whole = good.whole; openings = sound.openings; agree = sound.agree };
       exactly = λ right e. absurd (omega (arith, e, is));
       bound = λ e. sound;
+      unaltered = λ plan seed story fine unaltered same e. absurd (omega (arith, e, is));
     }
 verdict_headline lines (No number broken) status bad is =
     record {
       yes = λ e. absurd (omega (arith, e, is));
       exactly = λ right e. not_no (totals_of lines) number broken (one_verdict lines (Yes (totals_of lines)) (No number broken) (right_is_good lines right) bad);
       bound = λ e. absurd (omega (arith, e, is));
+      unaltered = λ plan seed story fine unaltered same e.
+          not_no (told_totals plan seed story.fates) number broken
+          (sym (unaltered_is_never_no plan seed story (No number broken) fine unaltered (subst (λ (l : List (List ℕ)). IsVerdict l (No number broken)) same bad)));
     }
 
 -- another status says nothing of the lines
@@ -49,6 +55,7 @@ other_headline lines status other = record {
   yes = λ e. absurd (omega (arith, e, other));
   exactly = λ right e. absurd (omega (arith, e, other));
   bound = λ e. absurd (omega (arith, e, other));
+  unaltered = λ plan seed story fine unaltered same e. absurd (omega (arith, e, other));
 }
 
 -- both, where a source tells its bytes

@@ -1,9 +1,15 @@
 -- The headline: what `audit` answers of the bytes that it reads, and what a yes promises of them.
-use Rattle.std.specs.Prelude.{◌≡◌, ◌≢◌, ℕ, true, false, List}
+use Rattle.std.specs.Prelude.{◌≡◌, ◌≢◌, ℕ, true, false, List, None}
+use Rattle.sg_outside.specs.TextLines.{lines_of}
+use Rattle.sg_plan.specs.Limits.{fault_of}
+use Rattle.sg_plan.specs.declared.plan.Plan.{Plan}
 use Rattle.sg_check.specs.Bounds.{IsSound}
 use Rattle.sg_check.specs.Verdict.{are_whole, breaks, totals_of}
 use Rattle.sg_check.specs.declared.judged.Kind.{Kind}
 use Rattle.sg_check.specs.declared.judged.Kind.TheVariants as kind
+use Rattle.sg_post.specs.Posted.{posted_text}
+use Rattle.sg_post.specs.declared.story.Story.{Story}
+use Rattle.sg_accepted.specs.Unaltered.{IsUnaltered}
 
 -- the lines are a whole record whose openings match their commitments and whose opened halves agree
 pub record IsWholeAndAgrees (lines : List (List ℕ)) : Type 0 where
@@ -23,3 +29,5 @@ pub record Headline (lines : List (List ℕ)) (status : ℕ) : Type 0 where
   -- then, for every printing and every completion that opens no commitment twice, each R instance has at least as many rows
   -- altered in their unopened halves as any posted total of its race differs from the count of posted codes
   pub bound : status ≡ 0 → IsSound lines (totals_of lines)
+  -- every unaltered office run gets yes: what is posted of it is not answered no
+  pub unaltered : (plan : Plan) (seed : List ℕ) (story : Story) → fault_of plan ≡ None → IsUnaltered plan seed story → lines ≡ lines_of (posted_text plan seed story) → status ≢ 1

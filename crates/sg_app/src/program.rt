@@ -23,7 +23,7 @@ pub fn run<S: Source, O: Sink>(alloc: Global, words: &Items<Word>, input: &mut S
     // With `audit`, where the input tells its bytes: it answers yes exactly when the bytes read are a whole record whose
     // openings match their commitments and whose opened halves agree; then, for every printing and every completion that
     // opens no commitment twice, each R instance has at least as many rows altered in their unopened halves as any posted
-    // total of its race differs from the count of posted codes.
+    // total of its race differs from the count of posted codes; every unaltered office run gets yes.
     ensures headline { command_in words.now ≡ Some Command.Audit → IfSome (S.left input.old) (λ bytes. Headline (lines_of bytes) result) }
     // With `audit` the status says how it ended.
     ensures audit { command_in words.now ≡ Some Command.Audit → AuditSays result (record { bytes = S.left input.old; faults = S.faults input.old }) (record { bytes = S.left input.new; faults = S.faults input.new })
