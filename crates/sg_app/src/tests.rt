@@ -248,7 +248,8 @@ fn a_full_page_is_a_failed_write(rt: HostRuntime) -> Result<(), Fail> {
         let mut page = Page::new(rt.alloc(), room, Vec::new(rt.alloc()), 0)?;
         let status = audit(FIRST, 64, Vec::new(rt.alloc()), &mut page, rt.alloc())?;
         assert_eq!(rt; status, 4);
-        assert_eq!(rt; page.written(), &b"yes\ntotal 0 0 1\ntotal 0 1 0\n"[..room]);
+        let report = b"yes\ntotal 0 0 1\ntotal 0 1 0\n".as_slice();
+        assert_eq!(rt; page.written(), &report[..room.min(report.len())]);
     }
     Ok(())
 }
