@@ -34,7 +34,7 @@ measure() {
     shift
     record=$made/$name.record
     [ -f "$record" ] || python3 "$@" > "$record" || exit 1
-    first=$("$program" audit < "$record" 2> /dev/null | head -1)
+    first=$("$program" audit < "$record" | sed -n 1p)
     read -r audit_time memory <<< "$(best "$record" "$program" audit)"
     read -r hash_time _ <<< "$(best "$record" sha256sum)"
     python3 - "$name" "$(grep -c '^row-commit' "$record")" "$(stat -c %s "$record")" "$audit_time" "$hash_time" "$memory" "$first" <<'PY'
