@@ -1,0 +1,136 @@
+//! The fates, the claims and the draw that a record tells of.
+ghost use Rattle.std.specs.Prelude.{◌<◌, length};
+
+use crate::fault::Fault;
+use sg_plan::{Draw, Fate, Items, Mark, copy_paper};
+use sg_post::{Claimed, Told};
+use sg_record::{BallotBlock, BlockFate, CodeLine, Record};
+use sg_tables::Tables;
+use std::alloc::Global;
+
+/// How many candidates a race may have.
+const MOST_CANDIDATES: usize = 16;
+
+/// How many races a plan may have.
+const MOST_RACES: usize = 32;
+
+/// One of the lines is of this column of the race.
+fn has_column(lines: &[CodeLine], race: u32, column: u32) -> bool {
+    lines
+        .iter()
+        .any(|line| line.race == race && line.column == column)
+}
+
+/// Adds the marks of a ballot in a race: beside those candidates whose columns are posted, and where the race is void
+/// beside all.
+fn add_marks(
+    tables: &Tables,
+    ballot: u32,
+    race: u32,
+    lines: &[CodeLine],
+    is_void: bool,
+    marks: &mut Items<Mark>,
+) -> Result<(), Fault>
+    requires { race < length tables.now.plan.races }
+{
+    let plan = tables.plan();
+    if ballot == 0 || !plan.carries(ballot, race) {
+        return Ok(());
+    }
+    let row = plan.row_of(race, ballot);
+    let candidates = plan.races.get(race as usize).candidates.len();
+    if candidates == 0 || candidates > MOST_CANDIDATES {
+        return Err(Fault::Record);
+    }
+    if row >= plan.rows(race) {
+        return Err(Fault::Record);
+    }
+    let candidates = candidates as u32;
+    for candidate in 0..candidates {
+        let column = tables.q_entry(race, row, candidate) % candidates;
+        if is_void || has_column(lines, race, column) {
+            marks.push(Mark { race, candidate })?;
+        }
+    }
+    Ok(())
+}
+
+/// The marks of a ballot that is cast.
+fn marks_of(
+    alloc: Global,
+    tables: &Tables,
+    ballot: u32,
+    lines: &[CodeLine],
+    voids: &[u32],
+) -> Result<Items<Mark>, Fault> {
+    let mut marks = Items::new(alloc);
+    let races = tables.plan().races.len();
+    if races > MOST_RACES {
+        return Err(Fault::Record);
+    }
+    for race in 0..races as u32 {
+        let is_void = voids.iter().any(|other| *other == race);
+        add_marks(tables, ballot, race, lines, is_void, &mut marks)?;
+    }
+    Ok(marks)
+}
+
+/// The fate of the ballot of a block.
+fn fate_of(alloc: Global, tables: &Tables, block: &BallotBlock) -> Result<Fate, Fault> {
+    match &block.fate {
+        BlockFate::Cast(lines, voids) => {
+            let marks = marks_of(
+                alloc,
+                tables,
+                block.ballot,
+                lines.as_slice(),
+                voids.as_slice(),
+            )?;
+            Ok(Fate::Cast(marks))
+        }
+        BlockFate::Spoiled => Ok(Fate::Spoiled),
+        BlockFate::Audited(paper, _) => Ok(Fate::Audited(copy_paper(paper, alloc)?)),
+        BlockFate::Voided => Ok(Fate::Voided),
+    }
+}
+
+/// The fates of all ballots with blocks.
+pub(crate) fn fates_of(
+    alloc: Global,
+    tables: &Tables,
+    record: &Record,
+) -> Result<Items<Told>, Fault> {
+    let mut fates = Items::new(alloc);
+    for at in 0..record.ballots.len() {
+        let block = record.ballots.get(at);
+        let fate = fate_of(alloc, tables, block)?;
+        fates.push(Told {
+            ballot: block.ballot,
+            fate,
+        })?;
+    }
+    Ok(fates)
+}
+
+/// The claims of all disputes.
+pub(crate) fn claims_of(alloc: Global, record: &Record) -> Result<Items<Claimed>, Fault> {
+    let mut claims = Items::new(alloc);
+    for at in 0..record.disputes.len() {
+        let dispute = record.disputes.get(at);
+        claims.push(Claimed {
+            ballot: dispute.ballot,
+            race: dispute.race,
+            code: dispute.code,
+            word: dispute.word,
+        })?;
+    }
+    Ok(claims)
+}
+
+/// The draw.
+pub(crate) fn draw_of(alloc: Global, record: &Record) -> Result<Draw, Fault> {
+    match &record.draw {
+        Draw::Full => Ok(Draw::Full),
+        Draw::Public(bytes) => Ok(Draw::Public(bytes.copy(alloc)?)),
+    }
+}
