@@ -257,23 +257,36 @@ fn expect_altered(
     Ok(())
 }
 
-/// An office that moves a vote in all instances has altered one row in each, whatever the draw was. Where nothing is
-/// known but what its record posts, all rows are altered, as each is opened on one side alone.
+/// Expects so many altered rows in each instance of what the office committed to. Where nothing is known but what its
+/// record posts, all rows are altered, as each is opened on one side alone.
+fn expect_office(
+    rt: &impl Abort,
+    alloc: Global,
+    office: &Office,
+    expected: u32,
+) -> Result<(), Fail> {
+    let record = record_of(alloc, office)?;
+    let committed = Completion::Committed(office.exchange);
+    expect_altered(rt, alloc, &record, committed, expected)?;
+    expect_altered(rt, alloc, &record, Completion::Posted, ENTRIES)
+}
+
+/// The office whose exchange of places is this, and whose draw has these public bytes.
+fn office(exchange: Exchange, public: [u8; 4]) -> Office {
+    Office {
+        name: b"office",
+        exchange,
+        public,
+    }
+}
+
+/// An office that moves a vote in all instances has altered one row in each, whatever the draw was, and an honest one none.
 #[test]
 fn one_row_is_altered_in_each_instance(rt: HostRuntime) -> Result<(), Fail> {
     let alloc = rt.alloc();
     for public in [FIRST_DRAW, SECOND_DRAW, THIRD_DRAW] {
-        for (exchange, expected) in [(Exchange::Nowhere, 0), (Exchange::Everywhere, 1)] {
-            let office = Office {
-                name: b"office",
-                exchange,
-                public,
-            };
-            let record = record_of(alloc, &office)?;
-            let committed = Completion::Committed(exchange);
-            expect_altered(&rt, alloc, &record, committed, expected)?;
-            expect_altered(&rt, alloc, &record, Completion::Posted, ENTRIES)?;
-        }
+        expect_office(&rt, alloc, &office(Exchange::Nowhere, public), 0)?;
+        expect_office(&rt, alloc, &office(Exchange::Everywhere, public), 1)?;
     }
     Ok(())
 }
