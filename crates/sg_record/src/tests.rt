@@ -431,11 +431,13 @@ fn leaves_a_front_at_each_line(rt: HostRuntime) -> Result<(), Fail> {
     let posted = all_fates(alloc)?;
     assert!(rt; posted.is_formed());
     let text = text_of(alloc, &ALL_FATES)?;
+    let mut call = 0u32;
     for line in 0..count_feeds(&text) {
-        let mut page = Page::new(alloc, 30_000, vec![in alloc; line as u32]?, 4)?;
+        let mut page = Page::new(alloc, 30_000, vec![in alloc; call]?, 4)?;
         assert_eq!(rt; write_record(alloc, &posted, &mut page), Wrote::SinkFailed);
         assert!(rt; text.starts_with(page.written()), "{line}");
         assert_eq!(rt; count_feeds(page.written()), line);
+        call = call.saturating_add(1);
     }
     Ok(())
 }
