@@ -7,12 +7,10 @@ ghost use Rattle.sg_forms.specs.Reading.{name_of, bits_of, digits_of, claim_of, 
 use crate::words::is_word;
 use sg_lines::{is_bits, is_name};
 use sg_plan::ClaimWord;
-
-/// The most bits on one line.
-const MOST_BITS: usize = 64;
+use sg_plan::limits::{MOST_BITS, MOST_PUBLIC_BYTES};
 
 /// The most hexadecimal digits of public bytes.
-const MOST_DIGITS: usize = 8192;
+const MOST_DIGITS: usize = 2 * MOST_PUBLIC_BYTES;
 
 /// The word, where it is a name.
 #[tactic(auto, using(crate::proofs::Kept::name_kept, crate::proofs::Kept::no_name))]

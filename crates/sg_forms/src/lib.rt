@@ -4,7 +4,7 @@
 mod ballots;
 mod draw;
 mod kinds;
-mod laws;
+pub mod laws;
 mod line;
 mod lists;
 mod parts;
@@ -17,7 +17,6 @@ mod words;
 mod write;
 
 pub use draw::draw_bytes;
-pub use laws::{no_form_law, spelling_law};
 pub use line::{CodeLine, Line, RowOpening};
 pub use read::read_form;
 pub use types::{know_bytes, know_digest, know_key, know_line, know_numbers, know_row};

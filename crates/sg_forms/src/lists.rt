@@ -7,12 +7,7 @@ ghost use Rattle.sg_forms.specs.Zeros.{IsZeroBehind};
 
 use crate::words::Words;
 use sg_lines::{read_code, read_decimal};
-
-/// The most races of a style.
-const MOST_RACES: usize = 32;
-
-/// The most codes of a paper.
-const MOST_CODES: usize = 16;
+use sg_plan::limits::{MOST_CANDIDATES, MOST_RACES};
 
 /// The words that are left, where they are 1 to 32 numbers: the numbers, with zeros behind them, and how many they are.
 #[tactic(auto, using(crate::proofs::Few::few_steps))]
@@ -42,10 +37,10 @@ pub(crate) fn few_codes(version: u32, mut words: Words) -> Option<([u16; 16], u3
     ensures exact { option_map (λ found. take found.1 found.0) result ≡ few_by (code_of version) 16 words.entry }
     ensures zeros { IfSome result (λ found. IsZeroBehind 16 found.1 found.0) }
 {
-    let mut codes = [0; MOST_CODES];
+    let mut codes = [0; MOST_CANDIDATES];
     let mut count = 0;
     while let Some(word) = words.word() {
-        if count == MOST_CODES {
+        if count == MOST_CANDIDATES {
             return None;
         }
         codes[count] = read_code(version, word)?;

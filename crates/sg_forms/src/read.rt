@@ -12,9 +12,7 @@ use crate::plan::{ballots, cand, election, instances, race, style, version};
 use crate::results::{draw, flags, places, seal, total};
 use crate::rows::{both, code_commit, left, right, row_commit};
 use crate::words::{Words, cut, is_word};
-
-/// The most bytes of a line, its line feed included.
-const LONGEST_LINE: usize = 16384;
+use sg_plan::limits::LONGEST_LINE;
 
 /// What stands before the line feed that ends a line.
 fn line_text(bytes: &[u8]) -> Option<&[u8]>

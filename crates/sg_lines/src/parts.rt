@@ -48,7 +48,7 @@ impl<'a> Parts<'a> {
 
     /// Takes the next part, and answers `None` behind the last.
     pub fn part(&mut self) -> Option<&'a [u8]>
-        ensures { MatchOption result (self.old ≡ []) (λ w. self.old ≡ w.now ∷ self.new) }
+        ensures { MatchOption result (self.old ≡ [] × self.new ≡ []) (λ w. self.old ≡ w.now ∷ self.new) }
     {
         let text = self.rest?;
         let (part, rest) = cut(self.separator, text);
