@@ -8,7 +8,7 @@ use Rattle.std.specs.Option.{option_map_or}
 use Rattle.sg_plan.proofs.LimitLaws.{passes_tests}
 use Rattle.sg_plan.proofs.Lists.{first_fault-None}
 use Rattle.sg_plan.specs.Ballots.{ballot_has, candidates_of, races_of_ballot, races_of_style, style_has, style_of_ballot}
-use Rattle.sg_plan.specs.Codes.{codes_of}
+use Rattle.sg_plan.specs.Codes.{codes_of, is_code}
 use Rattle.sg_plan.specs.Limits.{each_keeps, fault_of, rises, style_fits, style_keeps, styles_have}
 use Rattle.sg_plan.specs.Names.{is_name_word}
 use Rattle.sg_plan.specs.declared.plan.Plan.{Plan}
@@ -25,7 +25,7 @@ use Rattle.sg_grammar.specs.declared.state.Block.TheVariants as block
 use Rattle.sg_grammar.specs.declared.state.Slot.{Slot}
 use Rattle.sg_grammar.specs.declared.state.Slot.TheVariants as slot
 use Rattle.sg_record.proofs.Filling.{AreIn, Fills, Found, Spells, passed, spells-pair}
-use Rattle.sg_record.specs.Formed.{are_due, are_papers, is_code}
+use Rattle.sg_record.specs.Formed.{are_due, are_papers}
 use Rattle.sg_record.specs.Lines.{paper_lines}
 
 -- CODES THAT ARE DUE

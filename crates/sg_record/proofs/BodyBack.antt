@@ -5,7 +5,7 @@ use Rattle.std.proofs.lemmas.List.{append_assoc}
 use Rattle.std.proofs.lemmas.Option.{cond_some}
 use Rattle.std.specs.List.{flat_map, list_all}
 use Rattle.sg_plan.specs.Ballots.{ballot_has}
-use Rattle.sg_plan.specs.Codes.{codes_of}
+use Rattle.sg_plan.specs.Codes.{codes_of, is_code}
 use Rattle.sg_plan.specs.Limits.{fault_of}
 use Rattle.sg_plan.specs.declared.plan.Plan.{Plan}
 use Rattle.sg_forms.specs.Said.{Said}
@@ -23,7 +23,7 @@ use Rattle.sg_record.proofs.BlockLines.{audit-spells, dispute_codes-spells}
 use Rattle.sg_record.proofs.CastLines.{cast-code, cast-none, cast-over, cast_from, marks-earlier, order-least, overs-earlier}
 use Rattle.sg_record.proofs.Filling.{AreIn, AreIn-parts, Fills, behind-are}
 use Rattle.sg_record.proofs.SaidWalk.{Goes, slot-goes}
-use Rattle.sg_record.specs.Formed.{are_blocks, are_due, are_marks, are_overs, is_code, is_dispute, is_fate}
+use Rattle.sg_record.specs.Formed.{are_blocks, are_due, are_marks, are_overs, is_dispute, is_fate}
 use Rattle.sg_record.specs.Lines.{block_lines, dispute_lines, fate_lines}
 use Rattle.sg_record.specs.declared.record.BallotBlock.{BallotBlock}
 use Rattle.sg_record.specs.declared.record.BlockFate.{BlockFate}

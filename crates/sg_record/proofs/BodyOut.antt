@@ -21,7 +21,8 @@ use Rattle.sg_record.proofs.BlockLines.{audit-spells, dispute_codes-spells}
 use Rattle.sg_record.proofs.CastLines.{Steps, by_steps}
 use Rattle.sg_record.proofs.Filling.{Fills}
 use Rattle.sg_record.proofs.SaidWalk.{Goes, fits-no_run, goes-due, goes-open, is_run_line, opens}
-use Rattle.sg_record.specs.Formed.{are_blocks, are_due, are_marks, are_overs, is_code, is_dispute, is_fate}
+use Rattle.sg_plan.specs.Codes.{is_code}
+use Rattle.sg_record.specs.Formed.{are_blocks, are_due, are_marks, are_overs, is_dispute, is_fate}
 use Rattle.sg_record.specs.Lines.{block_lines, dispute_lines, fate_lines}
 use Rattle.sg_record.specs.declared.record.BallotBlock.{BallotBlock}
 use Rattle.sg_record.specs.declared.record.BlockFate.{BlockFate}

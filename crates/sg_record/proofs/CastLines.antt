@@ -12,7 +12,8 @@ use Rattle.sg_grammar.proofs.Making.{candidates_within}
 use Rattle.sg_grammar.specs.Due.{each, numbered}
 use Rattle.sg_grammar.specs.Walk.{in_order, is_column, is_race_left}
 use Rattle.sg_record.proofs.BlockLines.{numbered-same}
-use Rattle.sg_record.specs.Formed.{are_marks, are_overs, is_code}
+use Rattle.sg_plan.specs.Codes.{is_code}
+use Rattle.sg_record.specs.Formed.{are_marks, are_overs}
 use Rattle.sg_record.specs.Lines.{cast_race_lines}
 
 -- the lines of the races from this one on

@@ -21,7 +21,8 @@ use Rattle.sg_record.proofs.CastLines.{Steps, by_steps}
 use Rattle.sg_record.proofs.GatheredLines.{Gathers, gathers-due, same_first}
 use Rattle.sg_record.proofs.GatheredLists.{put, put-append}
 use Rattle.sg_record.proofs.SaidWalk.{cast-other, is_cast_line, opens}
-use Rattle.sg_record.specs.Formed.{are_blocks, are_due, are_marks, are_overs, are_papers, is_code, is_dispute, is_fate}
+use Rattle.sg_plan.specs.Codes.{is_code}
+use Rattle.sg_record.specs.Formed.{are_blocks, are_due, are_marks, are_overs, are_papers, is_dispute, is_fate}
 use Rattle.sg_record.specs.inside.Gathering.{dispute_with, last_with, with_code, with_over, with_paper}
 use Rattle.sg_record.specs.Lines.{block_lines, dispute_lines, fate_lines, paper_lines}
 use Rattle.sg_record.specs.declared.record.BallotBlock.{BallotBlock}

@@ -5,7 +5,7 @@ use Rattle.std.proofs.lemmas.List.Sums.{AllPass-from_list_all}
 use Rattle.std.proofs.lemmas.List.Elements.{All-head, All-tail}
 use Rattle.std.specs.List.{list_all}
 use Rattle.sg_plan.specs.Ballots.{ballot_has, ballots_of, candidates_of}
-use Rattle.sg_plan.specs.Codes.{codes_of}
+use Rattle.sg_plan.specs.Codes.{codes_of, is_code}
 use Rattle.sg_plan.specs.declared.plan.Plan.{Plan}
 use Rattle.sg_forms.specs.declared.line.CodeLine.{CodeLine}
 use Rattle.sg_forms.specs.Said.Said.{Code, Over, Paper}
@@ -15,7 +15,7 @@ use Rattle.sg_grammar.specs.Due.{race_codes}
 use Rattle.sg_grammar.specs.declared.state.Block.TheVariants as block
 use Rattle.sg_grammar.specs.declared.state.Slot.{Slot}
 use Rattle.sg_grammar.specs.declared.state.Slot.TheVariants as slot
-use Rattle.sg_record.specs.Formed.{are_blocks, are_due, are_marks, are_overs, are_papers, is_code, is_dispute, is_due, is_fate}
+use Rattle.sg_record.specs.Formed.{are_blocks, are_due, are_marks, are_overs, are_papers, is_dispute, is_due, is_fate}
 use Rattle.sg_record.specs.declared.record.BallotBlock.{BallotBlock}
 use Rattle.sg_record.specs.declared.record.DisputeBlock.{DisputeBlock}
 use Rattle.sg_record.specs.Lines.{cast_race_lines, paper_lines}

@@ -22,7 +22,8 @@ use Rattle.sg_record.proofs.BlockLines.{numbered-all, papers-due, paper_slots}
 use Rattle.sg_record.proofs.CastLines.{Steps, by_steps}
 use Rattle.sg_record.proofs.Placing.{FillsAs, GoesAs, as-append, goes_as-due}
 use Rattle.sg_record.proofs.SaidWalk.{cast-other, is_cast_line, opens}
-use Rattle.sg_record.specs.Formed.{are_blocks, are_due, are_marks, are_overs, are_papers, is_code, is_dispute, is_fate}
+use Rattle.sg_plan.specs.Codes.{is_code}
+use Rattle.sg_record.specs.Formed.{are_blocks, are_due, are_marks, are_overs, are_papers, is_dispute, is_fate}
 use Rattle.sg_record.specs.Lines.{block_lines, cast_race_lines, dispute_lines, fate_lines, paper_lines}
 use Rattle.sg_record.specs.Places.{block_places, cast_race_places, code_place, dispute_places, fate_places, paper_places}
 use Rattle.sg_record.specs.declared.record.BallotBlock.{BallotBlock}

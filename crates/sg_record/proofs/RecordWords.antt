@@ -8,7 +8,7 @@ use Rattle.std.specs.Prelude.{replicate}
 use Rattle.sg_commit.specs.declared.Digest.{Digest}
 use Rattle.sg_plan.proofs.PlanLaws.{ballot_has-true, bounds}
 use Rattle.sg_plan.specs.Ballots.{ballot_has, ballot_styles, ballots_of, candidates_of, entries_of, races_of_ballot, style_of_ballot}
-use Rattle.sg_plan.specs.Codes.{codes_of}
+use Rattle.sg_plan.specs.Codes.{codes_of, is_code}
 use Rattle.sg_plan.specs.Limits.{KeepsLimits, KeepsRace, KeepsRun, KeepsStyle, fault_of}
 use Rattle.sg_plan.specs.Names.{IsName}
 use Rattle.sg_plan.specs.declared.plan.Draw.{Draw}
@@ -40,7 +40,7 @@ use Rattle.sg_record.proofs.Limits.{ballot_two, limits_of, styles_of}
 use Rattle.sg_record.proofs.PlacedSections.{Each-get}
 use Rattle.sg_record.proofs.SectionLines.{HasFlags, HasTotals, HasEntries, HasRows}
 use Rattle.sg_record.proofs.SlotLines.{Any, Counts}
-use Rattle.sg_record.specs.Formed.{are_blocks, are_due, are_marks, are_overs, are_papers, is_code, is_dispute, is_draw, is_fate, is_formed}
+use Rattle.sg_record.specs.Formed.{are_blocks, are_due, are_marks, are_overs, are_papers, is_dispute, is_draw, is_fate, is_formed}
 use Rattle.sg_record.specs.Laws.{TypedHaveWords}
 use Rattle.sg_record.specs.Lines.{block_lines, cast_race_lines, code_commit_line, commit_lines, dispute_lines, draw_line, fate_lines, flag_lines, indexed, instance_row_commit_lines, instance_row_lines, lines_in, opening_lines, paper_lines, place_lines, plan_lines, race_code_commit_lines, race_lines, race_result_lines, race_row_commit_lines, race_row_lines, result_lines, row_commit_line, row_line, run_line, signs_on, style_line, total_line}
 use Rattle.sg_record.specs.Typed.{AreDigests, AreDrawn, BlockHasKeys, DisputeHasKeys, HasKey, HaveKeys, IsDigest, IsTyped}

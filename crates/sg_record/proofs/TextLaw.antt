@@ -31,7 +31,8 @@ use Rattle.sg_record.proofs.FormedParts.{HasForm, commits_of, results_of}
 use Rattle.sg_record.proofs.SaidWalk.{Goes, fits-block, fits-no_cast, goes-one, is_block_line, is_cast_line, is_other_slot, opens, results-no_code, results-some}
 use Rattle.sg_record.proofs.SectionLines.{AreCommits, AreResults, Commits, Results, commits-spells, lines_of_commits, lines_of_results, results-spells}
 use Rattle.sg_record.proofs.WholeLaw.{record_of, record_of-lines}
-use Rattle.sg_record.specs.Formed.{are_blocks, are_due, are_marks, are_overs, is_code, is_dispute, is_fate}
+use Rattle.sg_plan.specs.Codes.{is_code}
+use Rattle.sg_record.specs.Formed.{are_blocks, are_due, are_marks, are_overs, is_dispute, is_fate}
 use Rattle.sg_record.specs.Laws.{HasWords, TextsDiffer}
 use Rattle.sg_record.specs.Lines.{block_lines, dispute_lines, fate_lines, lines_in, plan_lines, text_of, texts_in}
 use Rattle.sg_record.specs.declared.record.BallotBlock.{BallotBlock}

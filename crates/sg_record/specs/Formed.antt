@@ -3,7 +3,7 @@
 use Rattle.std.specs.Prelude.{ℕ, ◌+◌, ◌==◌, nat_lt, nat_le, Bool, true, false, ◌&&◌, List, [], ◌∷◌, length, is_none}
 use Rattle.std.specs.List.{list_all}
 use Rattle.sg_plan.specs.Ballots.{ballot_has, candidates_of, entries_of, races_of_ballot}
-use Rattle.sg_plan.specs.Codes.{codes_of}
+use Rattle.sg_plan.specs.Codes.{is_code}
 use Rattle.sg_plan.specs.Limits.{fault_of}
 use Rattle.sg_plan.specs.declared.plan.Draw.{Draw}
 use Rattle.sg_plan.specs.declared.plan.Draw.TheVariants as drawn
@@ -42,10 +42,6 @@ abbrev pub has_candidates : {A : Type 0} → Plan → List (List A) → Bool
 has_candidates plan lists = length lists == length plan.races && each_passes (λ race items. length items == candidates_of plan race) 0 lists
 
 -- CODES
-
--- the number is a code of the plan's version
-abbrev pub is_code : Plan → ℕ → Bool
-is_code plan code = nat_lt code (codes_of plan.version)
 
 -- codes of the ballot from this race and column on: races don't fall, and in one race columns rise
 abbrev pub are_marks : Plan → ℕ → ℕ → ℕ → List CodeLine → Bool

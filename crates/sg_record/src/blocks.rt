@@ -1,5 +1,5 @@
 //! Section 2 of a record, written: the blocks of ballots. The blocks of disputes are written likewise.
-ghost use Rattle.std.specs.Prelude.{◌≡◌, ◌≤◌, ◌<◌, ◌^◌, ◌∷◌, ◌++◌, [], ℕ, length, map, take, drop, All, if◌then◌else◌, IfOk, None, true};
+ghost use Rattle.std.specs.Prelude.{◌≡◌, ◌≤◌, ◌<◌, ◌^◌, ◌∷◌, ◌++◌, [], ℕ, length, map, drop, All, if◌then◌else◌, IfOk, None, true};
 ghost use Rattle.std.specs.List.{flat_map};
 ghost use Rattle.sg_plan.specs.Limits.{fault_of};
 ghost use Rattle.sg_forms.specs.Said.Said.{Code, Over, Paper as PaperLine};
@@ -17,6 +17,7 @@ use crate::pen::Pen;
 use crate::record::{BallotBlock, BlockFate, DisputeBlock};
 use sg_forms::{CodeLine, Line};
 use sg_outside::{Failed, Sink};
+use sg_plan::limits::MOST_CANDIDATES;
 use sg_plan::{BallotWalk, Items, Paper, Plan};
 
 /// Writes a code.
@@ -146,22 +147,14 @@ fn put_paper<O: Sink>(
     requires most { length list.now ≤ 16 }
     ensures { Writes O.written O.faults pen.old out.old pen.new out.new result (PaperLine race list.now ∷ []) }
 {
-    let mut codes = [0; 16];
-    copy_codes(list.as_slice(), &mut codes);
+    let mut codes = [0; MOST_CANDIDATES];
+    codes[..list.len()].copy_from_slice(list.as_slice());
     let paper = Line::Paper {
         race,
         codes,
         count: list.len() as u32,
     };
     pen.put_line(&paper, out)
-}
-
-/// Copies the codes over the front of `to`.
-fn copy_codes(from: &[u16], to: &mut [u16])
-    requires { length from.now ≤ length to.old }
-    ensures { take (length from.now) to.new ≡ from.now }
-{
-    to[..from.len()].copy_from_slice(from);
 }
 
 /// Writes the papers of a ballot with these races.

@@ -11,7 +11,8 @@ ghost use Rattle.sg_grammar.specs.Walk.{in_order, most_disputes};
 ghost use Rattle.sg_grammar.specs.declared.state.Block.{Block};
 ghost use Rattle.sg_grammar.specs.declared.state.Block.TheVariants as block;
 ghost use Rattle.sg_grammar.specs.declared.state.Slot.{Slot};
-ghost use Rattle.sg_record.specs.Formed.{are_blocks, are_due, are_marks, are_overs, are_papers, has_candidates, has_entries, has_rows, is_code, is_dispute, is_draw, is_fate, is_formed};
+ghost use Rattle.sg_plan.specs.Codes.{is_code};
+ghost use Rattle.sg_record.specs.Formed.{are_blocks, are_due, are_marks, are_overs, are_papers, has_candidates, has_entries, has_rows, is_dispute, is_draw, is_fate, is_formed};
 
 use crate::record::{BallotBlock, BlockFate, DisputeBlock, Record};
 use sg_forms::CodeLine;
@@ -86,27 +87,6 @@ fn has_candidates<T>(plan: &Plan, lists: &Items<Items<T>>) -> bool
     true
 }
 
-/// How many candidates the race has: none where the plan has no such race.
-pub(crate) fn count_candidates(plan: &Plan, race: u32) -> usize
-    ensures { result ≡ candidates_of plan.now race }
-{
-    if race as usize >= plan.races.len() {
-        return 0;
-    }
-    plan.races.get(race as usize).candidates.len()
-}
-
-/// The number is a code of the plan's version.
-fn is_code(plan: &Plan, code: u16) -> bool
-    ensures { result ≡ is_code plan.now code }
-{
-    match plan.version {
-        1 => code < 1_000,
-        2 => code < 32_768,
-        _ => false,
-    }
-}
-
 /// The race is one of these.
 pub(crate) fn has_race(races: &[u32], race: u32) -> bool
     ensures { result ≡ list_any (λ carried. carried == race) races.now }
@@ -122,7 +102,7 @@ fn is_column(plan: &Plan, races: &[u32], race: u32, column: u32) -> bool
     if !has_race(races, race) {
         return false;
     }
-    (column as usize) < count_candidates(plan, race)
+    (column as usize) < plan.candidates(race)
 }
 
 /// The column stands behind the last one: races don't fall, and in one race columns rise.
@@ -146,7 +126,7 @@ fn is_mark(plan: &Plan, races: &[u32], race: u32, column: u32, code: &CodeLine) 
     if !is_in_order(race, column, code.race, code.column) {
         return false;
     }
-    is_code(plan, code.code)
+    plan.is_code(code.code)
 }
 
 /// The codes are marks of a cast ballot with these races: races don't fall, and in one race columns rise.
@@ -195,14 +175,14 @@ fn are_overs(plan: &Plan, races: &[u32], overs: &Items<u32>) -> bool
 fn are_codes(plan: &Plan, list: &[u16]) -> bool
     ensures { result ≡ list_all (is_code plan.now) list.now }
 {
-    list.iter().all(|code| is_code(plan, *code))
+    list.iter().all(|code| plan.is_code(*code))
 }
 
 /// The list has a code for each candidate of the race.
 fn is_paper_of(plan: &Plan, race: u32, list: &Items<u16>) -> bool
     ensures { result ≡ (length list.now == candidates_of plan.now race && list_all (is_code plan.now) list.now) }
 {
-    if list.len() != count_candidates(plan, race) {
+    if list.len() != plan.candidates(race) {
         return false;
     }
     are_codes(plan, list.as_slice())
@@ -233,7 +213,7 @@ fn is_code_at(plan: &Plan, race: u32, column: usize, code: &CodeLine) -> bool
     if code.column as usize != column {
         return false;
     }
-    is_code(plan, code.code)
+    plan.is_code(code.code)
 }
 
 /// Where the codes of the race's columns end that stand from this place on. `None` where others stand there, or none.
@@ -244,7 +224,7 @@ fn end_of_codes(plan: &Plan, race: u32, codes: &Items<CodeLine>, from: usize) ->
     ensures within { IfSome result (λ end. end ≤ length codes.now) }
 {
     let mut at = from;
-    for column in 0..count_candidates(plan, race) {
+    for column in 0..plan.candidates(race) {
         if at >= codes.len() {
             return None;
         }
@@ -338,7 +318,7 @@ fn is_dispute(plan: &Plan, one: &DisputeBlock) -> bool
     if !plan.carries(one.ballot, one.race) {
         return false;
     }
-    if !is_code(plan, one.code) {
+    if !plan.is_code(one.code) {
         return false;
     }
     are_race_codes(plan, one.race, &one.codes)
@@ -362,7 +342,7 @@ fn are_disputes(plan: &Plan, disputes: &Items<DisputeBlock>) -> bool
 }
 
 /// The public bytes are 1 to 4,096.
-fn is_draw(draw: &Draw) -> bool
+pub fn is_draw(draw: &Draw) -> bool
     ensures { result ≡ is_draw draw.now }
 {
     match draw {

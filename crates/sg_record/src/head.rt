@@ -1,5 +1,5 @@
 //! The plan of a record, written.
-ghost use Rattle.std.specs.Prelude.{◌≡◌, ◌≤◌, ◌<◌, ◌^◌, ◌∷◌, ◌++◌, [], length, map, take, All, None};
+ghost use Rattle.std.specs.Prelude.{◌≡◌, ◌≤◌, ◌<◌, ◌^◌, ◌∷◌, ◌++◌, [], length, map, All, None};
 ghost use Rattle.std.specs.List.{flat_map};
 ghost use Rattle.sg_plan.specs.Limits.{KeepsRace, fault_of};
 ghost use Rattle.sg_plan.specs.Names.{IsName};
@@ -11,6 +11,7 @@ ghost use Rattle.sg_record.specs.inside.Parts.{StyleFits};
 use crate::pen::Pen;
 use sg_forms::Line;
 use sg_outside::{Failed, Sink};
+use sg_plan::limits::MOST_RACES;
 use sg_plan::{Items, Plan, Race, Run, Style, Word};
 
 /// Writes a candidate.
@@ -65,21 +66,13 @@ fn put_races<O: Sink>(pen: &mut Pen, races: &Items<Race>, out: &mut O) -> Result
     Ok(())
 }
 
-/// Copies the numbers over the front of `to`.
-fn copy_numbers(from: &[u32], to: &mut [u32])
-    requires { length from.now ≤ length to.old }
-    ensures { take (length from.now) to.new ≡ from.now }
-{
-    to[..from.len()].copy_from_slice(from);
-}
-
 /// Writes a style.
 fn put_style<O: Sink>(pen: &mut Pen, style: &Style, out: &mut O) -> Result<(), Failed>
     requires style { StyleFits style.now }
     ensures { Writes O.written O.faults pen.old out.old pen.new out.new result (style_line style.now ∷ []) }
 {
-    let mut races = [0; 32];
-    copy_numbers(style.races.as_slice(), &mut races);
+    let mut races = [0; MOST_RACES];
+    races[..style.races.len()].copy_from_slice(style.races.as_slice());
     let line = Line::Style {
         name: style.name.bytes(),
         races,

@@ -81,7 +81,7 @@ fn put_flag_line<O: Sink>(
 }
 
 /// Writes the flags of the rows of an instance, 64 on a line and the rest on the last.
-pub fn put_flag_lines<O: Sink>(
+fn put_flag_lines<O: Sink>(
     pen: &mut Pen,
     race: u32,
     instance: u32,
@@ -96,8 +96,8 @@ pub fn put_flag_lines<O: Sink>(
     Ok(())
 }
 
-/// Writes the flags of a race.
-fn put_race_flags<O: Sink>(
+/// Writes the flags of a race's instances.
+pub fn put_race_flags<O: Sink>(
     pen: &mut Pen,
     race: u32,
     instances: &Items<Items<bool>>,
