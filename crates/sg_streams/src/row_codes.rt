@@ -6,6 +6,7 @@ ghost use Rattle.sg_streams.specs.RowCodes.{row_codes, AreCodes};
 use crate::reading::Words;
 use crate::seeds::Seed;
 use sg_plan::codes_of;
+use sg_plan::limits::MOST_CANDIDATES;
 
 /// The first `k` codes of a ballot row, different and below the number of codes of the version. The rest
 /// of the array is 0.
@@ -13,7 +14,7 @@ use sg_plan::codes_of;
 /// Code `t` is the `d`-th smallest of those that the row does not have yet, `d` from 0, with
 /// `d = floor(word(t) · left / 2^32)`, where `left` is how many these are: 1,000 less `t` in version
 /// 1, and 32,768 less `t` in version 2.
-pub fn codes(version: u32, seed: &Seed, stream: u64, k: u32) -> [u16; 16]
+pub fn codes(version: u32, seed: &Seed, stream: u64, k: u32) -> [u16; MOST_CANDIDATES]
     requires known_version { (version ≡ 1) ⊎ (version ≡ 2) }
     requires fits { k ≤ 16 }
     ensures value { result ≡ row_codes version seed.now.0 stream k ++ replicate (16 - k) 0 }
@@ -21,7 +22,7 @@ pub fn codes(version: u32, seed: &Seed, stream: u64, k: u32) -> [u16; 16]
 {
     let number = codes_of(version);
     let mut words = Words::at(seed, stream, 0);
-    let mut row = [0; 16];
+    let mut row = [0; MOST_CANDIDATES];
     for at in 0..k {
         let draw = drawn(words.next(), number - at);
         row[at as usize] = unused_at(&row[..at as usize], draw);

@@ -34,7 +34,7 @@ fn draw_race(alloc: Global, plan: &Plan, seed: &Seed, race: u32) -> Result<RaceL
     ensures { IfOk result (KeepsRace plan.now seed.now.0 race) }
 {
     let rows = plan.rows(race);
-    let candidates = count_candidates(plan, race);
+    let candidates = plan.candidates(race) as u32;
     let codes = draw_codes(alloc, plan, seed, race, rows)?;
     let entries = draw_entries(alloc, plan, seed, race, rows)?;
     let place_rows = draw_orders(alloc, seed, PLACES, race, candidates, rows)?;
@@ -49,15 +49,6 @@ fn draw_race(alloc: Global, plan: &Plan, seed: &Seed, race: u32) -> Result<RaceL
     })
 }
 
-/// How many candidates a race has.
-pub fn count_candidates(plan: &Plan, race: u32) -> u32
-    requires race { race < length plan.now.races }
-    requires few { candidates_of plan.now race ≤ 16 }
-    ensures { result ≡ candidates_of plan.now race }
-{
-    plan.races.get(race as usize).candidates.len() as u32
-}
-
 /// The codes of each ballot row of a race, one row after another.
 fn draw_codes(
     alloc: Global,
@@ -67,12 +58,11 @@ fn draw_codes(
     rows: u32,
 ) -> Result<Items<u16>, NoMemory>
     requires known_version { (plan.now.version ≡ 1) ⊎ (plan.now.version ≡ 2) }
-    requires race { race < length plan.now.races }
     requires small_race { race < 2 ^ 16 }
     requires few { candidates_of plan.now race ≤ 16 }
     ensures { IfOk result (λ list. list ≡ kept_codes plan.now seed.now.0 race rows) }
 {
-    let candidates = count_candidates(plan, race);
+    let candidates = plan.candidates(race) as u32;
     let mut list = Items::new(alloc);
     for row in 0..rows {
         let row_codes = codes(plan.version, seed, stream(CODES, race, row), candidates);
@@ -96,13 +86,12 @@ fn draw_entries(
     race: u32,
     rows: u32,
 ) -> Result<Entries, NoMemory>
-    requires race { race < length plan.now.races }
     requires small_race { race < 2 ^ 16 }
     requires few { candidates_of plan.now race ≤ 16 }
     ensures shown { IfOk result (λ entries. entries.shown ≡ kept_shown plan.now seed.now.0 race rows) }
     ensures columns { IfOk result (λ entries. entries.columns ≡ kept_columns plan.now seed.now.0 race rows) }
 {
-    let candidates = count_candidates(plan, race);
+    let candidates = plan.candidates(race) as u32;
     let mut shown = Items::new(alloc);
     let mut columns = Items::new(alloc);
     for row in 0..rows {

@@ -13,7 +13,7 @@ loop-row-preserved c =
     let seed = c.args.seed.now.0 in
     let race = c.args.race in
     let row = c.loop-row.row in
-    let k = c.count_candidates-candidates.result in
+    let k = c.candidates-candidates.result in
     let piece = codes_drawn plan seed race row k c.stream.result c.codes-row_codes.result c.requires.known_version
-    c.count_candidates-candidates.ensures c.requires.few c.stream.ensures c.codes-row_codes.ensures.value in
+    c.candidates-candidates.ensures c.requires.few c.stream.ensures c.codes-row_codes.ensures.value in
     flat_below-more (codes_of_row plan seed race) row c.loop-row.list c.extend.new.self _ c.loop-row.invariant piece c.in_ok-extend.ensures.ok

@@ -15,8 +15,8 @@ inverse_of-requires-clause-few c =
     let seed = c.args.seed.now.0 in
     let race = c.args.race in
     let row = c.loop-row.row in
-    let drawn = shown_drawn plan seed race row c.count_candidates-candidates.result c.stream.result c.short_order-order.result
-    c.count_candidates-candidates.ensures c.stream.ensures c.short_order-order.ensures in
+    let drawn = shown_drawn plan seed race row c.candidates-candidates.result c.stream.result c.short_order-order.result
+    c.candidates-candidates.ensures c.stream.ensures c.short_order-order.ensures in
     omega (arith, ap length drawn, length-shown_in_row plan seed race row, c.requires.few)
 
 pub inverse_of-requires-clause-one_to_one : goal.inverse_of-requires-clause-one_to_one
@@ -25,8 +25,8 @@ inverse_of-requires-clause-one_to_one c =
     let seed = c.args.seed.now.0 in
     let race = c.args.race in
     let row = c.loop-row.row in
-    let drawn = shown_drawn plan seed race row c.count_candidates-candidates.result c.stream.result c.short_order-order.result
-    c.count_candidates-candidates.ensures c.stream.ensures c.short_order-order.ensures in
+    let drawn = shown_drawn plan seed race row c.candidates-candidates.result c.stream.result c.short_order-order.result
+    c.candidates-candidates.ensures c.stream.ensures c.short_order-order.ensures in
     rw (drawn, length-shown_in_row plan seed race row) (shown_in_row-one_to_one plan seed race row)
 
 pub loop-row-preserved : goal.loop-row-preserved
@@ -35,8 +35,8 @@ loop-row-preserved c =
     let seed = c.args.seed.now.0 in
     let race = c.args.race in
     let row = c.loop-row.row in
-    let k = c.count_candidates-candidates.result in
-    let is = c.count_candidates-candidates.ensures in
+    let k = c.candidates-candidates.result in
+    let is = c.candidates-candidates.ensures in
     let drawn = shown_drawn plan seed race row k c.stream.result c.short_order-order.result is c.stream.ensures c.short_order-order.ensures in
     let places = columns_drawn plan seed race row k (take k c.short_order-order.result) c.inverse_of.result is drawn c.inverse_of.ensures in
     record {
