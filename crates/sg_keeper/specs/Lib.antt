@@ -2,4 +2,6 @@
 pub mod Keeping
 pub mod Laws
 pub mod Rows
+pub mod SetupReading
+pub mod SetupText
 pub mod inside

@@ -1,2 +1,3 @@
 -- What only private clauses cite. Nobody need believe it.
 pub mod Calls
+pub mod PlanLines

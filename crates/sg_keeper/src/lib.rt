@@ -1,4 +1,4 @@
-//! What an office keeps, the keeper of its rows, and what it is asked and answers.
+//! What an office keeps, the keeper of its rows, what it is set up with, and what it is asked and answers.
 //!
 //! A keeper may fail. It therefore counts its faults, and a call answers [`KeepFault::Failed`] only where
 //! the count rose in that call, or stands at its counter's last value, 2^64 - 1. A keeper in memory tells
@@ -7,6 +7,7 @@
 
 mod asks;
 mod copies;
+mod gathered;
 mod keeper;
 pub mod laws;
 mod memory;
@@ -14,6 +15,8 @@ mod places;
 mod replies;
 mod rows;
 mod setup;
+mod setup_reading;
+mod setup_writing;
 
 pub use asks::{Act, Ask, Look, Stamp};
 pub use keeper::{KeepFault, Keeper};
@@ -22,5 +25,7 @@ pub use replies::{Body, CodeSeen, FateWord, Phase, Receipt, Reply};
 pub use rows::{BallotRow, Change, ChangeRow, ClaimRow, DoneRow, Rows, StageRow, VoidRow};
 pub use setup::Setup;
 
+#[cfg(test)]
+mod setup_tests;
 #[cfg(test)]
 mod tests;
