@@ -9,6 +9,8 @@ pub mod laws;
 mod loads;
 mod reads;
 mod tables;
+#[cfg(test)]
+mod tests;
 mod texts;
 mod writes;
 
