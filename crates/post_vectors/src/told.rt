@@ -2,17 +2,12 @@
 ghost use Rattle.std.specs.Prelude.{◌<◌, length};
 
 use crate::fault::Fault;
+use sg_plan::limits::{MOST_CANDIDATES, MOST_RACES};
 use sg_plan::{Draw, Fate, Items, Mark, copy_paper};
 use sg_post::{Claimed, Told};
 use sg_record::{BallotBlock, BlockFate, CodeLine, Record};
 use sg_tables::Tables;
 use std::alloc::Global;
-
-/// How many candidates a race may have.
-const MOST_CANDIDATES: usize = 16;
-
-/// How many races a plan may have.
-const MOST_RACES: usize = 32;
 
 /// One of the lines is of this column of the race.
 fn has_column(lines: &[CodeLine], race: u32, column: u32) -> bool {
@@ -38,7 +33,7 @@ fn add_marks(
         return Ok(());
     }
     let row = plan.row_of(race, ballot);
-    let candidates = plan.races.get(race as usize).candidates.len();
+    let candidates = plan.candidates(race);
     if candidates == 0 || candidates > MOST_CANDIDATES {
         return Err(Fault::Record);
     }

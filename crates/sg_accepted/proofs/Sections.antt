@@ -17,7 +17,7 @@ use Rattle.sg_grammar.specs.Placed.{Placed}
 use Rattle.sg_grammar.specs.Placed.Placed.{Begun, CodeAt, CodeCommitAt, Disputed, FlagsAt, OverAt, PaperAt, PlacesAt, RowAt, RowCommitAt, TotalAt}
 use Rattle.sg_grammar.specs.declared.state.Block.{Block}
 use Rattle.sg_grammar.specs.declared.state.Block.TheVariants as block
-use Rattle.sg_record.specs.Formed.{is_code}
+use Rattle.sg_plan.specs.Codes.{is_code}
 use Rattle.sg_record.specs.Lines.{cast_race_lines, paper_lines, signs_on}
 use Rattle.sg_record.specs.declared.record.BallotBlock.{BallotBlock}
 use Rattle.sg_record.specs.declared.record.BlockFate.{BlockFate}

@@ -13,7 +13,7 @@ use Rattle.sg_forms.specs.Said.{Said}
 use Rattle.sg_grammar.specs.Due.{each}
 use Rattle.sg_grammar.specs.Placed.{Placed}
 use Rattle.sg_grammar.specs.Placed.Placed.{CodeAt, RowAt}
-use Rattle.sg_record.specs.Formed.{is_code}
+use Rattle.sg_plan.specs.Codes.{is_code}
 use Rattle.sg_check.specs.Kinds.{is_bad}
 use Rattle.sg_check.specs.declared.judged.Kind.TheVariants as kind
 use Rattle.sg_post.specs.Fits.{claim_fits, fates_fit, stage_fits}

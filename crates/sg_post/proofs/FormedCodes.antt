@@ -22,7 +22,8 @@ use Rattle.sg_grammar.specs.declared.state.Block.TheVariants as block
 use Rattle.sg_grammar.specs.declared.state.Slot.{Slot}
 use Rattle.sg_record.proofs.BlockTests.{has_among}
 use Rattle.sg_record.proofs.Limits.{ballot_two}
-use Rattle.sg_record.specs.Formed.{are_due, is_code, is_due}
+use Rattle.sg_plan.specs.Codes.{is_code}
+use Rattle.sg_record.specs.Formed.{are_due, is_due}
 use Rattle.sg_post.specs.Posted.{audited_codes, audited_race_codes, code_in_row, code_line_of, race_codes_of}
 
 -- THE RACES OF A BALLOT

@@ -9,7 +9,8 @@ use Rattle.sg_streams.specs.Numbers.{numbers_below}
 use Rattle.sg_forms.specs.declared.line.CodeLine.{CodeLine}
 use Rattle.sg_grammar.specs.Walk.{in_order, is_column}
 use Rattle.sg_record.proofs.CastLines.{marks-earlier}
-use Rattle.sg_record.specs.Formed.{are_marks, is_code}
+use Rattle.sg_plan.specs.Codes.{is_code}
+use Rattle.sg_record.specs.Formed.{are_marks}
 use Rattle.sg_post.specs.Posted.{code_in_row, code_line_of}
 use Rattle.sg_post.proofs.MarkedCodes.{cast-counted, cast_codes_of, counted_codes, shows_mark}
 

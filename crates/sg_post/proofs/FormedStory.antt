@@ -12,7 +12,8 @@ use Rattle.sg_plan.specs.declared.plan.Plan.{Plan}
 use Rattle.sg_streams.specs.Numbers.{numbers_below}
 use Rattle.sg_grammar.specs.Walk.{is_later, is_race_left}
 use Rattle.sg_grammar.specs.declared.state.Block.TheVariants as block
-use Rattle.sg_record.specs.Formed.{are_blocks, are_overs, is_code, is_dispute, is_fate}
+use Rattle.sg_plan.specs.Codes.{is_code}
+use Rattle.sg_record.specs.Formed.{are_blocks, are_overs, is_dispute, is_fate}
 use Rattle.sg_record.specs.declared.record.BallotBlock.{BallotBlock}
 use Rattle.sg_record.specs.declared.record.BlockFate.{BlockFate}
 use Rattle.sg_record.specs.declared.record.BlockFate.TheVariants as blocked

@@ -11,7 +11,7 @@ ghost use Rattle.sg_post.specs.Fits.{fates_fit};
 ghost use Rattle.sg_post.specs.Posted.{code_in_row};
 ghost use Rattle.sg_post.specs.inside.Lines.{audited_block, audited_race, cast_block, cast_race, marked_code, marked_row_codes, row_code, row_codes, told_lines, void_line};
 
-use crate::counts::{count_candidates, count_races, has_race, row_in};
+use crate::counts::{count_races, has_race, row_in};
 use crate::story::Told;
 use sg_outside::{Failed, Sink};
 use sg_plan::{BallotIndex, Fate, Items, Paper};
@@ -69,7 +69,8 @@ pub fn put_row_codes<O: Sink>(
     requires row { row < rows_of tables.now.plan race }
     ensures { Writes O.written O.faults pen.old out.old pen.new out.new result (row_codes tables.now.plan tables.now.seed race row) }
 {
-    for column in 0..count_candidates(tables, race) {
+    let candidates = tables.plan().candidates(race) as u32;
+    for column in 0..candidates {
         put_code(pen, tables, race, row, column, out)?;
     }
     Ok(())
@@ -111,7 +112,8 @@ fn put_marked_codes<O: Sink>(
     requires row { row < rows_of tables.now.plan race }
     ensures { Writes O.written O.faults pen.old out.old pen.new out.new result (marked_row_codes tables.now.plan tables.now.seed race row fate.now) }
 {
-    for column in 0..count_candidates(tables, race) {
+    let candidates = tables.plan().candidates(race) as u32;
+    for column in 0..candidates {
         put_marked_code(pen, tables, race, row, fate, column, out)?;
     }
     Ok(())

@@ -1,41 +1,47 @@
 //! Section 1 of what is posted: the plan and the commitments.
-ghost use Rattle.std.specs.Prelude.{◌≡◌, ◌<◌, [], length};
+ghost use Rattle.std.specs.Prelude.{◌≡◌, ◌<◌, ◌+◌, [], length};
 ghost use Rattle.sg_plan.specs.Ballots.{entries_of};
 ghost use Rattle.sg_record.specs.Pens.{IsSealOf, Writes};
 ghost use Rattle.sg_post.specs.Posted.{code_commit_of, row_commit_of};
 ghost use Rattle.sg_post.specs.inside.Lines.{code_commits, entry_commit, instance_row_commits, race_commits, race_row_commits, row_commit, row_commits, section_1};
+ghost use Rattle.sg_post.specs.inside.Walks.{AreAt};
 
 use crate::counts::{count_entries, count_instances, count_races};
 use sg_commit::{CommitKind, Digest, commit};
 use sg_outside::{Failed, Sink};
 use sg_record::{Pen, RowCommit, put_code_commit, put_plan, put_row_commit};
-use sg_tables::Tables;
+use sg_tables::{LeftOpenings, QOpenings, RightOpenings, Tables};
 
-/// The commitment to an entry's code.
+/// The commitment to the code of the entry that the walk has come to. The walk then goes on by one.
 #[tactic(auto, unfolding(crate::specs::Posted::code_commit_of))]
-fn code_commit(tables: &Tables, race: u32, entry: u32) -> Digest
+fn code_commit(tables: &Tables, walk: &mut QOpenings<'_>, race: u32, entry: u32) -> Digest
     requires race { race < length tables.now.plan.races }
     requires entry { entry < entries_of tables.now.plan race }
-    ensures { result ≡ code_commit_of tables.now.plan tables.now.seed race entry }
+    requires walk { walk.old ≡ record { plan = tables.now.plan; seed = tables.now.seed; race = race; entry = entry } }
+    ensures digest { result ≡ code_commit_of tables.now.plan tables.now.seed race entry }
+    ensures walk { walk.new ≡ record { plan = tables.now.plan; seed = tables.now.seed; race = race; entry = entry + 1 } }
 {
     let _ = count_races(tables);
-    let opening = tables.q_opening(race, entry);
+    let opening = walk.next();
     commit(CommitKind::Q, race, 0, entry, &opening)
 }
 
-/// Writes the commitment to an entry's code.
+/// Writes the commitment to the code of the entry that the walk has come to. The walk then goes on by one.
 fn put_entry_commit<O: Sink>(
     pen: &mut Pen,
     tables: &Tables,
+    walk: &mut QOpenings<'_>,
     race: u32,
     entry: u32,
     out: &mut O,
 ) -> Result<(), Failed>
     requires race { race < length tables.now.plan.races }
     requires entry { entry < entries_of tables.now.plan race }
-    ensures { Writes O.written O.faults pen.old out.old pen.new out.new result (entry_commit tables.now.plan tables.now.seed race entry) }
+    requires walk { walk.old ≡ record { plan = tables.now.plan; seed = tables.now.seed; race = race; entry = entry } }
+    ensures writes { Writes O.written O.faults pen.old out.old pen.new out.new result (entry_commit tables.now.plan tables.now.seed race entry) }
+    ensures walk { walk.new ≡ record { plan = tables.now.plan; seed = tables.now.seed; race = race; entry = entry + 1 } }
 {
-    let digest = code_commit(tables, race, entry);
+    let digest = code_commit(tables, walk, race, entry);
     put_code_commit(pen, race, &digest, out)
 }
 
@@ -49,8 +55,9 @@ fn put_race_commits<O: Sink>(
     requires race { race < length tables.now.plan.races }
     ensures { Writes O.written O.faults pen.old out.old pen.new out.new result (race_commits tables.now.plan tables.now.seed race) }
 {
+    let mut walk = tables.q_openings(race, 0);
     for entry in 0..count_entries(tables, race) {
-        put_entry_commit(pen, tables, race, entry, out)?;
+        put_entry_commit(pen, tables, &mut walk, race, entry, out)?;
     }
     Ok(())
 }
@@ -65,27 +72,43 @@ fn put_code_commits<O: Sink>(pen: &mut Pen, tables: &Tables, out: &mut O) -> Res
     Ok(())
 }
 
-/// The commitments to a row's pointers.
+/// Walks over the openings of both pointers of an instance's rows.
+#[derive(Debug, Drop)]
+struct RowOpenings<'a> {
+    lefts: LeftOpenings<'a>,
+    rights: RightOpenings<'a>,
+}
+
+/// The commitments to the pointers of the row that the walks have come to. The walks then go on by one.
 #[tactic(auto, unfolding(crate::specs::Posted::row_commit_of))]
-fn row_commits(tables: &Tables, race: u32, instance: u32, row: u32) -> RowCommit
+fn row_commits(
+    tables: &Tables,
+    walks: &mut RowOpenings<'_>,
+    race: u32,
+    instance: u32,
+    row: u32,
+) -> RowCommit
     requires race { race < length tables.now.plan.races }
     requires instance { instance < tables.now.plan.instances }
     requires row { row < entries_of tables.now.plan race }
-    ensures { result ≡ row_commit_of tables.now.plan tables.now.seed race instance row }
+    requires walks { AreAt tables.now race instance row walks.old.lefts walks.old.rights }
+    ensures digests { result ≡ row_commit_of tables.now.plan tables.now.seed race instance row }
+    ensures walks { AreAt tables.now race instance (row + 1) walks.new.lefts walks.new.rights }
 {
     let _ = count_races(tables);
-    let left = tables.left_opening(race, instance, row);
-    let right = tables.right_opening(race, instance, row);
+    let left = walks.lefts.next();
+    let right = walks.rights.next();
     RowCommit {
         left: commit(CommitKind::L, race, instance, row, &left),
         right: commit(CommitKind::R, race, instance, row, &right),
     }
 }
 
-/// Writes the commitments to a row's pointers.
+/// Writes the commitments to the pointers of the row that the walks have come to. The walks then go on by one.
 fn put_row<O: Sink>(
     pen: &mut Pen,
     tables: &Tables,
+    walks: &mut RowOpenings<'_>,
     race: u32,
     instance: u32,
     row: u32,
@@ -94,9 +117,11 @@ fn put_row<O: Sink>(
     requires race { race < length tables.now.plan.races }
     requires instance { instance < tables.now.plan.instances }
     requires row { row < entries_of tables.now.plan race }
-    ensures { Writes O.written O.faults pen.old out.old pen.new out.new result (row_commit tables.now.plan tables.now.seed race instance row) }
+    requires walks { AreAt tables.now race instance row walks.old.lefts walks.old.rights }
+    ensures writes { Writes O.written O.faults pen.old out.old pen.new out.new result (row_commit tables.now.plan tables.now.seed race instance row) }
+    ensures walks { AreAt tables.now race instance (row + 1) walks.new.lefts walks.new.rights }
 {
-    let digests = row_commits(tables, race, instance, row);
+    let digests = row_commits(tables, walks, race, instance, row);
     put_row_commit(pen, race, instance, &digests, out)
 }
 
@@ -112,8 +137,12 @@ fn put_instance<O: Sink>(
     requires instance { instance < tables.now.plan.instances }
     ensures { Writes O.written O.faults pen.old out.old pen.new out.new result (instance_row_commits tables.now.plan tables.now.seed race instance) }
 {
+    let mut walks = RowOpenings {
+        lefts: tables.left_openings(race, instance, 0),
+        rights: tables.right_openings(race, instance, 0),
+    };
     for row in 0..count_entries(tables, race) {
-        put_row(pen, tables, race, instance, row, out)?;
+        put_row(pen, tables, &mut walks, race, instance, row, out)?;
     }
     Ok(())
 }

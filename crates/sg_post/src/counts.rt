@@ -1,4 +1,4 @@
-//! How many races, instances, entries and candidates the plan of the tables has, and the rows of its ballots.
+//! How many races, instances and entries the plan of the tables has, and the rows of its ballots.
 ghost use Rattle.std.specs.Prelude.{◌≡◌, ◌<◌, ◌≤◌, ℕ, None, true, length};
 ghost use Rattle.sg_plan.specs.Ballots.{ballot_has, ballot_row, candidates_of, entries_of, rows_of};
 ghost use Rattle.sg_plan.specs.Limits.{fault_of};
@@ -31,15 +31,6 @@ pub fn count_entries(tables: &Tables, race: u32) -> u32
     ensures { result ≡ entries_of tables.now.plan race }
 {
     tables.plan().entries(race)
-}
-
-/// How many candidates a race has.
-pub fn count_candidates(tables: &Tables, race: u32) -> u32
-    requires { race < length tables.now.plan.races }
-    ensures { result ≡ candidates_of tables.now.plan race }
-{
-    sg_plan::laws::bounds_law();
-    tables.plan().races.get(race as usize).candidates.len() as u32
 }
 
 /// The ballot has the race.

@@ -1,17 +1,12 @@
 //! Whether a story may be posted.
 ghost use Rattle.std.specs.Prelude.{◌≡◌};
 ghost use Rattle.std.specs.List.{list_all};
-ghost use Rattle.sg_record.specs.Formed.{is_draw};
 ghost use Rattle.sg_post.specs.Fits.{claim_fits, fates_fit, stage_fits, story_fits};
 
 use crate::story::{Claimed, Story, Told};
-use sg_plan::{BallotIndex, Draw, Items, Plan, Stage};
-
-/// How many claims a record may have.
-const MOST_CLAIMS: usize = 10_000;
-
-/// How many public bytes a draw may have.
-const MOST_PUBLIC: usize = 4_096;
+use sg_plan::limits::MOST_CLAIMS;
+use sg_plan::{BallotIndex, Items, Plan, Stage};
+use sg_record::is_draw;
 
 /// The fates are of strictly rising ballots of the plan, and fit them.
 fn fates_fit(index: &BallotIndex, fates: &Items<Told>) -> bool
@@ -29,16 +24,6 @@ fn fates_fit(index: &BallotIndex, fates: &Items<Told>) -> bool
         last = told.ballot;
     }
     true
-}
-
-/// The public bytes are 1 to 4,096.
-fn is_draw(draw: &Draw) -> bool
-    ensures { result ≡ is_draw draw.now }
-{
-    match draw {
-        Draw::Full => true,
-        Draw::Public(bytes) => (1..=MOST_PUBLIC).contains(&bytes.len()),
-    }
 }
 
 /// Claims stand only once sides are drawn, and are few.

@@ -4,7 +4,7 @@ ghost use Rattle.sg_plan.specs.Ballots.{entries_of};
 ghost use Rattle.sg_streams.specs.Numbers.{numbers_below};
 ghost use Rattle.sg_post.specs.inside.Making.{HaveEntries, flags_by, is_vote, places_by, race_flags_by, race_places_by, race_totals_by, total_by};
 
-use crate::counts::{count_candidates, count_entries, count_instances, count_races};
+use crate::counts::{count_entries, count_instances, count_races};
 use sg_plan::{Items, NoMemory};
 use sg_tables::Tables;
 use std::alloc::Global;
@@ -171,7 +171,7 @@ fn total_race(
     requires places { HaveEntries tables.now.plan places.now }
     ensures { IfOk result (λ totals. totals ≡ race_totals_by tables.now.plan places.now race) }
 {
-    let candidates = count_candidates(tables, race);
+    let candidates = tables.plan().candidates(race) as u32;
     let _ = count_entries(tables, race);
     total_candidates(alloc, places.get(race as usize), candidates)
 }

@@ -9,7 +9,7 @@ ghost use Rattle.sg_post.specs.Posted.{both_sides, one_side, opened_row};
 ghost use Rattle.sg_post.specs.Posting.{IsPosting};
 ghost use Rattle.sg_post.specs.inside.Lines.{IsCoinKey, instance_openings, race_openings, row_opening};
 
-use crate::counts::{count_candidates, count_entries, count_instances, count_races};
+use crate::counts::{count_entries, count_instances, count_races};
 use crate::posting::Posting;
 use crate::story::Story;
 use sg_outside::{Failed, Sink};
@@ -36,8 +36,8 @@ fn is_audited(tables: &Tables, posting: &Posting, story: &Story, race: u32, entr
     requires entry { entry < entries_of tables.now.plan race }
     ensures { result ≡ is_audited tables.now.plan story.now.fates race entry }
 {
-    let _ = count_races(tables);
-    let row = entry / count_candidates(tables, race);
+    let candidates = tables.plan().candidates(race) as u32;
+    let row = entry / candidates;
     let ballot = posting.index.ballot(race, row);
     *posting.audited.get(ballot as usize)
 }

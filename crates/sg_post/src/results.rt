@@ -1,30 +1,12 @@
 //! Section 2 of what is posted: flags, places and totals.
 ghost use Rattle.std.specs.Prelude.{◌≡◌, ◌<◌, ◌^◌, ℕ, [], length, slice_index_or};
 ghost use Rattle.sg_grammar.specs.Due.{each};
-ghost use Rattle.sg_record.specs.Lines.{flag_lines, indexed};
 ghost use Rattle.sg_record.specs.Pens.{Writes};
 ghost use Rattle.sg_post.specs.inside.Lines.{race_results};
 
 use crate::posting::Posting;
 use sg_outside::{Failed, Sink};
-use sg_plan::Items;
-use sg_record::{Pen, put_flag_lines, put_place_lines, put_totals};
-
-/// Writes the flags of a race's instances.
-fn put_flags<O: Sink>(
-    pen: &mut Pen,
-    race: u32,
-    instances: &Items<Items<bool>>,
-    out: &mut O,
-) -> Result<(), Failed>
-    requires { length instances.now < 2 ^ 32 }
-    ensures { Writes O.written O.faults pen.old out.old pen.new out.new result (indexed (flag_lines race) 0 instances.now) }
-{
-    for instance in 0..instances.len() {
-        put_flag_lines(pen, race, instance as u32, instances.get(instance), out)?;
-    }
-    Ok(())
-}
+use sg_record::{Pen, put_place_lines, put_race_flags, put_totals};
 
 /// Writes the flags, the places and the totals of a race.
 fn put_race_results<O: Sink>(
@@ -40,7 +22,7 @@ fn put_race_results<O: Sink>(
     requires few_totals { length (slice_index_or posting.now.totals race []) < 2 ^ 32 }
     ensures { Writes O.written O.faults pen.old out.old pen.new out.new result (race_results posting.now race) }
 {
-    put_flags(pen, race, posting.flags.get(race as usize), out)?;
+    put_race_flags(pen, race, posting.flags.get(race as usize), out)?;
     put_place_lines(pen, race, posting.places.get(race as usize), out)?;
     put_totals(pen, race, posting.totals.get(race as usize), out)
 }
