@@ -1,0 +1,6 @@
+use Rattle.std.proofs.Common.{◌≡◌, take}
+use Rattle.sg_tables.specs.Tables.{codes_of_row}
+use Rattle.sg_desks.proofs.papers.list_matches.Given as goal
+
+abbrev pub invariant-loop-candidate : goal.invariant-loop-candidate
+invariant-loop-candidate l = take l.candidate l.list ≡ take l.candidate (codes_of_row l.tables.plan l.tables.seed l.fn.race l.fn.row)

@@ -1,0 +1,2 @@
+-- Definitions that only the proofs need.
+pub mod Races
