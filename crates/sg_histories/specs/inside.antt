@@ -1,0 +1,2 @@
+-- What only proofs cite. Nobody need believe it.
+pub mod RowReading
