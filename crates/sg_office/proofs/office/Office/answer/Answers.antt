@@ -1,0 +1,10 @@
+use Rattle.std.proofs.Common.{refl, sym, subst}
+use Rattle.sg_keeper.specs.declared.asks.Ask.{Ask}
+use Rattle.sg_histories.specs.Standing.{Turned}
+use Rattle.sg_office.proofs.Turns.{stay_look}
+use Rattle.sg_office.proofs.office.Office.answer.Goals as goal
+
+pub returns-in-Ok-clause-turn : goal.returns-in-Ok-clause-turn
+returns-in-Ok-clause-turn g c = λ history stands.
+    subst (λ (a : Ask). Turned c.args.self.now c.args.self.now (g.K.Keeper.tells c.args.keeper.now) (g.K.Keeper.rows c.args.keeper.now) (g.K.Keeper.rows c.args.keeper.now) a c.in-Ok.reply history) (sym c.in-See.is)
+    (stay_look c.args.self.now (g.K.Keeper.tells c.args.keeper.now) (g.K.Keeper.rows c.args.keeper.now) (g.K.Keeper.rows c.args.keeper.now) c.in-See.look c.in-Ok.reply history stands (λ t. refl) c.in-Ok.ensures)

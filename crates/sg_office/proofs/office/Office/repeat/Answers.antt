@@ -1,0 +1,30 @@
+use Rattle.std.proofs.Common.{ap, sym, ◌∙◌, subst}
+use Rattle.sg_keeper.specs.Laws.{Rises}
+use Rattle.sg_keeper.specs.Rows.{done_before}
+use Rattle.sg_histories.specs.declared.kept.Kept.{Kept}
+use Rattle.sg_histories.specs.Standing.{text_at}
+use Rattle.sg_histories.proofs.OutDones.{true_not_false}
+use Rattle.sg_office.proofs.Halving.{office_rises}
+use Rattle.sg_office.proofs.Repeats.{repeat_fits, repeat_other, repeat_same}
+use Rattle.sg_office.proofs.office.Office.repeat.Goals as goal
+
+pub body-requires : goal.body-requires
+body-requires c =
+    repeat_fits c.args.self.now c.office_law.ensures.history c.args.stamp.now c.args.act.now c.in-Some.kept.now c.texts_law.ensures c.office_law.ensures.limits c.requires.numbers c.requires.act c.office_law.ensures.stands
+    (ap (λ (k : Kept). text_at c.args.stamp.now.station c.args.stamp.now.number k.dones) (sym c.self.view_is) ∙ sym c.in-Some.ensures)
+    (c.equals.ensures.0 c.if-equals.true ∙ c.requires.text)
+
+pub text_at-requires : goal.text_at-requires
+text_at-requires c = subst (λ (k : Kept). Rises done_before k.dones) (sym c.self.view_is) (office_rises c.args.self.now c.office_law.ensures)
+
+pub returns-in_ok-body-in-Some : goal.returns-in_ok-body-in-Some
+returns-in_ok-body-in-Some c = λ history stands.
+    repeat_same c.args.self.now history c.args.stamp.now c.args.act.now c.in-Some.kept.now c.in_ok-body-in-Some.body c.texts_law.ensures c.office_law.ensures.limits c.requires.numbers c.requires.act stands
+    (ap (λ (k : Kept). text_at c.args.stamp.now.station c.args.stamp.now.number k.dones) (sym c.self.view_is) ∙ sym c.in-Some.ensures)
+    (c.equals.ensures.0 c.if-equals.true ∙ c.requires.text) c.in_ok-body-in-Some.ensures
+
+pub returns-in_ok-copy-in-Some : goal.returns-in_ok-copy-in-Some
+returns-in_ok-copy-in-Some c = λ history stands.
+    repeat_other c.args.self.now history c.args.stamp.now c.args.act.now c.in-Some.kept.now c.in_ok-copy-in-Some.copy c.texts_law.ensures c.office_law.ensures.limits c.requires.numbers c.requires.act stands
+    (ap (λ (k : Kept). text_at c.args.stamp.now.station c.args.stamp.now.number k.dones) (sym c.self.view_is) ∙ sym c.in-Some.ensures)
+    (λ same. true_not_false c.equals.result (c.equals.ensures.1 (same ∙ sym c.requires.text)) c.if-equals.false) c.in_ok-copy-in-Some.ensures

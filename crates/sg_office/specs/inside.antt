@@ -1,0 +1,5 @@
+-- What only private clauses cite. Nobody need believe it.
+pub mod Looks
+pub mod Now
+pub mod Ready
+pub mod Stamps

@@ -1,0 +1,18 @@
+//! The office: it accepts scans, spoiled ballots, print audits, voids, the close, the draw and claims, each once.
+#![tactic(auto)]
+
+mod accepting;
+mod answering;
+mod fresh;
+mod keeping;
+mod looks;
+mod marks;
+mod office;
+mod papers;
+mod ready;
+mod refusals;
+mod slots;
+mod stamps;
+mod stories;
+
+pub use office::Office;
