@@ -1,0 +1,6 @@
+-- The proofs.
+pub mod Beginning
+mod Hearing
+mod TalkGrows
+mod TalkGoes
+mod TalkEnds

@@ -1,0 +1,93 @@
+-- How `init` ends, by the program's own types, and what it read.
+use Rattle.std.specs.Prelude.{◌≡◌, ◌≢◌, ℕ, ◌⊎◌, List, Option, None, Some, IfSome}
+use Rattle.std.specs.Io.KnownBytes.{Appends, IsAtEnd}
+use Rattle.sg_outside.specs.Faults.{Rose}
+use Rattle.sg_outside.specs.Streams.{AppendsFront, Seen}
+use Rattle.sg_keeper.specs.Rows.{with_setup}
+use Rattle.sg_keeper.specs.SetupText.{IsSetup, setup_text}
+use Rattle.sg_keeper.specs.declared.rows.Rows.{Rows}
+use Rattle.sg_keeper.specs.declared.setup.Setup.{Setup}
+use Rattle.sg_clerk.specs.Begun.{AreSame, Begins, IsBadFile, IsFileOf, IsRefused, KeeperFails, LacksMemory, ReadFails, WriteFails, begun_line, refusal_line}
+use Rattle.sg_clerk.specs.declared.begun.Begun.{Begun}
+use Rattle.sg_clerk.specs.declared.begun.Begun.TheVariants as begun
+use Rattle.sg_clerk.specs.declared.begun.File.{File}
+use Rattle.sg_clerk.specs.declared.begun.File.TheVariants as file
+use Rattle.sg_clerk.specs.declared.begun.Keeping.{Keeping}
+use Rattle.sg_clerk.specs.declared.begun.Keeping.TheVariants as keeping
+use Rattle.sg_clerk.specs.declared.refusal.Refusal.{Refusal}
+use Rattle.sg_clerk.specs.declared.refusal.Refusal.TheVariants as refusal
+
+-- what bytes are
+abbrev pub IsFile : File → Option (List ℕ) → Type 0
+IsFile (file.Setup setup) known = IsSetup setup × IfSome known (IsFileOf setup)
+IsFile (file.Bad why) known = (why ≢ refusal.Begun) × IfSome known (IsBadFile why)
+IsFile file.Fault known = ⊥
+IsFile file.NoMemory known = Unit {0}
+
+-- what was read of an input
+abbrev pub ReadsFile : File → Seen → Seen → Type 0
+ReadsFile (file.Setup setup) input input' = IsFile (file.Setup setup) input.bytes × IsAtEnd input'.bytes
+ReadsFile (file.Bad why) input input' = IsFile (file.Bad why) input.bytes
+ReadsFile file.Fault input input' = Rose input.faults input'.faults
+ReadsFile file.NoMemory input input' = Unit {0}
+
+-- no setup was kept, and this one is kept now
+abbrev pub IsAdded : Setup → Rows → Rows → Type 0
+IsAdded setup rows rows' = (rows.setup ≡ None) × (rows' ≡ with_setup rows (setup_text setup))
+
+-- a setup was kept, and the rows are as they were
+abbrev pub IsHad : Rows → Rows → Type 0
+IsHad rows rows' = ((text : List ℕ) × (rows.setup ≡ Some text)) × (rows' ≡ rows)
+
+-- what came of keeping a setup
+abbrev pub KeepsSetup : Keeping → Setup → (tells : Type 0) → Rows → Rows → ℕ → ℕ → Type 0
+KeepsSetup keeping.Kept setup tells rows rows' faults faults' = tells → IsAdded setup rows rows'
+KeepsSetup keeping.Begun setup tells rows rows' faults faults' = tells → IsHad rows rows'
+KeepsSetup keeping.Fault setup tells rows rows' faults faults' = Rose faults faults' × AreSame tells rows rows'
+KeepsSetup keeping.NoMemory setup tells rows rows' faults faults' = AreSame tells rows rows'
+
+-- the line that says that an office was set up was written, or a front of it where the output failed
+abbrev pub Tells : Begun → Seen → Seen → Type 0
+Tells begun.Done out out' = Appends out.bytes out'.bytes begun_line
+Tells begun.WriteFault out out' = Rose out.faults out'.faults × AppendsFront out.bytes out'.bytes begun_line
+Tells begun.ReadFault out out' = ⊥
+Tells begun.KeepFault out out' = ⊥
+Tells begun.Refused out out' = ⊥
+Tells begun.NoMemory out out' = ⊥
+
+-- the line of a refusal was written, or a front of it where the output failed, or nothing for want of memory
+abbrev pub Refuses : Begun → Refusal → Seen → Seen → Type 0
+Refuses begun.Refused why out out' = Appends out.bytes out'.bytes (refusal_line why)
+Refuses begun.WriteFault why out out' = Rose out.faults out'.faults × AppendsFront out.bytes out'.bytes (refusal_line why)
+Refuses begun.NoMemory why out out' = out' ≡ out
+Refuses begun.Done why out out' = ⊥
+Refuses begun.ReadFault why out out' = ⊥
+Refuses begun.KeepFault why out out' = ⊥
+
+-- a setup was kept or not, and what was written of that
+abbrev pub SetsUp : Begun → Setup → (tells : Type 0) → Rows → Rows → ℕ → ℕ → Seen → Seen → Type 0
+SetsUp begun.Done setup tells rows rows' faults faults' out out' = (tells → IsAdded setup rows rows') × Tells begun.Done out out'
+SetsUp begun.WriteFault setup tells rows rows' faults faults' out out' =
+    ((tells → IsAdded setup rows rows') × Tells begun.WriteFault out out') ⊎ ((tells → IsHad rows rows') × Refuses begun.WriteFault refusal.Begun out out')
+SetsUp begun.Refused setup tells rows rows' faults faults' out out' = (tells → IsHad rows rows') × Refuses begun.Refused refusal.Begun out out'
+SetsUp begun.KeepFault setup tells rows rows' faults faults' out out' = Rose faults faults' × AreSame tells rows rows' × (out' ≡ out)
+SetsUp begun.NoMemory setup tells rows rows' faults faults' out out' = AreSame tells rows rows' × (out' ≡ out)
+SetsUp begun.ReadFault setup tells rows rows' faults faults' out out' = ⊥
+
+-- how `init` ended
+abbrev pub InitEnds : Begun → Seen → Seen → (tells : Type 0) → Rows → Rows → ℕ → ℕ → Seen → Seen → Type 0
+InitEnds begun.Done input input' tells rows rows' faults faults' out out' = Begins input input' tells rows rows' out out'
+InitEnds begun.ReadFault input input' tells rows rows' faults faults' out out' = ReadFails input input' tells rows rows' out out'
+InitEnds begun.WriteFault input input' tells rows rows' faults faults' out out' = WriteFails input tells rows rows' out out'
+InitEnds begun.KeepFault input input' tells rows rows' faults faults' out out' = KeeperFails faults faults' tells rows rows' out out'
+InitEnds begun.Refused input input' tells rows rows' faults faults' out out' = IsRefused input tells rows rows' out out'
+InitEnds begun.NoMemory input input' tells rows rows' faults faults' out out' = LacksMemory tells rows rows' out out'
+
+-- 0: set up; 3: a read failed; 4: a write failed; 5: the keeper failed; 7: refused; 9: memory was wanted
+abbrev pub begun_status : Begun → ℕ
+begun_status begun.Done = 0
+begun_status begun.ReadFault = 3
+begun_status begun.WriteFault = 4
+begun_status begun.KeepFault = 5
+begun_status begun.Refused = 7
+begun_status begun.NoMemory = 9

@@ -1,0 +1,208 @@
+//! `init`: an office is set up from its election file.
+ghost use Rattle.std.specs.Prelude.{◌≡◌, ◌+◌, ◌≤◌, IfOk, Some, length, vec_len};
+ghost use Rattle.sg_outside.specs.Streams.{seen};
+ghost use Rattle.sg_keeper.specs.SetupText.{IsSetup};
+ghost use Rattle.sg_clerk.specs.Begun.{longest_election};
+ghost use Rattle.sg_clerk.specs.inside.Beginning.{InitEnds, IsFile, KeepsSetup, ReadsFile, Refuses, SetsUp, Tells, begun_status};
+
+use crate::filling::fill;
+use crate::refusal::{Refusal, refusal_line};
+use sg_asks::{SetupFault, setup_of};
+use sg_keeper::{KeepFault, Keeper, Setup};
+use sg_outside::{Failed, Sink, Source};
+use sg_plan::NoMemory;
+use sg_plan::limits::LONGEST_ELECTION;
+use std::alloc::Global;
+
+/// How `init` ended.
+#[derive(Clone, Copy, Debug, PartialEq, Eq)]
+pub enum Begun {
+    /// The setup is kept, and the line that says so was written.
+    Done,
+    /// A read failed; nothing was kept or written.
+    ReadFault,
+    /// A write failed, behind a front of the line that is due.
+    WriteFault,
+    /// The keeper failed; nothing was kept or written.
+    KeepFault,
+    /// Nothing was kept, and the line that says why was written.
+    Refused,
+    /// Memory was wanted and not found; nothing was kept or written.
+    NoMemory,
+}
+
+/// The status that the program ends with.
+pub fn begun_status(ending: Begun) -> u8
+    ensures { result ≡ begun_status ending }
+{
+    match ending {
+        Begun::Done => 0,
+        Begun::ReadFault => 3,
+        Begun::WriteFault => 4,
+        Begun::KeepFault => 5,
+        Begun::Refused => 7,
+        Begun::NoMemory => 9,
+    }
+}
+
+/// What an input is.
+#[derive(Debug, Drop)]
+pub enum File {
+    /// An election file.
+    Setup(Setup),
+    /// None, for this cause.
+    Bad(Refusal),
+    /// Not read: a read failed.
+    Fault,
+    /// Not read: memory was wanted and not found.
+    NoMemory,
+}
+
+/// What bytes of the right number are.
+fn file_of(alloc: Global, bytes: &[u8]) -> File
+    requires { length bytes.now ≤ longest_election }
+    ensures { IsFile result (Some bytes.now) }
+{
+    match setup_of(alloc, bytes) {
+        Ok(setup) => File::Setup(setup),
+        Err(SetupFault::NotJson) => File::Bad(Refusal::Json),
+        Err(SetupFault::Shape) => File::Bad(Refusal::Shape),
+        Err(SetupFault::Plan(broken)) => File::Bad(Refusal::Plan(broken)),
+        Err(SetupFault::Secrets) => File::Bad(Refusal::Secrets),
+        Err(SetupFault::NoMemory) => File::NoMemory,
+    }
+}
+
+/// So many bytes of 0.
+fn zeros(alloc: Global, count: usize) -> Result<Vec<u8>, NoMemory>
+    ensures { IfOk result (λ room. vec_len room ≡ count) }
+{
+    Ok(vec![in alloc; 0; count]?)
+}
+
+/// Reads the election file into a buffer with room for the longest one and a byte more.
+fn read_into<S: Source>(alloc: Global, buf: &mut [u8], input: &mut S) -> File
+    requires { length buf.old ≡ longest_election + 1 }
+    ensures reads { ReadsFile result (seen (S.left input.old) (S.faults input.old)) (seen (S.left input.new) (S.faults input.new)) }
+    ensures later { S.faults input.old ≤ S.faults input.new }
+{
+    let Ok(count) = fill(buf, input) else {
+        return File::Fault;
+    };
+    if count > LONGEST_ELECTION {
+        return File::Bad(Refusal::Size);
+    }
+    file_of(alloc, &buf[..count])
+}
+
+/// Reads the election file: at most as many bytes as it may have, and one more to know that there are more.
+fn read_file<S: Source>(alloc: Global, input: &mut S) -> File
+    ensures reads { ReadsFile result (seen (S.left input.old) (S.faults input.old)) (seen (S.left input.new) (S.faults input.new)) }
+    ensures later { S.faults input.old ≤ S.faults input.new }
+{
+    let Ok(mut buf) = zeros(alloc, LONGEST_ELECTION + 1) else {
+        return File::NoMemory;
+    };
+    read_into(alloc, &mut buf, input)
+}
+
+/// Whether a setup is kept now.
+#[derive(Clone, Copy, Debug)]
+pub enum Keeping {
+    /// It is, and none was before.
+    Kept,
+    /// Another one was before.
+    Begun,
+    /// Not known: the keeper failed.
+    Fault,
+    /// Not kept: memory was wanted and not found.
+    NoMemory,
+}
+
+/// Keeps the setup, where none is kept.
+fn keep<K: Keeper>(alloc: Global, setup: &Setup, keeper: &mut K) -> Keeping
+    requires { IsSetup setup.now }
+    ensures keeps { KeepsSetup result setup.now (K.tells keeper.old) (K.rows keeper.old) (K.rows keeper.new) (K.faults keeper.old) (K.faults keeper.new) }
+    ensures told { K.tells keeper.old → K.tells keeper.new }
+    ensures later { K.faults keeper.old ≤ K.faults keeper.new }
+{
+    let rows = match keeper.load(alloc) {
+        Ok(rows) => rows,
+        Err(KeepFault::Failed) => return Keeping::Fault,
+        Err(KeepFault::NoMemory) => return Keeping::NoMemory,
+    };
+    if let Some(_) = &rows.setup {
+        return Keeping::Begun;
+    }
+    let Ok(text) = setup.text(alloc) else {
+        return Keeping::NoMemory;
+    };
+    match keeper.begin(&text) {
+        Ok(()) => Keeping::Kept,
+        Err(KeepFault::Failed) => Keeping::Fault,
+        Err(KeepFault::NoMemory) => Keeping::NoMemory,
+    }
+}
+
+/// Writes that an office was set up.
+fn tell_begun<O: Sink>(out: &mut O) -> Begun
+    ensures { Tells result (seen (O.written out.old) (O.faults out.old)) (seen (O.written out.new) (O.faults out.new)) }
+{
+    match out.put(b"begun\n") {
+        Ok(()) => Begun::Done,
+        Err(Failed) => Begun::WriteFault,
+    }
+}
+
+/// Writes why none was.
+fn refuse<O: Sink>(alloc: Global, why: Refusal, out: &mut O) -> Begun
+    ensures { Refuses result why (seen (O.written out.old) (O.faults out.old)) (seen (O.written out.new) (O.faults out.new)) }
+{
+    let Ok(line) = refusal_line(alloc, why) else {
+        return Begun::NoMemory;
+    };
+    match out.put(line.bytes()) {
+        Ok(()) => Begun::Refused,
+        Err(Failed) => Begun::WriteFault,
+    }
+}
+
+/// Keeps the setup of an election file, and writes what came of it.
+fn set_up<K: Keeper, O: Sink>(alloc: Global, setup: &Setup, keeper: &mut K, out: &mut O) -> Begun
+    requires { IsSetup setup.now }
+    ensures sets { SetsUp result setup.now (K.tells keeper.old) (K.rows keeper.old) (K.rows keeper.new) (K.faults keeper.old) (K.faults keeper.new)
+        (seen (O.written out.old) (O.faults out.old)) (seen (O.written out.new) (O.faults out.new)) }
+    ensures told { K.tells keeper.old → K.tells keeper.new }
+    ensures later { K.faults keeper.old ≤ K.faults keeper.new }
+{
+    match keep(alloc, setup, keeper) {
+        Keeping::Kept => tell_begun(out),
+        Keeping::Begun => refuse(alloc, Refusal::Begun, out),
+        Keeping::Fault => Begun::KeepFault,
+        Keeping::NoMemory => Begun::NoMemory,
+    }
+}
+
+/// Sets an office up: reads the election file, keeps its setup where none is kept, and writes `begun`. The line of a
+/// refusal is written where the file is none or a setup is kept: the causes are sought in the order of `Refusal`.
+///
+/// Of the input at most 1,048,577 bytes are taken.
+pub fn init<S: Source, K: Keeper, O: Sink>(
+    alloc: Global,
+    input: &mut S,
+    keeper: &mut K,
+    out: &mut O,
+) -> Begun
+    ensures ends { InitEnds result (seen (S.left input.old) (S.faults input.old)) (seen (S.left input.new) (S.faults input.new))
+        (K.tells keeper.old) (K.rows keeper.old) (K.rows keeper.new) (K.faults keeper.old) (K.faults keeper.new)
+        (seen (O.written out.old) (O.faults out.old)) (seen (O.written out.new) (O.faults out.new)) }
+    ensures told { K.tells keeper.old → K.tells keeper.new }
+    ensures later { K.faults keeper.old ≤ K.faults keeper.new }
+{
+    match read_file(alloc, input) {
+        File::Setup(setup) => set_up(alloc, &setup, keeper, out),
+        File::Bad(why) => refuse(alloc, why, out),
+        File::Fault => Begun::ReadFault,
+        File::NoMemory => Begun::NoMemory,
+    }
+}

@@ -1,0 +1,6 @@
+-- The proofs: answers can be written, and a talk keeps what was done.
+mod Plain
+mod Posting
+mod Writable
+mod Turning
+mod Keeping
