@@ -1,0 +1,3 @@
+-- The proofs of the laws of unaltered histories.
+pub mod Accepting
+pub mod UnalteredStories

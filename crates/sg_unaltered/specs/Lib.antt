@@ -1,0 +1,2 @@
+-- What a reader of the laws of unaltered histories believes.
+pub mod UnalteredHistories
