@@ -14,7 +14,14 @@ use Rattle.sg_check.specs.declared.judged.Judged.{Judged}
 use Rattle.sg_check.specs.declared.judged.Judged.TheVariants.{Yes, No}
 use Rattle.sg_check.specs.declared.judged.Kind.{Kind}
 use Rattle.sg_check.specs.declared.judged.Total.{Total}
+use Rattle.sg_plan.specs.Limits.{fault_of}
+use Rattle.sg_plan.specs.declared.plan.Plan.{Plan}
+use Rattle.sg_post.specs.Posted.{posted_text}
+use Rattle.sg_post.specs.declared.story.Story.{Story}
 use Rattle.sg_accepted.proofs.RecordTotals.{unaltered_is_never_no}
+use Rattle.sg_accepted.specs.Unaltered.{IsUnaltered}
+use Rattle.sg_histories.specs.Stories.{story_of}
+use Rattle.sg_unaltered.proofs.UnalteredStories.{unaltered_tell_so}
 use Rattle.sg_accepted.specs.Totals.{told_totals}
 use Rattle.sg_app.specs.Audit.{AuditSays}
 use Rattle.sg_app.specs.Headline.{Headline, IsWholeAndAgrees}
@@ -28,6 +35,13 @@ right_is_good lines right = good_end lines (totals_of lines) (none_bad_are_fine 
 not_no : (totals : List Total) (number : ℕ) (broken : Kind) → Yes totals ≢ No number broken
 not_no totals number broken same = subst IsNo (sym same) tt
 
+-- what is posted of an unaltered story has no other verdict than yes
+story_is_never_no : (lines : List (List ℕ)) (plan : Plan) (seed : List ℕ) (story : Story) (number : ℕ) (broken : Kind) → fault_of plan ≡ None → IsUnaltered plan seed story
+    → lines ≡ lines_of (posted_text plan seed story) → IsVerdict lines (No number broken) → ⊥
+story_is_never_no lines plan seed story number broken fine unaltered same bad =
+    not_no (told_totals plan seed story.fates) number broken
+    (sym (unaltered_is_never_no plan seed story (No number broken) fine unaltered (subst (λ (l : List (List ℕ)). IsVerdict l (No number broken)) same bad)))
+
 -- the status of a verdict says the headline
 verdict_headline : (lines : List (List ℕ)) (judged : Judged) (status : ℕ) → IsVerdict lines judged → status ≡ status_of_verdict judged → Headline lines status
 verdict_headline lines (Yes totals) status good is =
@@ -37,16 +51,18 @@ verdict_headline lines (Yes totals) status good is =
       yes = λ e. record { whole = good.whole; openings = sound.openings; agree = sound.agree };
       exactly = λ right e. absurd (omega (arith, e, is));
       bound = λ e. sound;
-      unaltered = λ plan seed story fine unaltered same e. absurd (omega (arith, e, is));
+      unaltered = λ setup history fine unaltered same e. absurd (omega (arith, e, is));
+      unaltered_story = λ plan seed story fine unaltered same e. absurd (omega (arith, e, is));
     }
 verdict_headline lines (No number broken) status bad is =
     record {
       yes = λ e. absurd (omega (arith, e, is));
       exactly = λ right e. not_no (totals_of lines) number broken (one_verdict lines (Yes (totals_of lines)) (No number broken) (right_is_good lines right) bad);
       bound = λ e. absurd (omega (arith, e, is));
-      unaltered = λ plan seed story fine unaltered same e.
-          not_no (told_totals plan seed story.fates) number broken
-          (sym (unaltered_is_never_no plan seed story (No number broken) fine unaltered (subst (λ (l : List (List ℕ)). IsVerdict l (No number broken)) same bad)));
+      unaltered = λ setup history fine unaltered same e.
+          story_is_never_no lines setup.plan setup.seed.0 (story_of setup history) number broken fine (unaltered_tell_so setup history unaltered) same bad;
+      unaltered_story = λ plan seed story fine unaltered same e.
+          story_is_never_no lines plan seed story number broken fine unaltered same bad;
     }
 
 -- another status says nothing of the lines
@@ -55,7 +71,8 @@ other_headline lines status other = record {
   yes = λ e. absurd (omega (arith, e, other));
   exactly = λ right e. absurd (omega (arith, e, other));
   bound = λ e. absurd (omega (arith, e, other));
-  unaltered = λ plan seed story fine unaltered same e. absurd (omega (arith, e, other));
+  unaltered = λ setup history fine unaltered same e. absurd (omega (arith, e, other));
+  unaltered_story = λ plan seed story fine unaltered same e. absurd (omega (arith, e, other));
 }
 
 -- both, where a source tells its bytes

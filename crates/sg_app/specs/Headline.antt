@@ -3,13 +3,17 @@ use Rattle.std.specs.Prelude.{◌≡◌, ◌≢◌, ℕ, true, false, List, None
 use Rattle.sg_outside.specs.TextLines.{lines_of}
 use Rattle.sg_plan.specs.Limits.{fault_of}
 use Rattle.sg_plan.specs.declared.plan.Plan.{Plan}
+use Rattle.sg_keeper.specs.declared.setup.Setup.{Setup}
 use Rattle.sg_check.specs.Bounds.{IsSound}
 use Rattle.sg_check.specs.Verdict.{are_whole, breaks, totals_of}
 use Rattle.sg_check.specs.declared.judged.Kind.{Kind}
 use Rattle.sg_check.specs.declared.judged.Kind.TheVariants as kind
 use Rattle.sg_post.specs.Posted.{posted_text}
 use Rattle.sg_post.specs.declared.story.Story.{Story}
+use Rattle.sg_histories.specs.Histories.{Entry}
+use Rattle.sg_histories.specs.Stories.{story_of}
 use Rattle.sg_accepted.specs.Unaltered.{IsUnaltered}
+use Rattle.sg_unaltered.specs.UnalteredHistories.{IsUnalteredHistory}
 
 -- the lines are a whole record whose openings match their commitments and whose opened halves agree
 pub record IsWholeAndAgrees (lines : List (List ℕ)) : Type 0 where
@@ -30,4 +34,6 @@ pub record Headline (lines : List (List ℕ)) (status : ℕ) : Type 0 where
   -- altered in their unopened halves as any posted total of its race differs from the count of posted codes
   pub bound : status ≡ 0 → IsSound lines (totals_of lines)
   -- every unaltered office run gets yes: what is posted of it is not answered no
-  pub unaltered : (plan : Plan) (seed : List ℕ) (story : Story) → fault_of plan ≡ None → IsUnaltered plan seed story → lines ≡ lines_of (posted_text plan seed story) → status ≢ 1
+  pub unaltered : (setup : Setup) (history : List Entry) → fault_of setup.plan ≡ None → IsUnalteredHistory setup history → lines ≡ lines_of (posted_text setup.plan setup.seed.0 (story_of setup history)) → status ≢ 1
+  -- nor is what is posted of any unaltered story, whether or not an office's acts made it
+  pub unaltered_story : (plan : Plan) (seed : List ℕ) (story : Story) → fault_of plan ≡ None → IsUnaltered plan seed story → lines ≡ lines_of (posted_text plan seed story) → status ≢ 1

@@ -10,10 +10,8 @@ use crate::report::write_report;
 use sg_check::Judged;
 use sg_outside::{Got, Lines, Sink, Source};
 use sg_pass::{Pass, Step};
+use sg_plan::limits::LONGEST_LINE;
 use std::alloc::Global;
-
-/// The most bytes of a line of a record, its line feed included.
-const LONGEST_LINE: usize = 16_384;
 
 /// What was heard of a source.
 #[derive(Debug, Drop)]
