@@ -5,12 +5,13 @@ use crate::report::is_report_of;
 use sg_app::run;
 use sg_check::{Judged, verdict};
 use sg_outside::{Bytes, Page};
+use sg_plan::limits::LONGEST_LINE;
 use sg_plan::{Items, NoMemory, Word};
 use std::alloc::Global;
 use std::io::Write;
 
-/// How many bytes a report may have.
-const REPORT: usize = 16_384;
+/// How many bytes a report may have: as many as a line of a record.
+const REPORT: usize = LONGEST_LINE;
 
 /// The word `audit`, as the program is given it.
 pub(crate) fn audit_word(alloc: Global) -> Result<Items<Word>, NoMemory> {

@@ -5,6 +5,8 @@
 //! the coins are: no ballot is audited, so no row is opened on both sides. Where it does so in one instance alone, the
 //! flag of an altered row agrees with the entry on its left, but not with the place on its right, and the audit finds
 //! the first of the two rows whose coin opens the right side.
+#[cfg(test)]
+mod altered;
 mod election;
 mod posting;
 mod sealing;

@@ -2,11 +2,12 @@
 use crate::fault::Fault;
 use sg_commit::{Digest, Sealer};
 use sg_outside::{Page, line_end};
+use sg_plan::limits::LONGEST_LINE;
 use sg_record::{Record, Wrote, write_record};
 use std::alloc::Global;
 
-/// How many bytes the record of an office may have.
-const ROOM: usize = 16_384;
+/// How many bytes the record of a small office may have: as many as a line of a record.
+const ROOM: usize = LONGEST_LINE;
 
 /// How the lines of the seals begin.
 const SEAL_HEADS: [&[u8]; 3] = [b"seal 1 ", b"seal 2 ", b"seal 3 "];
