@@ -2,6 +2,9 @@
 #![tactic(auto)]
 
 mod causes;
+mod file_keeper;
+#[cfg(test)]
+mod file_keeper_tests;
 mod streams;
 
 use causes::say_why;
