@@ -12,6 +12,7 @@ ghost use Rattle.sg_forms.specs.Spelling.{IsInRange, longest_line};
 
 use sg_outside::{Page, line_end};
 use sg_plan::NoMemory;
+use sg_plan::limits::LONGEST_LINE;
 use sg_record::{Expect, Line, Record, Wrote, read_line, read_record, write_line, write_record};
 use std::alloc::Global;
 use std::env;
@@ -19,9 +20,6 @@ use std::io::{self, Read};
 
 /// The most lines of a record.
 const MOST_LINES: u32 = 1_200_000;
-
-/// The most bytes of a line, its line feed included.
-const LONGEST_LINE: usize = 16_384;
 
 /// What is done with each line.
 #[derive(Clone, Copy, PartialEq, Eq)]

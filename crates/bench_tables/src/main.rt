@@ -3,6 +3,7 @@
 
 ghost use Rattle.std.specs.Prelude.{◌≤◌, length};
 
+use sg_plan::limits::MOST_BALLOTS;
 use sg_plan::{Items, NoMemory, Plan, Race, Run, Style, Word};
 use sg_streams::{Seed, Words, stream};
 use sg_tables::Tables;
@@ -136,7 +137,7 @@ fn main(rt: HostRuntime) -> io::Result<()> {
     };
     let answer = match task {
         Some(task) if task.as_str() == "town" => make(rt.alloc(), [4, 3].as_slice(), 1_700),
-        Some(task) if task.as_str() == "largest" => make(rt.alloc(), [2].as_slice(), 20_000),
+        Some(task) if task.as_str() == "largest" => make(rt.alloc(), [2].as_slice(), MOST_BALLOTS),
         Some(task) if task.as_str() == "sort" => sort(rt.alloc(), count),
         Some(task) if task.as_str() == "start" => Ok(start(count)),
         _ => return println!(rt; "usage: bench_tables town|largest|sort|start [COUNT]"),
