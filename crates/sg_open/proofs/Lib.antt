@@ -1,0 +1,16 @@
+mod Counting
+mod Steps
+mod Passes
+mod Agreeing
+mod TellingRows
+mod ClaimRows
+mod Walking
+mod Seats
+mod SeatsOut
+mod VoidSlots
+mod Standing
+mod Tables
+mod VoidTests
+mod FirstDamage
+mod StageRows
+mod Judged

@@ -1,0 +1,3 @@
+-- The modules of definitions.
+pub mod Opened
+pub mod inside
