@@ -8,6 +8,7 @@ mod keeping;
 mod looks;
 mod marks;
 mod office;
+mod opening;
 mod papers;
 mod ready;
 mod refusals;
@@ -16,3 +17,4 @@ mod stamps;
 mod stories;
 
 pub use office::Office;
+pub use sg_open::OpenFault;
