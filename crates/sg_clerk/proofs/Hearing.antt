@@ -1,5 +1,5 @@
 -- What the bytes of a source are, where they were read into the front of a buffer.
-use Rattle.std.proofs.Common.{◌≡◌, ℕ, ◌+◌, ◌-◌, ◌<◌, ◌≤◌, List, ◌++◌, length, take, drop, None, Some, sym, ap, subst, ◌∙◌, arith, take-add, slice_range, append-nil, length-append, length-take}
+use Rattle.std.proofs.Common.{◌≡◌, ℕ, ◌+◌, ◌-◌, ◌<◌, List, ◌++◌, length, take, drop, None, Some, sym, ap, subst, ◌∙◌, arith, take-add, slice_range, length-append}
 use Rattle.std.specs.Prelude.{Option, IfSome}
 use Rattle.std.specs.Io.KnownBytes.{Consumes, IsAtEnd}
 use Rattle.sg_outside.proofs.StreamLemmas.{Consumes-all, Consumes-trans}

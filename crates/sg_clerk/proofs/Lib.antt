@@ -1,6 +1,9 @@
 -- The proofs.
 pub mod Beginning
 mod Hearing
+mod Sheets
+pub mod Showing
+mod Staying
 mod TalkGrows
 mod TalkGoes
 mod TalkEnds

@@ -2,4 +2,7 @@
 pub mod Begun
 pub mod Does
 pub mod Ends
+pub mod Laws
+pub mod Sheet
+pub mod Shown
 pub mod inside

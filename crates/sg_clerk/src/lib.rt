@@ -4,10 +4,20 @@
 
 mod begun;
 mod filling;
+pub mod laws;
 mod lines;
+mod opened;
+mod posted;
+mod printing;
 mod refusal;
+mod shown;
 mod talk;
+#[cfg(test)]
+mod tests;
 
 pub use begun::{Begun, begun_status, init};
+pub use posted::record;
+pub use printing::sheet;
 pub use refusal::Refusal;
+pub use shown::{Shown, shown_status};
 pub use talk::{Ending, Overrun, do_lines, ending_status};

@@ -159,10 +159,11 @@ fn converse<S: Source, K: Keeper, O: Sink>(
     out: &mut O,
 ) -> Ending
     requires fresh { lines.old ≡ record { limit = 65536; text = []; ahead = []; is_over = false } }
-    ensures { (history : List Entry) → StandsFor office.old history
+    ensures does { (history : List Entry) → StandsFor office.old history
         → Does result office.old.setup history (K.tells keeper.old) (K.rows keeper.old) (K.rows keeper.new)
         (record { left = S.left input.old; written = O.written out.old; read_faults = S.faults input.old; write_faults = O.faults out.old; keep_faults = K.faults keeper.old })
         (record { left = S.left input.new; written = O.written out.new; read_faults = S.faults input.new; write_faults = O.faults out.new; keep_faults = K.faults keeper.new }) }
+    ensures told { K.tells keeper.old → K.tells keeper.new }
 {
     for _at in 0..MOST_ASKS {
         match lines.next(input) {
@@ -207,10 +208,11 @@ pub fn do_lines<S: Source, K: Keeper, O: Sink>(
     keeper: &mut K,
     out: &mut O,
 ) -> Ending
-    ensures { (history : List Entry) → StandsFor office.old history
+    ensures does { (history : List Entry) → StandsFor office.old history
         → Does result office.old.setup history (K.tells keeper.old) (K.rows keeper.old) (K.rows keeper.new)
         (record { left = S.left input.old; written = O.written out.old; read_faults = S.faults input.old; write_faults = O.faults out.old; keep_faults = K.faults keeper.old })
         (record { left = S.left input.new; written = O.written out.new; read_faults = S.faults input.new; write_faults = O.faults out.new; keep_faults = K.faults keeper.new }) }
+    ensures told { K.tells keeper.old → K.tells keeper.new }
 {
     let Ok(lines) = Lines::new(alloc, LONGEST_ASK) else {
         return Ending::NoMemory;

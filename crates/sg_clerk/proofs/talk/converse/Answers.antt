@@ -7,8 +7,8 @@ use Rattle.sg_clerk.proofs.TalkGoes.{goes-push}
 use Rattle.sg_clerk.proofs.TalkEnds.{does-done, does-fault, does-refuse, does-step, if-written, line-first, line-some, none-held, part-all, part-first, some-held, taken-behind, taken-text}
 use Rattle.sg_clerk.proofs.talk.converse.Goals as goal
 
-pub returns-in-Part : goal.returns-in-Part
-returns-in-Part g c = λ history stands.
+pub returns-in-Part-clause-does : goal.returns-in-Part-clause-does
+returns-in-Part-clause-does g c = λ history stands.
     let kept = c.loop-at.invariant in
     let goes = kept.goes history stands in
     let found = c.in-Part.ensures.found kept.goes_on in
@@ -17,47 +17,47 @@ returns-in-Part g c = λ history stands.
     does-step c.take_line.result _ _ c.next.new.self _ _ _ _ _ _ _ _ _ _ _ _ _ _ _ c.ended_by.ensures c.text.ensures kept.setup goes kept.told c.loop-at-test.true
     (c.take_line.ensures.steps goes.next goes.stands) c.take_line.ensures.keeper_later kept.write_later (part-first _ _ _ all) (if-written c.take_line.result _ all)
 
-pub returns-in-WriteFault : goal.returns-in-WriteFault
-returns-in-WriteFault g c = λ history stands.
+pub returns-in-WriteFault-clause-does : goal.returns-in-WriteFault-clause-does
+returns-in-WriteFault-clause-does g c = λ history stands.
     let kept = c.loop-at.invariant in
     let goes = kept.goes history stands in
     does-step step.WriteFault _ _ c.next.new.self _ _ _ _ _ _ _ _ _ _ _ _ _ _ _ refl c.text-in-loop-at.ensures kept.setup goes kept.told c.loop-at-test.true
     (c.in-WriteFault.ensures.steps goes.next goes.stands) c.in-WriteFault.ensures.keeper_later kept.write_later
     (line-first _ c.next.new.self _ _ _ _ _ _ _ _ _ _ goes (c.in-Line.ensures.cut kept.goes_on) (c.in-Line.ensures.found kept.goes_on)) tt
 
-pub returns-in-NoText : goal.returns-in-NoText
-returns-in-NoText g c = λ history stands.
+pub returns-in-NoText-clause-does : goal.returns-in-NoText-clause-does
+returns-in-NoText-clause-does g c = λ history stands.
     let kept = c.loop-at.invariant in
     let goes = kept.goes history stands in
     does-step step.NoText _ _ c.next.new.self _ _ _ _ _ _ _ _ _ _ _ _ _ _ _ refl c.text-in-loop-at.ensures kept.setup goes kept.told c.loop-at-test.true
     (c.in-NoText.ensures.steps goes.next goes.stands) c.in-NoText.ensures.keeper_later kept.write_later
     (line-first _ c.next.new.self _ _ _ _ _ _ _ _ _ _ goes (c.in-Line.ensures.cut kept.goes_on) (c.in-Line.ensures.found kept.goes_on)) tt
 
-pub returns-in-NoAnswer : goal.returns-in-NoAnswer
-returns-in-NoAnswer g c = λ history stands.
+pub returns-in-NoAnswer-clause-does : goal.returns-in-NoAnswer-clause-does
+returns-in-NoAnswer-clause-does g c = λ history stands.
     let kept = c.loop-at.invariant in
     let goes = kept.goes history stands in
     does-step step.NoAnswer _ _ c.next.new.self _ _ _ _ _ _ _ _ _ _ _ _ _ _ _ refl c.text-in-loop-at.ensures kept.setup goes kept.told c.loop-at-test.true
     (c.in-NoAnswer.ensures.steps goes.next goes.stands) c.in-NoAnswer.ensures.keeper_later kept.write_later
     (line-first _ c.next.new.self _ _ _ _ _ _ _ _ _ _ goes (c.in-Line.ensures.cut kept.goes_on) (c.in-Line.ensures.found kept.goes_on)) tt
 
-pub returns-in-Long : goal.returns-in-Long
-returns-in-Long g c = λ history stands.
+pub returns-in-Long-clause-does : goal.returns-in-Long-clause-does
+returns-in-Long-clause-does g c = λ history stands.
     let kept = c.loop-at.invariant in
     let goes = kept.goes history stands in
     let found = c.in-Long.ensures.found kept.goes_on in
     does-refuse c.refuse.result overrun.Line c.next.new.self.text _ _ _ _ _ _ _ _ _ _ _ _ goes (omega (arith, c.loop-at-test.true)) refl kept.write_later c.refuse.ensures
     (found.0, found.1 ∙ (c.in-Long.ensures.limit ∙ kept.limit), omega (arith, lines-length goes.exchanges, goes.counted, c.loop-at-test.true)) (taken-text _ c.next.new.self _ _ _ _ _ _ _ _ _ _ goes (c.in-Long.ensures.cut kept.goes_on))
 
-pub returns-in-End : goal.returns-in-End
-returns-in-End g c = λ history stands.
+pub returns-in-End-clause-does : goal.returns-in-End-clause-does
+returns-in-End-clause-does g c = λ history stands.
     let kept = c.loop-at.invariant in
     let goes = kept.goes history stands in
     let found = c.in-End.ensures.found kept.goes_on in
     does-done _ c.next.new.self _ _ _ _ _ _ _ _ _ _ goes (omega (arith, c.loop-at-test.true)) refl (c.in-End.ensures.cut kept.goes_on) found.0 found.1 refl
 
-pub returns-in-ReadFault : goal.returns-in-ReadFault
-returns-in-ReadFault g c = λ history stands.
+pub returns-in-ReadFault-clause-does : goal.returns-in-ReadFault-clause-does
+returns-in-ReadFault-clause-does g c = λ history stands.
     let kept = c.loop-at.invariant in
     let goes = kept.goes history stands in
     let found = c.in-ReadFault.ensures.found kept.goes_on in
@@ -81,8 +81,8 @@ loop-at-preserved g c =
       write_later = omega (arith, kept.write_later, c.in-Written.ensures.later);
     }
 
-pub returns-in-Line-next : goal.returns-in-Line-next
-returns-in-Line-next g c = λ history stands.
+pub returns-in-Line-next-clause-does : goal.returns-in-Line-next-clause-does
+returns-in-Line-next-clause-does g c = λ history stands.
     let kept = c.loop-at.invariant in
     let goes = kept.goes history stands in
     let found = c.in-Line-next.ensures.found kept.goes_on in
@@ -91,8 +91,8 @@ returns-in-Line-next g c = λ history stands.
     (some, omega (arith, lines-length goes.exchanges, goes.counted, c.loop-at-test.false, c.loop-at.auto._at-end))
     (taken-text _ c.next-2.new.self _ _ _ _ _ _ _ _ _ _ goes (c.in-Line-next.ensures.cut kept.goes_on))
 
-pub returns-in-Part-next : goal.returns-in-Part-next
-returns-in-Part-next g c = λ history stands.
+pub returns-in-Part-next-clause-does : goal.returns-in-Part-next-clause-does
+returns-in-Part-next-clause-does g c = λ history stands.
     let kept = c.loop-at.invariant in
     let goes = kept.goes history stands in
     let found = c.in-Part-next.ensures.found kept.goes_on in
@@ -101,8 +101,8 @@ returns-in-Part-next g c = λ history stands.
     (some, omega (arith, lines-length goes.exchanges, goes.counted, c.loop-at-test.false, c.loop-at.auto._at-end))
     (taken-text _ c.next-2.new.self _ _ _ _ _ _ _ _ _ _ goes (c.in-Part-next.ensures.cut kept.goes_on))
 
-pub returns-in-Long-next : goal.returns-in-Long-next
-returns-in-Long-next g c = λ history stands.
+pub returns-in-Long-next-clause-does : goal.returns-in-Long-next-clause-does
+returns-in-Long-next-clause-does g c = λ history stands.
     let kept = c.loop-at.invariant in
     let goes = kept.goes history stands in
     let found = c.in-Long-next.ensures.found kept.goes_on in
@@ -111,15 +111,15 @@ returns-in-Long-next g c = λ history stands.
     (some, omega (arith, lines-length goes.exchanges, goes.counted, c.loop-at-test.false, c.loop-at.auto._at-end))
     (taken-text _ c.next-2.new.self _ _ _ _ _ _ _ _ _ _ goes (c.in-Long-next.ensures.cut kept.goes_on))
 
-pub returns-in-End-next : goal.returns-in-End-next
-returns-in-End-next g c = λ history stands.
+pub returns-in-End-next-clause-does : goal.returns-in-End-next-clause-does
+returns-in-End-next-clause-does g c = λ history stands.
     let kept = c.loop-at.invariant in
     let goes = kept.goes history stands in
     let found = c.in-End-next.ensures.found kept.goes_on in
     does-done _ c.next-2.new.self _ _ _ _ _ _ _ _ _ _ goes c.loop-at.auto._at-end refl (c.in-End-next.ensures.cut kept.goes_on) found.0 found.1 refl
 
-pub returns-then-is_empty : goal.returns-then-is_empty
-returns-then-is_empty g c = λ history stands.
+pub returns-then-is_empty-clause-does : goal.returns-then-is_empty-clause-does
+returns-then-is_empty-clause-does g c = λ history stands.
     let kept = c.loop-at.invariant in
     let goes = kept.goes history stands in
     let found = c.in-ReadFault-next.ensures.found kept.goes_on in
@@ -127,8 +127,8 @@ returns-then-is_empty g c = λ history stands.
     (omega (arith, found.1, c.in-ReadFault-next.ensures.limit, kept.limit)) (λ full. none-held c.held.result.now _ c.held.ensures c.if-is_empty.ensures) refl
     (Rose-later _ _ _ kept.read_later (c.in-ReadFault-next.ensures.failed refl))
 
-pub returns-else-is_empty : goal.returns-else-is_empty
-returns-else-is_empty g c = λ history stands.
+pub returns-else-is_empty-clause-does : goal.returns-else-is_empty-clause-does
+returns-else-is_empty-clause-does g c = λ history stands.
     let kept = c.loop-at.invariant in
     let goes = kept.goes history stands in
     let found = c.in-ReadFault-next.ensures.found kept.goes_on in
