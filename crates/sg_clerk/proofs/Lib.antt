@@ -1,4 +1,5 @@
 -- The proofs.
+mod AskEnds
 pub mod Beginning
 mod Hearing
 mod Sheets

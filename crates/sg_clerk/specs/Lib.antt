@@ -1,4 +1,5 @@
 -- The modules of definitions.
+pub mod Asked
 pub mod Begun
 pub mod Does
 pub mod Ends

@@ -2,6 +2,7 @@
 //! keeper.
 #![tactic(auto)]
 
+mod asking;
 mod begun;
 mod filling;
 pub mod laws;
@@ -15,6 +16,7 @@ mod talk;
 #[cfg(test)]
 mod tests;
 
+pub use asking::answer_asks;
 pub use begun::{Begun, begun_status, init};
 pub use posted::record;
 pub use printing::sheet;
