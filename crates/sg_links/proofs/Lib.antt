@@ -1,0 +1,2 @@
+mod KeptLemmas
+pub mod TakenLemmas
