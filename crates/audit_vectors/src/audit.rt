@@ -4,6 +4,7 @@ use crate::read_back::{ReadBack, read_back, tell_breaches};
 use crate::report::is_report_of;
 use sg_app::run;
 use sg_check::{Judged, verdict};
+use sg_keeper::{MemoryKeeper, Rows};
 use sg_outside::{Bytes, Page};
 use sg_plan::limits::LONGEST_LINE;
 use sg_plan::{Items, NoMemory, Word};
@@ -20,6 +21,19 @@ pub(crate) fn audit_word(alloc: Global) -> Result<Items<Word>, NoMemory> {
     word.extend(b"audit".as_slice())?;
     words.push(word)?;
     Ok(words)
+}
+
+/// A keeper without rows.
+fn keeper_of(alloc: Global) -> MemoryKeeper {
+    let rows = Rows {
+        setup: None,
+        ballots: Items::new(alloc),
+        stages: Items::new(alloc),
+        claims: Items::new(alloc),
+        voids: Items::new(alloc),
+        dones: Items::new(alloc),
+    };
+    MemoryKeeper::new(alloc, rows, Items::new(alloc))
 }
 
 /// Where the line of this number ends, from 1: behind its line feed.
@@ -50,7 +64,8 @@ fn is_settled(
     let fails = Vec::from_slice(alloc, &[end])?;
     let mut input = Bytes::new(Vec::from_slice(alloc, record)?, 1, fails);
     let mut page = Page::new(alloc, REPORT, Vec::new(alloc), 0)?;
-    let status = run(alloc, words, &mut input, &mut page);
+    let mut keeper = keeper_of(alloc);
+    let status = run(alloc, words, &mut input, &mut keeper, &mut page);
     Ok(status == 1 && page.written() == report)
 }
 
@@ -68,7 +83,8 @@ pub(crate) fn tell<W: Write>(
 ) -> Result<bool, Fault> {
     let mut input = Bytes::new(Vec::from_slice(alloc, record)?, REPORT, Vec::new(alloc));
     let mut page = Page::new(alloc, REPORT, Vec::new(alloc), 0)?;
-    let status = run(alloc, words, &mut input, &mut page);
+    let mut keeper = keeper_of(alloc);
+    let status = run(alloc, words, &mut input, &mut keeper, &mut page);
     out.write_all(name)?;
     out.write_all(if status == 0 { b" 0\n" } else { b" 1\n" })?;
     out.write_all(page.written())?;

@@ -1,6 +1,8 @@
+mod Completing
 mod Endings
 mod Forms
 mod Headlines
 mod Judging
 mod Reporting
 mod Taking
+mod Words

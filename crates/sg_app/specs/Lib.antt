@@ -1,5 +1,6 @@
 pub mod Audit
 pub mod Command
+pub mod Complete
 pub mod Headline
 pub mod Report
 pub mod inside

@@ -3,6 +3,7 @@ use super::run;
 use crate::report::write_report;
 use records::{Case, Change, FIRST, FIRST_CASES, TWO_VOTES, TWO_VOTES_CASES};
 use sg_check::{Judged, Kind, Total};
+use sg_keeper::{MemoryKeeper, Rows};
 use sg_outside::{Bytes, Failed, Page};
 use sg_plan::{Items, NoMemory, Word};
 use std::alloc::Global;
@@ -22,6 +23,19 @@ fn words_of(alloc: Global, texts: &[&'static [u8]]) -> Result<Items<Word>, NoMem
     Ok(words)
 }
 
+/// A keeper without rows.
+fn keeper_of(alloc: Global) -> MemoryKeeper {
+    let rows = Rows {
+        setup: None,
+        ballots: Items::new(alloc),
+        stages: Items::new(alloc),
+        claims: Items::new(alloc),
+        voids: Items::new(alloc),
+        dones: Items::new(alloc),
+    };
+    MemoryKeeper::new(alloc, rows, Items::new(alloc))
+}
+
 /// Audits bytes that come in pieces, where these reads fail, and answers the status.
 fn audit(
     record: &[u8],
@@ -32,7 +46,8 @@ fn audit(
 ) -> Result<u8, Fail> {
     let words = words_of(alloc, &[b"audit"])?;
     let mut input = Bytes::new(Vec::from_slice(alloc, record)?, piece.max(1), fails);
-    Ok(run(alloc, &words, &mut input, page))
+    let mut keeper = keeper_of(alloc);
+    Ok(run(alloc, &words, &mut input, &mut keeper, page))
 }
 
 /// The text that stands in the place of the line of this number, from 1.
@@ -271,7 +286,9 @@ fn other_words_have_status_2(rt: HostRuntime) -> Result<(), Fail> {
             Vec::new(rt.alloc()),
         );
         let mut page = Page::new(rt.alloc(), 100, Vec::new(rt.alloc()), 0)?;
-        assert_eq!(rt; run(rt.alloc(), &words, &mut input, &mut page), 2);
+        let mut keeper = keeper_of(rt.alloc());
+        let status = run(rt.alloc(), &words, &mut input, &mut keeper, &mut page);
+        assert_eq!(rt; status, 2);
         assert_eq!(rt; page.written(), b"".as_slice());
     }
     Ok(())

@@ -4,15 +4,17 @@ ghost use Rattle.std.specs.Prelude.{◌≡◌, ◌⊎◌, ◌≤◌, None, IsSom
 use crate::streams::{StdSink, StdSource};
 use std::io;
 
-/// Why the program ends with this status: nothing where a verdict was reported.
+/// Why the program ends with this status: nothing where the work was done, a verdict was reported, or the output says why it
+/// was not done.
 fn cause_of(status: u8) -> Option<&'static str>
-    ensures silent { status ≤ 1 → result ≡ None }
-    ensures says { (status ≡ 2) ⊎ (status ≡ 3) ⊎ (status ≡ 4) ⊎ (status ≡ 9) → IsSome result }
+    ensures silent { (status ≤ 1) ⊎ (status ≡ 7) ⊎ (status ≡ 8) → result ≡ None }
+    ensures says { (status ≡ 2) ⊎ (status ≡ 3) ⊎ (status ≡ 4) ⊎ (status ≡ 5) ⊎ (status ≡ 9) → IsSome result }
 {
     match status {
-        2 => Some("the words must be: audit"),
+        2 => Some("the words must be: audit, init, sheet, do or record"),
         3 => Some("reading standard input failed"),
         4 => Some("writing standard output failed"),
+        5 => Some("office.db could not be read or written"),
         9 => Some("there was not enough memory"),
         _ => None,
     }

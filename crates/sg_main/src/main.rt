@@ -1,4 +1,4 @@
-//! The program: the real input and output, and `main`.
+//! The program: the real input and output, the keeper over `office.db`, and `main`.
 #![tactic(auto)]
 
 mod causes;
@@ -8,6 +8,7 @@ mod file_keeper_tests;
 mod streams;
 
 use causes::say_why;
+use file_keeper::FileKeeper;
 use sg_app::run;
 use sg_plan::{Items, NoMemory, Word};
 use std::process::ExitCode;
@@ -61,9 +62,10 @@ fn words_of(rt: &HostRuntime) -> Result<Items<Word>, WordFault> {
 
 fn main(rt: HostRuntime) -> ExitCode {
     let mut input = StdSource::new(rt.stdin());
+    let mut keeper = FileKeeper::new(&rt);
     let mut out = StdSink::new(rt.stdout());
     let status = match words_of(&rt) {
-        Ok(words) => run(rt.alloc(), &words, &mut input, &mut out),
+        Ok(words) => run(rt.alloc(), &words, &mut input, &mut keeper, &mut out),
         Err(WordFault::NotText) => BAD_WORDS,
         Err(WordFault::NoMemory) => WANT_OF_MEMORY,
     };

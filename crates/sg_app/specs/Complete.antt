@@ -1,0 +1,68 @@
+-- What each command does where nothing outside fails (this project's command line).
+use Rattle.std.specs.Prelude.{◌≡◌, ℕ, ◌⊎◌, List}
+use Rattle.sg_outside.specs.Faults.{Rose}
+use Rattle.sg_outside.specs.Streams.{Seen}
+use Rattle.sg_keeper.specs.declared.rows.Rows.{Rows}
+use Rattle.sg_keeper.specs.declared.setup.Setup.{Setup}
+use Rattle.sg_talk.specs.Talk.{stores_in}
+use Rattle.sg_histories.specs.Histories.{Entry}
+use Rattle.sg_clerk.specs.Asked.{Talks, out_at}
+use Rattle.sg_clerk.specs.Begun.{Begins, IsRefused}
+use Rattle.sg_clerk.specs.Ends.{Moment}
+use Rattle.sg_clerk.specs.Sheet.{sheet_of}
+use Rattle.sg_clerk.specs.Shown.{IsDamaged, IsEmpty, ShowsAll, posted_of}
+use Rattle.sg_app.specs.Audit.{SaysNo, SaysYes}
+use Rattle.sg_app.specs.declared.command.Command.{Command}
+use Rattle.sg_app.specs.declared.command.Command.TheVariants as command
+
+-- no count of faults rose: of the input, of the keeper, of the output
+pub record NothingFailed (before now : Moment) : Type 0 where
+  pub reads : ¬ Rose before.read_faults now.read_faults
+  pub keeps : ¬ Rose before.keep_faults now.keep_faults
+  pub writes : ¬ Rose before.write_faults now.write_faults
+
+-- the input at a moment
+abbrev pub input_at : Moment → Seen
+input_at moment = record { bytes = moment.left; faults = moment.read_faults }
+
+-- no setup is kept, and that was written
+abbrev pub SaysEmpty : ℕ → (tells : Type 0) → Rows → Moment → Moment → Type 0
+SaysEmpty status tells rows before now = (status ≡ 7) × IsEmpty tells rows (out_at before) (out_at now)
+
+-- the rows are no office's, and that was written
+abbrev pub SaysDamaged : ℕ → (tells : Type 0) → Rows → Moment → Moment → Type 0
+SaysDamaged status tells rows before now = (status ≡ 8) × IsDamaged tells rows (out_at before) (out_at now)
+
+-- what is shown of the kept rows was written whole, or that there is no office
+abbrev pub ShowsOffice : (Setup → List Entry → List ℕ) → ℕ → (tells : Type 0) → Rows → Moment → Moment → Type 0
+ShowsOffice shown status tells rows before now =
+    ((status ≡ 0) × ShowsAll shown tells rows (out_at before) (out_at now))
+    ⊎ SaysEmpty status tells rows before now
+    ⊎ SaysDamaged status tells rows before now
+
+-- an office talked, and no answer says that the keeper failed
+pub record KeepsTalking (status : ℕ) (tells : Type 0) (rows rows' : Rows) (before now : Moment) : Type 0 where
+  pub talks : Talks status tells rows rows' before now
+  pub none_lost : stores_in talks.does.exchanges ≡ 0
+
+-- The work of each command was done, by its status: `audit` reports the verdict; `init` sets an office up, or refuses;
+-- `sheet` and `record` show what is kept; `do` answers all lines (0), or all before one that is refused (7), and no answer
+-- says that the keeper failed. The last three say else that no setup is kept (7), or which row is damaged (8).
+abbrev pub DoesAll : Command → ℕ → (tells : Type 0) → Rows → Rows → Moment → Moment → Type 0
+DoesAll command.Audit status tells rows rows' before now =
+    ((status ≡ 0) × SaysYes (input_at before) (input_at now) (out_at before) (out_at now))
+    ⊎ ((status ≡ 1) × SaysNo (input_at before) (input_at now) (out_at before) (out_at now))
+DoesAll command.Init status tells rows rows' before now =
+    ((status ≡ 0) × Begins (input_at before) (input_at now) tells rows rows' (out_at before) (out_at now))
+    ⊎ ((status ≡ 7) × IsRefused (input_at before) tells rows rows' (out_at before) (out_at now))
+DoesAll command.Sheet status tells rows rows' before now = ShowsOffice sheet_of status tells rows before now
+DoesAll command.Do status tells rows rows' before now =
+    ((status ≡ 0) × KeepsTalking status tells rows rows' before now)
+    ⊎ ((status ≡ 7) × KeepsTalking status tells rows rows' before now)
+    ⊎ SaysEmpty status tells rows before now
+    ⊎ SaysDamaged status tells rows before now
+DoesAll command.Record status tells rows rows' before now = ShowsOffice posted_of status tells rows before now
+
+-- where nothing failed, a command does all its work, but for want of memory
+abbrev pub IsComplete : Command → ℕ → (tells : Type 0) → Rows → Rows → Moment → Moment → Type 0
+IsComplete asked status tells rows rows' before now = NothingFailed before now → (status ≡ 9) ⊎ DoesAll asked status tells rows rows' before now
