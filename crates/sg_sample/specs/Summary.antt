@@ -1,0 +1,109 @@
+-- The summary of a sample run, how its writing ends, and the words that ask for one (this project's sample run).
+use Rattle.std.specs.Io.KnownBytes.{Appends, Keeps}
+use Rattle.std.specs.List.{flat_map, join_with_byte}
+use Rattle.std.specs.Option.{option_and_then}
+use Rattle.std.specs.Prelude.{ℕ, nat_le, if◌then◌else◌, Bool, true, false, ◌&&◌, List, [], ◌∷◌, ◌++◌, length, count_by, codes, Option, Some, None}
+use Rattle.sg_outside.specs.Faults.{Rose}
+use Rattle.sg_outside.specs.Streams.{AppendsFront, Seen}
+use Rattle.sg_outside.specs.TextLines.{lines_of}
+use Rattle.sg_plan.specs.declared.plan.Fate.{Fate}
+use Rattle.sg_plan.specs.declared.plan.Fate.TheVariants as fate
+use Rattle.sg_lines.specs.Words.{decimal, decimal_of, encode_lower}
+use Rattle.sg_post.specs.Posted.{seal_3}
+use Rattle.sg_post.specs.declared.story.Told.{Told}
+use Rattle.sg_check.specs.declared.judged.Total.{Total}
+use Rattle.sg_accepted.specs.Totals.{told_totals}
+use Rattle.sg_sample.specs.SampleRun.{sample_draw, sample_plan, sample_record, sample_seed, sample_story}
+use Rattle.sg_sample.specs.declared.sampling.Sampled.{Sampled}
+use Rattle.sg_sample.specs.declared.sampling.Sampled.TheVariants as sampled
+use Rattle.sg_sample.specs.declared.words.Sample.{Sample}
+
+-- WHAT BECAME OF THE BALLOTS
+
+abbrev pub is_cast : Fate → Bool
+is_cast (fate.Cast marks) = true
+is_cast fate.Unused = false
+is_cast fate.Spoiled = false
+is_cast (fate.Audited paper) = false
+is_cast fate.Voided = false
+
+abbrev pub is_spoiled : Fate → Bool
+is_spoiled fate.Spoiled = true
+is_spoiled fate.Unused = false
+is_spoiled (fate.Cast marks) = false
+is_spoiled (fate.Audited paper) = false
+is_spoiled fate.Voided = false
+
+abbrev pub is_audited : Fate → Bool
+is_audited (fate.Audited paper) = true
+is_audited fate.Unused = false
+is_audited (fate.Cast marks) = false
+is_audited fate.Spoiled = false
+is_audited fate.Voided = false
+
+-- how many ballots have such a fate
+abbrev pub count_fates : (Fate → Bool) → List Told → ℕ
+count_fates is_such fates = count_by (λ told. is_such told.fate) fates
+
+-- THE SUMMARY
+
+-- words with a space between two of them, and a line feed
+abbrev pub line_of_words : List (List ℕ) → List ℕ
+line_of_words words = join_with_byte 32 words ++ 10 ∷ []
+
+-- a word and a number
+abbrev pub number_line : List ℕ → ℕ → List ℕ
+number_line word number = line_of_words (word ∷ decimal number ∷ [])
+
+-- `total RACE CANDIDATE COUNT`
+abbrev pub total_line : Total → List ℕ
+total_line total = line_of_words (codes "total" ∷ decimal total.race ∷ decimal total.candidate ∷ decimal total.count ∷ [])
+
+-- of so many ballots with these fates, of a record with so many lines, these digits on its line `seal 3` and these totals
+unfoldable pub summary_of : ℕ → List Told → ℕ → List ℕ → List Total → List ℕ
+summary_of ballots fates lines digits totals =
+    number_line (codes "ballots") ballots
+    ++ number_line (codes "cast") (count_fates is_cast fates)
+    ++ number_line (codes "spoiled") (count_fates is_spoiled fates)
+    ++ number_line (codes "audited") (count_fates is_audited fates)
+    ++ number_line (codes "lines") lines
+    ++ line_of_words (codes "seal" ∷ digits ∷ [])
+    ++ flat_map total_line totals
+    ++ line_of_words (codes "yes" ∷ [])
+
+-- of the run with this number for its seed and so many ballots
+abbrev pub summary_text : ℕ → ℕ → List ℕ
+summary_text number ballots =
+    let fates = (sample_story number ballots).fates in
+    summary_of ballots fates
+    (length (lines_of (sample_record number ballots)))
+    (encode_lower (seal_3 (sample_plan ballots) (sample_seed number) fates (sample_draw number)).0)
+    (told_totals (sample_plan ballots) (sample_seed number) fates)
+
+-- HOW ITS WRITING ENDS
+
+-- it was appended whole; or the output failed, and a front of it was appended; or memory was wanted, and nothing was
+-- written
+abbrev pub SampleEnds : Sampled → Seen → Seen → List ℕ → Type 0
+SampleEnds sampled.Done before now text = Appends before.bytes now.bytes text
+SampleEnds sampled.WriteFault before now text = Rose before.faults now.faults × AppendsFront before.bytes now.bytes text
+SampleEnds sampled.NoMemory before now text = Keeps before.bytes now.bytes
+
+-- the status that the program ends with
+abbrev pub sample_status : Sampled → ℕ
+sample_status sampled.Done = 0
+sample_status sampled.WriteFault = 4
+sample_status sampled.NoMemory = 9
+
+-- THE WORDS THAT ASK FOR ONE
+
+-- 1 to 9,000 ballots
+abbrev pub is_sample_size : ℕ → Bool
+is_sample_size ballots = nat_le 1 ballots && nat_le ballots 9000
+
+abbrev pub sample_with : ℕ → ℕ → Option Sample
+sample_with number ballots = (if is_sample_size ballots then Some (record { seed = number; ballots = ballots }) else None)
+
+-- the sample that two words ask for: both are numbers, and there are as many ballots as a sample may have
+abbrev pub sample_in : List ℕ → List ℕ → Option Sample
+sample_in number ballots = option_and_then (λ n. option_and_then (sample_with n) (decimal_of ballots)) (decimal_of number)

@@ -1,0 +1,20 @@
+-- How far a pass has gone in a text.
+use Rattle.std.specs.Prelude.{◌≡◌, ℕ, ◌≤◌, true, List, ◌++◌, length, drop}
+use Rattle.sg_outside.specs.TextLines.{lines_of}
+use Rattle.sg_check.specs.Verdict.{IsVerdict}
+use Rattle.sg_check.specs.declared.judged.Judged.TheVariants as judged
+use Rattle.sg_check.specs.declared.judged.Total.{Total}
+use Rattle.sg_pass.specs.Pass.{StandsFor, is_open}
+use Rattle.sg_pass.specs.declared.pass.Pass.{Pass}
+
+-- the pass has taken the lines before this place, and none of them was bad
+pub record IsFed (pass : Pass) (text : List ℕ) (at : ℕ) : Type 0 where
+  pub within : at ≤ length text
+  pub done : List (List ℕ)
+  pub stands : StandsFor pass done
+  pub split : done ++ lines_of (drop at text) ≡ lines_of text
+  pub unbroken : is_open pass ≡ true
+
+-- the verdict on the text is yes
+abbrev pub HasTotals : List ℕ → Type 0
+HasTotals text = (totals : List Total) × IsVerdict (lines_of text) (judged.Yes totals)
