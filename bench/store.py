@@ -63,4 +63,5 @@ def main(task, count):
         connection.execute("COMMIT")
 
 
-main(sys.argv[1], int(sys.argv[2]) if len(sys.argv) > 2 else 0)
+if __name__ == "__main__":
+    main(sys.argv[1], int(sys.argv[2]) if len(sys.argv) > 2 else 0)

@@ -1,0 +1,36 @@
+#!/usr/bin/env bash
+# Runs the club's election in an empty folder, step by step, and compares all that comes out with the files here.
+#
+#     run.sh [PROGRAM]     the built program; without one, voldkaumi on the PATH
+set -eu
+program=$(command -v "${1:-voldkaumi}")
+program=$(realpath "$program")
+club=$(cd "$(dirname "$0")" && pwd)
+folder=$(mktemp -d)
+trap 'rm -rf "$folder"' EXIT
+cd "$folder"
+umask 077
+
+step() { # NAME EXPECTED FILE: the step's output is a file of the example
+    cmp "$2" "$3" && echo "$1: as expected"
+}
+
+"$program" init < "$club/election.json" > begun
+step "set up" begun <(echo begun)
+"$program" sheet > sheet
+step "the printer's sheet" sheet "$club/club.sheet"
+"$program" record > posted-1
+for asks in voting close; do
+    "$program" do < "$club/$asks.jsonl" >> replies
+done
+"$program" record > posted-2
+for asks in draw claims; do
+    "$program" do < "$club/$asks.jsonl" >> replies
+    "$program" record > "posted-$asks"
+done
+step "the replies" replies "$club/club.replies"
+step "the record" posted-claims "$club/club.record"
+for front in posted-1 posted-2 posted-draw; do
+    cmp -n "$(stat -c %s "$front")" "$front" posted-claims && echo "$front: a front of the record"
+done
+"$program" audit < posted-claims
