@@ -1,5 +1,5 @@
 //! The text of a reply.
-ghost use Rattle.std.specs.Prelude.{◌≡◌, ◌<◌, All, IfOk};
+ghost use Rattle.std.specs.Prelude.{◌≡◌, ◌<◌, ◌∷◌, [], All, IfOk, codes};
 ghost use Rattle.std.specs.List.{concat};
 ghost use Rattle.sg_plan.specs.Codes.{codes_of};
 ghost use Rattle.sg_keeper.specs.declared.replies.Reply.TheVariants as reply;
@@ -144,6 +144,29 @@ fn mark(alloc: Global, version: u32, at: u32, error: &[u8]) -> Result<Word, NoMe
     )
 }
 
+/// The text of a refusal that tells nothing but its word.
+fn plain(alloc: Global, version: u32, text: &[u8]) -> Result<Word, NoMemory>
+    ensures { IfOk result (λ word. word ≡ concat (text.now ∷ [])) }
+{
+    text_of(alloc, version, &[Text(text)])
+}
+
+/// The text of a refusal that tells another word, behind this front.
+fn conflict<'a>(
+    alloc: Global,
+    version: u32,
+    front: &'a [u8],
+    word: &'a [u8],
+) -> Result<Word, NoMemory>
+    ensures { IfOk result (λ text. text ≡ concat (front.now ∷ word.now ∷ codes "\",\"status\":409}" ∷ [])) }
+{
+    text_of(
+        alloc,
+        version,
+        &[Text(front), Text(word), Text(b"\",\"status\":409}")],
+    )
+}
+
 /// The text of a reply, from its pieces.
 #[tactic(auto, unfolding(crate::specs::inside::Pieces::reply_pieces))]
 fn put_together(alloc: Global, version: u32, reply: &Reply) -> Result<Word, NoMemory>
@@ -152,47 +175,30 @@ fn put_together(alloc: Global, version: u32, reply: &Reply) -> Result<Word, NoMe
 {
     match reply {
         Reply::Done(told) => body(alloc, version, told),
-        Reply::Secret => text_of(
+        Reply::Secret => plain(alloc, version, b"{\"error\":\"secret\",\"status\":403}"),
+        Reply::Ballot => plain(alloc, version, b"{\"error\":\"ballot\",\"status\":404}"),
+        Reply::Ref(kept) => conflict(
             alloc,
             version,
-            &[Text(b"{\"error\":\"secret\",\"status\":403}")],
+            b"{\"error\":\"ref\",\"kept\":\"",
+            kept.bytes(),
         ),
-        Reply::Ballot => text_of(
+        Reply::Phase(phase) => conflict(
             alloc,
             version,
-            &[Text(b"{\"error\":\"ballot\",\"status\":404}")],
+            b"{\"error\":\"phase\",\"phase\":\"",
+            phase_bytes(*phase),
         ),
-        Reply::Ref(kept) => text_of(
+        Reply::Fate(fate) => conflict(
             alloc,
             version,
-            &[
-                Text(b"{\"error\":\"ref\",\"kept\":\""),
-                Text(kept.bytes()),
-                Text(b"\",\"status\":409}"),
-            ],
+            b"{\"error\":\"fate\",\"fate\":\"",
+            fate_bytes(*fate),
         ),
-        Reply::Phase(phase) => text_of(
+        Reply::Full => plain(
             alloc,
             version,
-            &[
-                Text(b"{\"error\":\"phase\",\"phase\":\""),
-                Text(phase_bytes(*phase)),
-                Text(b"\",\"status\":409}"),
-            ],
-        ),
-        Reply::Fate(fate) => text_of(
-            alloc,
-            version,
-            &[
-                Text(b"{\"error\":\"fate\",\"fate\":\""),
-                Text(fate_bytes(*fate)),
-                Text(b"\",\"status\":409}"),
-            ],
-        ),
-        Reply::Full => text_of(
-            alloc,
-            version,
-            &[Text(b"{\"error\":\"full\",\"limit\":10000,\"status\":409}")],
+            b"{\"error\":\"full\",\"limit\":10000,\"status\":409}",
         ),
         Reply::Race(at) => mark(alloc, version, *at, b"race"),
         Reply::Candidate(at) => mark(alloc, version, *at, b"candidate"),
@@ -206,26 +212,10 @@ fn put_together(alloc: Global, version: u32, reply: &Reply) -> Result<Word, NoMe
                 Text(b",\"status\":409}"),
             ],
         ),
-        Reply::Paper => text_of(
-            alloc,
-            version,
-            &[Text(b"{\"error\":\"paper\",\"status\":422}")],
-        ),
-        Reply::Draw => text_of(
-            alloc,
-            version,
-            &[Text(b"{\"error\":\"draw\",\"status\":422}")],
-        ),
-        Reply::Memory => text_of(
-            alloc,
-            version,
-            &[Text(b"{\"error\":\"memory\",\"status\":500}")],
-        ),
-        Reply::Store => text_of(
-            alloc,
-            version,
-            &[Text(b"{\"error\":\"store\",\"status\":503}")],
-        ),
+        Reply::Paper => plain(alloc, version, b"{\"error\":\"paper\",\"status\":422}"),
+        Reply::Draw => plain(alloc, version, b"{\"error\":\"draw\",\"status\":422}"),
+        Reply::Memory => plain(alloc, version, b"{\"error\":\"memory\",\"status\":500}"),
+        Reply::Store => plain(alloc, version, b"{\"error\":\"store\",\"status\":503}"),
     }
 }
 
