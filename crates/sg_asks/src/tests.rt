@@ -259,11 +259,8 @@ fn has_text(alloc: Global, version: u32, reply: &Reply, text: &str) -> Result<bo
 }
 
 #[test]
-fn bodies_are_written(rt: HostRuntime) -> Result<(), NoMemory> {
+fn bodies_of_acts_on_ballots_are_written(rt: HostRuntime) -> Result<(), NoMemory> {
     let alloc = rt.alloc();
-    let mut totals = Items::new(alloc);
-    totals.push(numbers(alloc, &[1, 0])?)?;
-    totals.push(numbers(alloc, &[4_294_967_295])?)?;
     assert!(rt;
         has_text(
             alloc,
@@ -298,6 +295,12 @@ fn bodies_are_written(rt: HostRuntime) -> Result<(), NoMemory> {
             "{\"match\":false,\"status\":200}"
         )?
     );
+    Ok(())
+}
+
+#[test]
+fn bodies_of_later_acts_are_written(rt: HostRuntime) -> Result<(), NoMemory> {
+    let alloc = rt.alloc();
     assert!(rt; has_text(alloc, 1, &Reply::Done(Body::Closed), "{\"status\":200}")?);
     assert!(rt; has_text(alloc, 1, &Reply::Done(Body::Drawn), "{\"status\":200}")?);
     assert!(rt;
@@ -324,6 +327,15 @@ fn bodies_are_written(rt: HostRuntime) -> Result<(), NoMemory> {
             "{\"status\":200,\"word\":\"absent\"}"
         )?
     );
+    Ok(())
+}
+
+#[test]
+fn bodies_of_totals_are_written(rt: HostRuntime) -> Result<(), NoMemory> {
+    let alloc = rt.alloc();
+    let mut totals = Items::new(alloc);
+    totals.push(numbers(alloc, &[1, 0])?)?;
+    totals.push(numbers(alloc, &[4_294_967_295])?)?;
     assert!(rt;
         has_text(
             alloc,
@@ -367,7 +379,7 @@ fn receipts_are_written(rt: HostRuntime) -> Result<(), NoMemory> {
 }
 
 #[test]
-fn refusals_are_written(rt: HostRuntime) -> Result<(), NoMemory> {
+fn refusals_of_access_are_written(rt: HostRuntime) -> Result<(), NoMemory> {
     let alloc = rt.alloc();
     assert!(rt;
         has_text(
@@ -385,6 +397,20 @@ fn refusals_are_written(rt: HostRuntime) -> Result<(), NoMemory> {
             "{\"error\":\"ballot\",\"status\":404}"
         )?
     );
+    assert!(rt;
+        has_text(
+            alloc,
+            2,
+            &Reply::Station(0),
+            "{\"error\":\"station\",\"kept\":0,\"status\":409}"
+        )?
+    );
+    Ok(())
+}
+
+#[test]
+fn refusals_by_phase_are_written(rt: HostRuntime) -> Result<(), NoMemory> {
+    let alloc = rt.alloc();
     assert!(rt;
         has_text(
             alloc,
@@ -409,6 +435,12 @@ fn refusals_are_written(rt: HostRuntime) -> Result<(), NoMemory> {
             "{\"error\":\"phase\",\"phase\":\"drawn\",\"status\":409}"
         )?
     );
+    Ok(())
+}
+
+#[test]
+fn refusals_by_fate_are_written(rt: HostRuntime) -> Result<(), NoMemory> {
+    let alloc = rt.alloc();
     assert!(rt;
         has_text(
             alloc,
@@ -449,14 +481,12 @@ fn refusals_are_written(rt: HostRuntime) -> Result<(), NoMemory> {
             "{\"error\":\"fate\",\"fate\":\"voided\",\"status\":409}"
         )?
     );
-    assert!(rt;
-        has_text(
-            alloc,
-            2,
-            &Reply::Full,
-            "{\"error\":\"full\",\"limit\":10000,\"status\":409}"
-        )?
-    );
+    Ok(())
+}
+
+#[test]
+fn refused_marks_are_written(rt: HostRuntime) -> Result<(), NoMemory> {
+    let alloc = rt.alloc();
     assert!(rt;
         has_text(
             alloc,
@@ -481,12 +511,18 @@ fn refusals_are_written(rt: HostRuntime) -> Result<(), NoMemory> {
             "{\"at\":1,\"error\":\"twice\",\"status\":422}"
         )?
     );
+    Ok(())
+}
+
+#[test]
+fn other_refusals_are_written(rt: HostRuntime) -> Result<(), NoMemory> {
+    let alloc = rt.alloc();
     assert!(rt;
         has_text(
             alloc,
             2,
-            &Reply::Station(0),
-            "{\"error\":\"station\",\"kept\":0,\"status\":409}"
+            &Reply::Full,
+            "{\"error\":\"full\",\"limit\":10000,\"status\":409}"
         )?
     );
     assert!(rt;
