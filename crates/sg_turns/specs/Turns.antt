@@ -1,10 +1,13 @@
 -- What an office does with the bytes that came in: a line, or the body of a request.
 use Rattle.std.specs.Prelude.{◌≡◌, ℕ, ◌+◌, ◌-◌, ◌^◌, ◌<◌, ◌≤◌, List}
 use Rattle.sg_keeper.specs.declared.asks.Ask.{Ask}
+use Rattle.sg_keeper.specs.declared.asks.Ask.TheVariants as ask
+use Rattle.sg_keeper.specs.declared.asks.Look.{Look}
 use Rattle.sg_keeper.specs.declared.replies.Reply.{Reply}
 use Rattle.sg_keeper.specs.declared.rows.Rows.{Rows}
 use Rattle.sg_keeper.specs.declared.setup.Setup.{Setup}
 use Rattle.sg_talk.specs.declared.answered.Answered.{Answered}
+use Rattle.sg_talk.specs.declared.answered.Answered.TheVariants as answered
 use Rattle.sg_talk.specs.Talk.{Answers, store_in}
 use Rattle.sg_histories.specs.declared.kept.Kept.{Kept}
 use Rattle.sg_histories.specs.Histories.{Entry}
@@ -21,6 +24,16 @@ AskTurn setup before asked answer after = IsAsk setup asked × Turn setup before
 pub record HasAnswered (setup : Setup) (office : Kept) (tells : Type 0) (rows after : Rows) (bytes : List ℕ) (answer : Answered) (history : List Entry) : Type 0 where
   pub next : List Entry
   pub answers : Answers (AskTurn setup) setup.plan.version bytes answer history next
+  pub stands : StandsFor office next
+  pub kept : tells → (text : List ℕ) → rows ≡ rows_of setup text history → after ≡ rows_of setup text next
+
+-- An office was asked for a look after this history, and shows it so, by a turn of the talk. The office then stands for the
+-- next history, and the kept rows follow where they are told.
+pub record HasShown (setup : Setup) (office : Kept) (tells : Type 0) (rows after : Rows) (seen : Look) (answer : Answered) (history : List Entry) : Type 0 where
+  pub next : List Entry
+  pub said : Reply
+  pub is : answer ≡ answered.Reply said
+  pub turn : AskTurn setup history (ask.See seen) said next
   pub stands : StandsFor office next
   pub kept : tells → (text : List ℕ) → rows ≡ rows_of setup text history → after ≡ rows_of setup text next
 

@@ -8,10 +8,10 @@ ghost use Rattle.sg_histories.specs.Standing.{IsAsk, StandsFor};
 ghost use Rattle.sg_keeper.specs.declared.setup.Setup.{Setup as SetupSeen};
 ghost use Rattle.sg_lines.specs.Words.{IsBytes};
 ghost use Rattle.sg_talk.specs.Answers.{IsWritable};
-ghost use Rattle.sg_turns.specs.Turns.{CountsStore, HasAnswered};
+ghost use Rattle.sg_turns.specs.Turns.{CountsStore, HasAnswered, HasShown};
 
 use sg_asks::{AskFault, ask_of};
-use sg_keeper::{Act, Ask, Keeper};
+use sg_keeper::{Act, Ask, Keeper, Look};
 use sg_office::Office;
 use sg_plan::{Draw, NoMemory};
 use sg_talk::Answered;
@@ -111,4 +111,25 @@ pub fn answer_to<K: Keeper>(
         Err(AskFault::Shape) => Ok(Answered::Shape),
         Err(AskFault::NoMemory) => Err(NoMemory),
     }
+}
+
+/// Answers a look: the office's reply to it.
+///
+/// The office is as before. Where memory is wanted, the reply says so.
+pub fn show_to<K: Keeper>(
+    alloc: Global,
+    office: &mut Office,
+    keeper: &mut K,
+    look: Look,
+) -> Answered
+    ensures told { K.tells keeper.old → K.tells keeper.new }
+    ensures shows { (history : List Entry) → StandsFor office.old history
+        → HasShown office.old.setup office.new (K.tells keeper.old) (K.rows keeper.old) (K.rows keeper.new) look result history }
+    ensures writable { IsWritable office.old.setup.plan.version result }
+    ensures setup { office.new.setup ≡ office.old.setup }
+    ensures stores { CountsStore (K.faults keeper.old) (K.faults keeper.new) result }
+    ensures later { K.faults keeper.old ≤ K.faults keeper.new }
+{
+    office.office_law();
+    Answered::Reply(office.answer(alloc, keeper, &Ask::See(look)))
 }
