@@ -1,0 +1,6 @@
+mod SplitLemmas
+mod HeadLemmas
+mod NumeralLemmas
+mod HearLemmas
+mod ServeLemmas
+mod LawLemmas
