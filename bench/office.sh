@@ -59,4 +59,4 @@ for word in sheet record; do
     echo "$word: $(best_of_five "$program" $word) us, $(held "$program" $word) kB"
 done
 echo "cat: $(best_of_five cat record) us; sha256sum: $(best_of_five sha256sum record) us"
-"$program" audit < record | head -1
+"$program" audit < record | sed -n 1p
