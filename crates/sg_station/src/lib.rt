@@ -1,0 +1,6 @@
+//! The command `serve`: connections are taken and served one after another, and each has its line.
+#![tactic(auto)]
+
+mod station;
+
+pub use station::{Ending, ending_status, serve_calls};
