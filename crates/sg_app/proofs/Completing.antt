@@ -14,8 +14,10 @@ use Rattle.sg_clerk.specs.Sheet.{sheet_of}
 use Rattle.sg_clerk.specs.Shown.{ShowSays, posted_of}
 use Rattle.sg_clerk.specs.declared.talk.Ending.{Ending}
 use Rattle.sg_clerk.specs.declared.talk.Ending.TheVariants as ending
+use Rattle.sg_sample.specs.declared.words.Sample.{Sample}
 use Rattle.sg_app.specs.Audit.{AuditSays}
 use Rattle.sg_app.specs.Complete.{DoesAll, IsComplete, KeepsTalking, NothingFailed, ShowsOffice, input_at}
+use Rattle.sg_app.specs.Sampling.{SampleSays}
 use Rattle.sg_app.specs.declared.command.Command.{Command}
 use Rattle.sg_app.specs.declared.command.Command.TheVariants as command
 
@@ -38,6 +40,13 @@ init_complete status tells rows rows' before now (inr (inr (inl says))) none = a
 init_complete status tells rows rows' before now (inr (inr (inr (inl says)))) none = absurd (none.keeps says.1.cause)
 init_complete status tells rows rows' before now (inr (inr (inr (inr (inl says))))) none = inr (inr says)
 init_complete status tells rows rows' before now (inr (inr (inr (inr (inr says))))) none = inl says.0
+
+-- `sample`
+pub sample_complete : (asked : Sample) (status : ℕ) (tells : Type 0) (rows rows' : Rows) (before now : Moment)
+    → SampleSays asked status (out_at before) (out_at now) → IsComplete (command.Sample asked) status tells rows rows' before now
+sample_complete asked status tells rows rows' before now (inl says) none = inr says
+sample_complete asked status tells rows rows' before now (inr (inl says)) none = absurd (none.writes says.1.cause)
+sample_complete asked status tells rows rows' before now (inr (inr says)) none = inl says.0
 
 -- what shows the kept rows
 shows_complete : (shown : Setup → List Entry → List ℕ) (status : ℕ) (tells : Type 0) (rows : Rows) (before now : Moment)

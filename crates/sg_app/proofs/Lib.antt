@@ -4,5 +4,5 @@ mod Forms
 mod Headlines
 mod Judging
 mod Reporting
+mod Samples
 mod Taking
-mod Words

@@ -1,5 +1,6 @@
 -- What each command does where nothing outside fails (this project's command line).
 use Rattle.std.specs.Prelude.{◌≡◌, ℕ, ◌⊎◌, List}
+use Rattle.std.specs.Io.KnownBytes.{Appends}
 use Rattle.sg_outside.specs.Faults.{Rose}
 use Rattle.sg_outside.specs.Streams.{Seen}
 use Rattle.sg_keeper.specs.declared.rows.Rows.{Rows}
@@ -11,6 +12,7 @@ use Rattle.sg_clerk.specs.Begun.{Begins, IsRefused}
 use Rattle.sg_clerk.specs.Ends.{Moment}
 use Rattle.sg_clerk.specs.Sheet.{sheet_of}
 use Rattle.sg_clerk.specs.Shown.{IsDamaged, IsEmpty, ShowsAll, posted_of}
+use Rattle.sg_sample.specs.Summary.{summary_text}
 use Rattle.sg_app.specs.Audit.{SaysNo, SaysYes}
 use Rattle.sg_app.specs.declared.command.Command.{Command}
 use Rattle.sg_app.specs.declared.command.Command.TheVariants as command
@@ -47,7 +49,8 @@ pub record KeepsTalking (status : ℕ) (tells : Type 0) (rows rows' : Rows) (bef
 
 -- The work of each command was done, by its status: `audit` reports the verdict; `init` sets an office up, or refuses;
 -- `sheet` and `record` show what is kept; `do` answers all lines (0), or all before one that is refused (7), and no answer
--- says that the keeper failed. The last three say else that no setup is kept (7), or which row is damaged (8).
+-- says that the keeper failed. The last three say else that no setup is kept (7), or which row is damaged (8). `sample` writes
+-- the summary of its run.
 abbrev pub DoesAll : Command → ℕ → (tells : Type 0) → Rows → Rows → Moment → Moment → Type 0
 DoesAll command.Audit status tells rows rows' before now =
     ((status ≡ 0) × SaysYes (input_at before) (input_at now) (out_at before) (out_at now))
@@ -62,6 +65,7 @@ DoesAll command.Do status tells rows rows' before now =
     ⊎ SaysEmpty status tells rows before now
     ⊎ SaysDamaged status tells rows before now
 DoesAll command.Record status tells rows rows' before now = ShowsOffice posted_of status tells rows before now
+DoesAll (command.Sample asked) status tells rows rows' before now = (status ≡ 0) × Appends before.written now.written (summary_text asked.seed asked.ballots)
 
 -- where nothing failed, a command does all its work, but for want of memory
 abbrev pub IsComplete : Command → ℕ → (tells : Type 0) → Rows → Rows → Moment → Moment → Type 0

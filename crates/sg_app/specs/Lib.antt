@@ -3,4 +3,5 @@ pub mod Command
 pub mod Complete
 pub mod Headline
 pub mod Report
+pub mod Sampling
 pub mod inside

@@ -10,7 +10,9 @@ ghost use Rattle.sg_app.specs.Audit.{AuditSays};
 ghost use Rattle.sg_app.specs.Command.{command_in};
 ghost use Rattle.sg_app.specs.Complete.{IsComplete};
 ghost use Rattle.sg_app.specs.Headline.{Headline};
+ghost use Rattle.sg_app.specs.Sampling.{SampleSays};
 ghost use Rattle.sg_app.specs.declared.command.Command.{Command as CommandSeen};
+ghost use Rattle.sg_sample.specs.declared.words.Sample.{Sample as SampleSeen};
 
 use crate::audit::{audit, status_of};
 use crate::command::{Command, command_of};
@@ -18,11 +20,12 @@ use sg_clerk::{answer_asks, begun_status, init, record, sheet, shown_status};
 use sg_keeper::Keeper;
 use sg_outside::{Sink, Source};
 use sg_plan::{Items, Word};
+use sg_sample::{sample, sampled_status};
 use std::alloc::Global;
 
 /// Runs the command that the words after the program's name ask for, and answers the status to end with.
 ///
-/// `audit` leaves the keeper alone, and `sheet` and `record` the input.
+/// `audit` leaves the keeper alone, `sheet` and `record` the input, and `sample` both.
 #[tactic(auto, using(crate::proofs::Endings::quiet_by_status))]
 pub fn run<S: Source, K: Keeper, O: Sink>(
     alloc: Global,
@@ -61,6 +64,9 @@ pub fn run<S: Source, K: Keeper, O: Sink>(
     ensures asks { command_in words.now ≡ Some Command.Do → DoSays result (K.tells keeper.old) (K.rows keeper.old) (K.rows keeper.new)
         (record { left = S.left input.old; written = O.written out.old; read_faults = S.faults input.old; write_faults = O.faults out.old; keep_faults = K.faults keeper.old })
         (record { left = S.left input.new; written = O.written out.new; read_faults = S.faults input.new; write_faults = O.faults out.new; keep_faults = K.faults keeper.new }) }
+    // With `sample` it says whether the summary of the run was written; input and keeper are as they were.
+    ensures sample { (asked : SampleSeen) → command_in words.now ≡ Some (Command.Sample asked) → SampleSays asked result (seen (O.written out.old) (O.faults out.old)) (seen (O.written out.new) (O.faults out.new)) }
+    ensures alone { (asked : SampleSeen) → command_in words.now ≡ Some (Command.Sample asked) → (input.new ≡ input.old) × (keeper.new ≡ keeper.old) }
     // Where no count of faults rose, each command does all its work, but for want of memory.
     ensures complete { (command : CommandSeen) → command_in words.now ≡ Some command → IsComplete command result (K.tells keeper.old) (K.rows keeper.old) (K.rows keeper.new)
         (record { left = S.left input.old; written = O.written out.old; read_faults = S.faults input.old; write_faults = O.faults out.old; keep_faults = K.faults keeper.old })
@@ -73,5 +79,6 @@ pub fn run<S: Source, K: Keeper, O: Sink>(
         Some(Command::Sheet) => shown_status(sheet(alloc, keeper, out)),
         Some(Command::Do) => answer_asks(alloc, input, keeper, out),
         Some(Command::Record) => shown_status(record(alloc, keeper, out)),
+        Some(Command::Sample(asked)) => sampled_status(sample(alloc, asked, out)),
     }
 }

@@ -11,7 +11,7 @@ fn cause_of(status: u8) -> Option<&'static str>
     ensures says { (status ≡ 2) ⊎ (status ≡ 3) ⊎ (status ≡ 4) ⊎ (status ≡ 5) ⊎ (status ≡ 9) → IsSome result }
 {
     match status {
-        2 => Some("the words must be: audit, init, sheet, do or record"),
+        2 => Some("the words must be: audit, init, sheet, do, record or sample SEED BALLOTS"),
         3 => Some("reading standard input failed"),
         4 => Some("writing standard output failed"),
         5 => Some("office.db could not be read or written"),
