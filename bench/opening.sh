@@ -1,0 +1,59 @@
+#!/usr/bin/env bash
+# Times asks of an office, and the opening of one from its rows.
+#
+#   bench/opening.sh        (at the top of the repository)
+#
+# The office has one race (2 candidates, 5 instances). Its keeper here keeps nothing and always answers Ok, so that the
+# office is timed and no store: an ask is read from its JSON, answered, and the reply's text is written.
+#
+# Prints how many scans are accepted a second behind 200 kept acts and behind 20,000 of them, half of these scans and half
+# voids by another station: once where the scans come from the station whose rows stand last, and once where they come
+# from the first, and each new row has half of the kept rows behind it. Then for two offices, the second twice as large:
+# the time of the opening alone from the rows of all ballots, which are cast, and of claims, with the setup read and the
+# tables made. All times are the best of seven rounds that take turns; the time of a process that does the work before
+# alone is taken off.
+set -u
+cd "$(dirname "$0")/.." || exit 1
+. bench/program.sh
+program=$(built bench_office) || exit 1
+
+python3 - "$program" <<'PY'
+import subprocess, sys, time
+program = sys.argv[1]
+
+def run(said, *words):
+    start = time.perf_counter()
+    out = subprocess.run((program,) + words, stdout=subprocess.PIPE, check=True).stdout
+    spent = time.perf_counter() - start
+    if out.decode() != said + " accepted\n":
+        sys.exit("bench_office %s said %s" % (" ".join(words), out))
+    return spent
+
+def best(*works):
+    """The least time of each work, in rounds that take turns. A work is what it must accept and its words."""
+    rounds = [[run(str(said), *words) for said, words in works] for _ in range(7)]
+    return [min(column) for column in zip(*rounds)]
+
+asks = 9000
+print("%8s %8s %10s %12s" % ("kept", "station", "asks/s", "us an ask"))
+for station in ("1", "0"):
+    works = []
+    for kept in (200, 20000):
+        works += [(kept, ("answers", str(kept), "0", station)), (kept + asks, ("answers", str(kept), str(asks), station))]
+    few, few_asked, many, many_asked = best(*works)
+    for kept, spent in ((200, few_asked - few), (20000, many_asked - many)):
+        print("%8d %8s %10.0f %12.2f" % (kept, station, asks / spent, spent * 1e6 / asks))
+
+print("%8s %8s %12s %12s %12s" % ("ballots", "claims", "rows ms", "both ms", "opening ms"))
+sizes = ((10000, 5000), (20000, 10000))
+works = []
+for size in sizes:
+    numbers = [str(number) for number in size]
+    works += [(0, ("rows", *numbers)), (0, ("open", *numbers))]
+times = best(*works)
+opened = []
+for (ballots, claims), rows, both in zip(sizes, times[::2], times[1::2]):
+    opened.append(both - rows)
+    print("%8d %8d %12.1f %12.1f %12.1f" % (ballots, claims, rows * 1e3, both * 1e3, (both - rows) * 1e3))
+print("twice the rows: %.2f times the opening" % (opened[1] / opened[0]))
+PY
