@@ -73,4 +73,5 @@ def main(task, given):
         do(json.load(open(given, encoding="utf-8")))
 
 
-main(sys.argv[1], sys.argv[2])
+if __name__ == "__main__":
+    main(sys.argv[1], sys.argv[2])

@@ -20,9 +20,10 @@ step "set up" begun <(echo begun)
 "$program" sheet > sheet
 step "the printer's sheet" sheet "$club/club.sheet"
 "$program" record > posted-1
-for asks in voting close; do
-    "$program" do < "$club/$asks.jsonl" >> replies
-done
+"$program" do < "$club/voting.jsonl" >> replies
+"$program" scans < "$club/scans.csv" > scanned
+step "the scanners' file" scanned "$club/club.scanned"
+"$program" do < "$club/close.jsonl" >> replies
 "$program" record > posted-2
 for asks in draw claims; do
     "$program" do < "$club/$asks.jsonl" >> replies

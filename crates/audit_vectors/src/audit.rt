@@ -1,10 +1,13 @@
 //! The audit of one record, and what must hold of it besides.
+ghost use Rattle.std.specs.Prelude.{◌≡◌, IfOk, false, is_some};
+
 use crate::fault::Fault;
 use crate::read_back::{ReadBack, read_back, tell_breaches};
 use crate::report::is_report_of;
 use sg_app::run;
 use sg_check::{Judged, verdict};
 use sg_keeper::{MemoryKeeper, Rows};
+use sg_links::Calls;
 use sg_outside::{Bytes, Page};
 use sg_plan::limits::LONGEST_LINE;
 use sg_plan::{Items, NoMemory, Word};
@@ -36,6 +39,14 @@ fn keeper_of(alloc: Global) -> MemoryKeeper {
     MemoryKeeper::new(alloc, rows, Items::new(alloc))
 }
 
+/// Links without connections.
+fn no_calls(alloc: Global) -> Result<Calls, Fault>
+    ensures { IfOk result (λ calls. is_some calls.board.current ≡ false) }
+{
+    let calls = Calls::new(alloc, Vec::new(alloc), 0, 0, Vec::new(alloc))?;
+    Ok(calls)
+}
+
 /// Where the line of this number ends, from 1: behind its line feed.
 fn line_end(record: &[u8], line: u32) -> Option<u32> {
     let mut feeds = 0u32;
@@ -65,7 +76,8 @@ fn is_settled(
     let mut input = Bytes::new(Vec::from_slice(alloc, record)?, 1, fails);
     let mut page = Page::new(alloc, REPORT, Vec::new(alloc), 0)?;
     let mut keeper = keeper_of(alloc);
-    let status = run(alloc, words, &mut input, &mut keeper, &mut page);
+    let mut links = no_calls(alloc)?;
+    let status = run(alloc, words, &mut input, &mut keeper, &mut links, &mut page);
     Ok(status == 1 && page.written() == report)
 }
 
@@ -84,7 +96,8 @@ pub(crate) fn tell<W: Write>(
     let mut input = Bytes::new(Vec::from_slice(alloc, record)?, REPORT, Vec::new(alloc));
     let mut page = Page::new(alloc, REPORT, Vec::new(alloc), 0)?;
     let mut keeper = keeper_of(alloc);
-    let status = run(alloc, words, &mut input, &mut keeper, &mut page);
+    let mut links = no_calls(alloc)?;
+    let status = run(alloc, words, &mut input, &mut keeper, &mut links, &mut page);
     out.write_all(name)?;
     out.write_all(if status == 0 { b" 0\n" } else { b" 1\n" })?;
     out.write_all(page.written())?;

@@ -1,8 +1,11 @@
 //! One step: new rows, a command, or a look at the rows that are kept.
+ghost use Rattle.std.specs.Prelude.{◌≡◌, IfOk, false, is_some};
+
 use crate::fault::Fault;
 use crate::rows::{put_rows, rows_of};
 use sg_app::run;
 use sg_keeper::{Keeper, MemoryKeeper};
+use sg_links::Calls;
 use sg_outside::{Bytes, Page};
 use sg_plan::{Items, Word};
 use std::alloc::Global;
@@ -16,7 +19,7 @@ const ROOM: usize = 65_536;
 pub(crate) struct Step<'a> {
     /// The election's name.
     pub name: &'a [u8],
-    /// `rows`, `kept`, or the word of a command.
+    /// `rows`, `kept`, or the words of a command.
     pub word: &'a [u8],
     /// What goes in.
     pub input: &'a [u8],
@@ -26,12 +29,14 @@ pub(crate) struct Step<'a> {
     pub status: u8,
 }
 
-/// The word of a command, as the program is given it.
-fn words_of(alloc: Global, word: &[u8]) -> Result<Items<Word>, Fault> {
+/// The words of a command, as the program is given them: between two of them stands a plus sign in the stream.
+fn words_of(alloc: Global, text: &[u8]) -> Result<Items<Word>, Fault> {
     let mut words = Items::new(alloc);
-    let mut first = Word::new(alloc);
-    first.extend(word)?;
-    words.push(first)?;
+    for part in text.split(|byte| *byte == b'+') {
+        let mut word = Word::new(alloc);
+        word.extend(part)?;
+        words.push(word)?;
+    }
     Ok(words)
 }
 
@@ -50,6 +55,14 @@ fn tell<W: Write>(step: &Step<'_>, status: u8, output: &[u8], out: &mut W) -> Re
     Ok(())
 }
 
+/// Links without connections.
+fn no_calls(alloc: Global) -> Result<Calls, Fault>
+    ensures { IfOk result (λ calls. is_some calls.board.current ≡ false) }
+{
+    let calls = Calls::new(alloc, Vec::new(alloc), 0, 0, Vec::new(alloc))?;
+    Ok(calls)
+}
+
 /// Runs a command.
 fn run_command<W: Write>(
     alloc: Global,
@@ -61,7 +74,8 @@ fn run_command<W: Write>(
     let bytes = Vec::from_slice(alloc, step.input)?;
     let mut input = Bytes::new(bytes, ROOM, Vec::new(alloc));
     let mut page = Page::new(alloc, ROOM, Vec::new(alloc), 0)?;
-    let status = run(alloc, &words, &mut input, keeper, &mut page);
+    let mut links = no_calls(alloc)?;
+    let status = run(alloc, &words, &mut input, keeper, &mut links, &mut page);
     tell(step, status, page.written(), out)
 }
 

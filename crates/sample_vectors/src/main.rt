@@ -1,43 +1,29 @@
 //! Writes the summary of each sample run that a line of the input asks for, by a number for its seed and a number of
-//! ballots, or `none` where the line asks for no sample.
+//! ballots, or `none` where the line asks for no sample. Behind the word `posted` it writes the SHA-256 hash and the last
+//! line of the record that is posted of the run's story, which is made without the office's machine.
 //!
-//! The summaries that are wanted come from another implementation.
+//! What is wanted comes from another implementation.
 #![tactic(auto)]
+
+mod election;
+mod fault;
+mod posted;
 
 ghost use Rattle.std.specs.Prelude.{◌≤◌, IfSome};
 
+use crate::fault::Fault;
+use crate::posted::tell_posted;
 use sg_lines::Parts;
 use sg_outside::Page;
 use sg_sample::{Sample, Sampled, sample, sample_of};
 use std::alloc::Global;
-use std::io::{self, Read, Write};
+use std::io::{Read, Write};
 use std::process::ExitCode;
 
 /// Room for a summary, in bytes: the longest has 223.
 const ROOM: usize = 1_000;
 
-/// Why the samples were not written to the end.
-#[derive(Drop)]
-enum Fault {
-    /// A summary was not written whole into memory.
-    Sample,
-    /// Input or output failed, or memory was wanted.
-    Outside,
-}
-
-impl From<io::Error> for Fault {
-    fn from(_: io::Error) -> Fault {
-        Fault::Outside
-    }
-}
-
-impl From<sg_outside::NoMemory> for Fault {
-    fn from(_: sg_outside::NoMemory) -> Fault {
-        Fault::Outside
-    }
-}
-
-/// The sample that a line asks for: its two words.
+/// The sample that two words ask for.
 fn asked(line: &[u8]) -> Option<Sample>
     ensures some { IfSome result (λ sample. 1 ≤ sample.ballots) }
     ensures few { IfSome result (λ sample. sample.ballots ≤ 9000) }
@@ -52,7 +38,7 @@ fn asked(line: &[u8]) -> Option<Sample>
 }
 
 /// Writes the summary of a sample.
-fn tell<W: Write>(alloc: Global, asked: Sample, out: &mut W) -> Result<(), Fault>
+fn tell_summary<W: Write>(alloc: Global, asked: Sample, out: &mut W) -> Result<(), Fault>
     requires some { 1 ≤ asked.ballots }
     requires few { asked.ballots ≤ 9000 }
 {
@@ -66,6 +52,21 @@ fn tell<W: Write>(alloc: Global, asked: Sample, out: &mut W) -> Result<(), Fault
     Ok(())
 }
 
+/// Writes what is said of a line.
+fn tell_line<W: Write>(alloc: Global, line: &[u8], out: &mut W) -> Result<(), Fault> {
+    if let Some(words) = line.strip_prefix(b"posted ") {
+        return match asked(words) {
+            Some(asked) => tell_posted(alloc, asked, out),
+            None => Err(Fault::Sample),
+        };
+    }
+    match asked(line) {
+        Some(asked) => tell_summary(alloc, asked, out)?,
+        None => out.write_all(b"none\n")?,
+    }
+    Ok(())
+}
+
 /// Writes what is said of each line.
 fn tell_lines<R: Read, W: Write>(alloc: Global, input: &mut R, out: &mut W) -> Result<(), Fault> {
     let mut text = Vec::new(alloc);
@@ -74,10 +75,7 @@ fn tell_lines<R: Read, W: Write>(alloc: Global, input: &mut R, out: &mut W) -> R
         if line.is_empty() {
             return Ok(());
         }
-        match asked(line) {
-            Some(asked) => tell(alloc, asked, out)?,
-            None => out.write_all(b"none\n")?,
-        }
+        tell_line(alloc, line, out)?;
     }
     Ok(())
 }

@@ -263,10 +263,10 @@ papers-zero g (race ∷ races) (list ∷ papers) none =
     let rest = papers-zero g races papers none in
     sum_by-cons g (Paper race list) (paper_lines races papers) ∙ omega (arith, here, rest)
 
-codes-count : (plan : Plan) (seed : List ℕ) (ballot race : ℕ) → race < length plan.races
+ballot-count : (plan : Plan) (seed : List ℕ) (ballot race : ℕ) → race < length plan.races
     → sum_by (λ (code : CodeLine). tally (code.race == race)) (audited_codes plan seed ballot) ≡ cond (ballot_has plan ballot race) (candidates_of plan race) 0
 unfolding audited_codes code_in_row numbers_below
-codes-count plan seed ballot race within =
+ballot-count plan seed ballot race within =
     let g = λ (code : CodeLine). tally (code.race == race) in
     sum-flat g (audited_race_codes plan seed ballot) (numbers_below (length plan.races))
     ∙ (sum-number (λ r. sum_by g (audited_race_codes plan seed ballot r)) (length plan.races) race within (λ r below other. elsewhere r other (ballot_has plan ballot r))
@@ -304,7 +304,7 @@ told-count plan seed race ballot (fate.Audited paper) within =
     let g = λ (said : Said). counts_race race (audit_place ballot said) in
     let a = papers-zero g (races_of_ballot plan ballot) paper (λ r list. refl) in
     let b = sum-map g Code codes in
-    let c = codes-count plan seed ballot race within in
+    let c = ballot-count plan seed ballot race within in
     block-sum (counts_race race) ballot (audit_place ballot) (papers ++ map Code codes) refl ∙ (sum_by-append g papers (map Code codes)
     ∙ (ap (λ (n : ℕ). n + sum_by g (map Code codes)) a ∙ (plus-none (sum_by g (map Code codes)) ∙ (b ∙ c))))
   where

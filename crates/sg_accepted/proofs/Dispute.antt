@@ -335,11 +335,11 @@ abbrev pub no_dispute : Placed → Bool
 no_dispute (CodeAt block.Dispute ballot race column code) = false
 no_dispute line = true
 
-never_bad : (plan : Plan) (before : List Placed) (line : Placed) → no_dispute line ≡ true → bad_dispute plan before line ≡ false
-never_bad plan before (CodeAt block.Cast ballot race column code) is = refl
-never_bad plan before (CodeAt block.Audited ballot race column code) is = refl
-never_bad plan before (CodeAt block.Dispute ballot race column code) is = cc
-never_bad plan before line is = refl
+dispute-other : (plan : Plan) (before : List Placed) (line : Placed) → no_dispute line ≡ true → bad_dispute plan before line ≡ false
+dispute-other plan before (CodeAt block.Cast ballot race column code) is = refl
+dispute-other plan before (CodeAt block.Audited ballot race column code) is = refl
+dispute-other plan before (CodeAt block.Dispute ballot race column code) is = cc
+dispute-other plan before line is = refl
 
 pub disputes-others : (plan : Plan) (before lines : List Placed) → list_all no_dispute lines ≡ true → Good (bad_dispute plan) before lines
-disputes-others plan before lines all = good-others (bad_dispute plan) no_dispute (never_bad plan) before lines all
+disputes-others plan before lines all = good-others (bad_dispute plan) no_dispute (dispute-other plan) before lines all

@@ -231,14 +231,14 @@ flag_facts plan seed fates draw fine fit = record {
       ∙ set-results plan seed fates race number in_race in_places;
 }
 
-never : (plan : Plan) (line : Placed) → is_row line ≡ false → IsNever (bad_flag plan) line
-never plan (RowAt r i n opening) is = cc
-never plan line is = λ before. refl
+flag-other : (plan : Plan) (line : Placed) → is_row line ≡ false → IsNever (bad_flag plan) line
+flag-other plan (RowAt r i n opening) is = cc
+flag-other plan line is = λ before. refl
 
 pub flags-whole : (plan : Plan) (seed : List ℕ) (fates : List Told) (draw : Draw) (claims : List Claimed) → fault_of plan ≡ None → fates_fit plan 0 fates ≡ true → list_all (claim_fits plan) claims ≡ true
     → Good (bad_flag plan) [] (posted_places plan seed fates draw claims)
 flags-whole plan seed fates draw claims fine fit claimed =
-    by_rows (bad_flag plan) plan seed fates draw claims fine fit claimed (never plan)
+    by_rows (bad_flag plan) plan seed fates draw claims fine fit claimed (flag-other plan)
     (flags-good plan seed fates (base_places plan seed fates draw) (row_places plan seed fates draw) (flag_facts plan seed fates draw fine fit)
     (of-test is_row (row_places plan seed fates draw) (rows-of (λ (line : Placed). is_row line ≡ true) plan seed fates draw (λ race instance number a b c. refl)))
     (rows-of (OpensRight plan seed) plan seed fates draw (λ race instance number a b c. (a, b, c, opened-opens plan seed fates draw race instance number))))

@@ -25,14 +25,14 @@ no_right : (race instance v : ℕ) (line : Placed) → is_row line ≡ false →
 no_right race instance v (RowAt r i n opening) is = cc
 no_right race instance v line is = refl
 
-never : (plan : Plan) (line : Placed) → is_row line ≡ false → IsNever (bad_pointer plan) line
-never plan (RowAt r i n opening) is = cc
-never plan line is = λ before. refl
+pointer-other : (plan : Plan) (line : Placed) → is_row line ≡ false → IsNever (bad_pointer plan) line
+pointer-other plan (RowAt r i n opening) is = cc
+pointer-other plan line is = λ before. refl
 
 pub pointers-whole : (plan : Plan) (seed : List ℕ) (fates : List Told) (draw : Draw) (claims : List Claimed) → fault_of plan ≡ None → fates_fit plan 0 fates ≡ true → list_all (claim_fits plan) claims ≡ true
     → Good (bad_pointer plan) [] (posted_places plan seed fates draw claims)
 pointers-whole plan seed fates draw claims fine fit claimed =
-    by_rows (bad_pointer plan) plan seed fates draw claims fine fit claimed (never plan)
+    by_rows (bad_pointer plan) plan seed fates draw claims fine fit claimed (pointer-other plan)
     (pointers-good plan seed fates draw (base_places plan seed fates draw)
     (λ race instance v. base-none (opens_left race instance v) plan seed fates draw fine fit (no_left race instance v))
     (λ race instance v. base-none (opens_right race instance v) plan seed fates draw fine fit (no_right race instance v)))

@@ -318,9 +318,9 @@ abbrev pub no_row : Placed → Bool
 no_row (RowAt race instance number opening) = false
 no_row line = true
 
-never_bad : (plan : Plan) (before : List Placed) (line : Placed) → no_row line ≡ true → bad_print plan before line ≡ false
-never_bad plan before (RowAt race instance number opening) is = cc
-never_bad plan before line is = refl
+print-other : (plan : Plan) (before : List Placed) (line : Placed) → no_row line ≡ true → bad_print plan before line ≡ false
+print-other plan before (RowAt race instance number opening) is = cc
+print-other plan before line is = refl
 
 pub prints-others : (plan : Plan) (before lines : List Placed) → list_all no_row lines ≡ true → Good (bad_print plan) before lines
-prints-others plan before lines all = good-others (bad_print plan) no_row (never_bad plan) before lines all
+prints-others plan before lines all = good-others (bad_print plan) no_row (print-other plan) before lines all

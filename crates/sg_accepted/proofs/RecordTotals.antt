@@ -81,8 +81,8 @@ results-totals plan seed fates =
     flat-numbered (race_result_places plan seed fates) 0 (length plan.races - 0)
     ∙ numbered-same (λ race. flat_map total_on (race_result_places plan seed fates race)) (λ race. each (one_total plan seed fates race) 0 (candidates_of plan race)) 0 (length plan.races - 0) (λ race a. race-totals plan seed fates race)
 
-blocks-none : (plan : Plan) (seed : List ℕ) → OfBlocks HasNone plan seed
-blocks-none plan seed = record { begun = λ b. refl; code = λ k b r c x y z. refl; over = λ b r. refl; paper = λ b r l. refl }
+no-total-in : (plan : Plan) (seed : List ℕ) → OfBlocks HasNone plan seed
+no-total-in plan seed = record { begun = λ b. refl; code = λ k b r c x y z. refl; over = λ b r. refl; paper = λ b r l. refl }
 
 draw-none : (draw : Draw) → HasNone (draw_place draw)
 draw-none drawn.Full = refl
@@ -99,10 +99,10 @@ places-totals plan seed fates draw claims fine fit claimed =
     ∙ (flat_map-append total_on (base_places plan seed fates draw) (rows ++ ends)
     ∙ (ap (λ (l : List Total). flat_map total_on (base_places plan seed fates draw) ++ l)
     (behind-none rows ends (rows-of HasNone plan seed fates draw (λ race instance number a b c. refl))
-    ∙ none-of ends (end-of HasNone plan seed fates draw claims fine claimed (λ number digest. refl) (blocks-none plan seed) (λ ballot race code word. refl)))
+    ∙ none-of ends (end-of HasNone plan seed fates draw claims fine claimed (λ number digest. refl) (no-total-in plan seed) (λ ballot race code word. refl)))
     ∙ (append_none (flat_map total_on (base_places plan seed fates draw))
     ∙ (behind-none (front_places plan seed) (ballot_places plan seed fates ++ (result_places plan seed fates ++ tail)) (front-of HasNone plan seed (λ said. refl) (λ r e a b. refl) (λ r i n a b c. refl) refl)
-    ∙ (behind-none (ballot_places plan seed fates) (result_places plan seed fates ++ tail) (fates-of HasNone plan seed 0 fates fine (blocks-none plan seed) fit)
+    ∙ (behind-none (ballot_places plan seed fates) (result_places plan seed fates ++ tail) (fates-of HasNone plan seed 0 fates fine (no-total-in plan seed) fit)
     ∙ (before-none (result_places plan seed fates) tail (refl, (draw-none draw, tt)) ∙ results-totals plan seed fates))))))
   where
     append_none : (l : List Total) → l ++ [] ≡ l

@@ -181,10 +181,10 @@ other-race ballot of race r code other =
     both false = refl
 
 -- the codes of a race among a ballot's
-codes-count : (plan : Plan) (seed : List ℕ) (marks : List Mark) (ballot race : ℕ) → race < length plan.races
+cast-count : (plan : Plan) (seed : List ℕ) (marks : List Mark) (ballot race : ℕ) → race < length plan.races
     → sum_by (λ code. cond (code.race == race) (tally (ballot == ballot && code.race == race)) 0) (cast_codes_of plan seed marks ballot) ≡ marks_of plan seed ballot race (fate.Cast marks)
 unfolding code_in_row
-codes-count plan seed marks ballot race within =
+cast-count plan seed marks ballot race within =
     let g = λ (code : CodeLine). cond (code.race == race) (tally (ballot == ballot && code.race == race)) 0 in
     ap (sum_by g) (cast-counted plan seed marks ballot)
     ∙ (sum-flat g (counted_codes plan seed marks ballot) (numbers_below (length plan.races))
@@ -222,7 +222,7 @@ told-marks plan seed ballot race (fate.Cast marks) within =
     let only = sum-at g (cast_race_lines codes overs) 0 (length plan.races - 0) race (omega arith) (omega (arith, within))
     (λ r a b other. race-count ballot ballot race r codes overs ∙ sum-zero (λ (code : CodeLine). cond (code.race == r) (tally (ballot == ballot && code.race == race)) 0) codes (λ code. other-race ballot ballot race r code other)) in
     block-sum (counts ballot race) ballot (cast_place ballot) lines refl
-    ∙ (only ∙ (race-count ballot ballot race race codes overs ∙ codes-count plan seed marks ballot race within))
+    ∙ (only ∙ (race-count ballot ballot race race codes overs ∙ cast-count plan seed marks ballot race within))
 told-marks plan seed ballot race fate.Spoiled within = refl
 told-marks plan seed ballot race (fate.Audited paper) within =
     let lines = paper_lines (races_of_ballot plan ballot) paper ++ map Code (audited_codes plan seed ballot) in

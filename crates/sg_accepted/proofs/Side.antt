@@ -131,13 +131,13 @@ side_facts plan seed fates (drawn.Public bytes) fine fit = (
   digits-found plan seed fates (drawn.Public bytes) fine fit,
 )
 
-never : (plan : Plan) (line : Placed) → is_row line ≡ false → IsNever (bad_side plan) line
-never plan (RowAt r i n opening) is = cc
-never plan line is = λ before. refl
+side-other : (plan : Plan) (line : Placed) → is_row line ≡ false → IsNever (bad_side plan) line
+side-other plan (RowAt r i n opening) is = cc
+side-other plan line is = λ before. refl
 
 pub sides-whole : (plan : Plan) (seed : List ℕ) (fates : List Told) (draw : Draw) (claims : List Claimed) → fault_of plan ≡ None → fates_fit plan 0 fates ≡ true → AreDrawn draw
     → list_all (claim_fits plan) claims ≡ true → Good (bad_side plan) [] (posted_places plan seed fates draw claims)
 sides-whole plan seed fates draw claims fine fit are claimed =
-    by_rows (bad_side plan) plan seed fates draw claims fine fit claimed (never plan)
+    by_rows (bad_side plan) plan seed fates draw claims fine fit claimed (side-other plan)
     (sides-good plan seed fates draw (base_places plan seed fates draw) (row_places plan seed fates draw) are (side_facts plan seed fates draw fine fit)
     (rows-of (IsOpened plan seed fates draw) plan seed fates draw (λ race instance number a b c. refl)))

@@ -138,9 +138,9 @@ pub no_votes : (plan : Plan) (race candidate : ℕ) (line : Placed) → no_place
 no_votes plan race candidate (PlacesAt of from bits) is = cc
 no_votes plan race candidate line is = refl
 
-never_bad : (plan : Plan) (before : List Placed) (line : Placed) → no_total line ≡ true → bad_total plan before line ≡ false
-never_bad plan before (TotalAt race candidate count) is = cc
-never_bad plan before line is = refl
+total-other : (plan : Plan) (before : List Placed) (line : Placed) → no_total line ≡ true → bad_total plan before line ≡ false
+total-other plan before (TotalAt race candidate count) is = cc
+total-other plan before line is = refl
 
 -- forms of the parts
 pub flags-all : (test : Placed → Bool) → ((race instance from : ℕ) (bits : List ℕ) → test (FlagsAt race instance from bits) ≡ true) → (plan : Plan) (flag : ℕ → ℕ → ℕ → Bool) (race : ℕ)
@@ -197,9 +197,9 @@ module _ (plan : Plan) (seed : List ℕ) (fates : List Told) where
       let places = place_places race (place_bits plan (is_set plan seed fates) race) in
       let totals = each (total_at (total_of plan seed fates) race) 0 (candidates_of plan race) in
       good-append (bad_total plan) front flags (places ++ totals)
-      (good-others (bad_total plan) no_total (never_bad plan) front flags (flags-all no_total (λ r i f b. refl) plan (flag_of plan seed fates) race))
+      (good-others (bad_total plan) no_total (total-other plan) front flags (flags-all no_total (λ r i f b. refl) plan (flag_of plan seed fates) race))
       (good-append (bad_total plan) (front ++ flags) places totals
-      (good-others (bad_total plan) no_total (never_bad plan) (front ++ flags) places
+      (good-others (bad_total plan) no_total (total-other plan) (front ++ flags) places
       (all-each no_total (λ line. place_place race (place_bits plan (is_set plan seed fates) race) line ∷ []) 0 (lines_for (length (place_bits plan (is_set plan seed fates) race)) - 0) (λ line. refl)))
       (good-each (bad_total plan) ((front ++ flags) ++ places) (total_at (total_of plan seed fates) race) (candidates_of plan race - 0)
       (λ candidate below. good-one (bad_total plan) (((front ++ flags) ++ places) ++ numbered (total_at (total_of plan seed fates) race) 0 candidate) (TotalAt race candidate (total_of plan seed fates race candidate))
@@ -207,4 +207,4 @@ module _ (plan : Plan) (seed : List ℕ) (fates : List Told) where
 
   -- no other line is judged
   pub totals-others : (base lines : List Placed) → list_all no_total lines ≡ true → Good (bad_total plan) base lines
-  totals-others base lines all = good-others (bad_total plan) no_total (never_bad plan) base lines all
+  totals-others base lines all = good-others (bad_total plan) no_total (total-other plan) base lines all

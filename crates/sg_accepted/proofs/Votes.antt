@@ -59,15 +59,15 @@ totals_count_marks plan seed fates race candidate =
 -- AND THE BALLOTS
 
 -- of tests that fail but at one number the count is whether that one passes
-count-one_range : (p : ℕ → Bool) (at count number : ℕ) → at ≤ number → number < at + count → ((k : ℕ) → at ≤ k → k < at + count → k ≢ number → p k ≡ false)
+count-at_range : (p : ℕ → Bool) (at count number : ℕ) → at ≤ number → number < at + count → ((k : ℕ) → at ≤ k → k < at + count → k ≢ number → p k ≡ false)
     → count_by p (range_with_len at count) ≡ tally (p number)
-count-one_range p at zero number low high others = absurd (omega (arith, low, high))
-count-one_range p at (suc count) number low high others =
+count-at_range p at zero number low high others = absurd (omega (arith, low, high))
+count-at_range p at (suc count) number low high others =
     elim (cases_lt at number) [
       | inl less ↦
           let first = sum_by-cons (λ (k : ℕ). tally (p k)) at (range_with_len (at + 1) count) in
           let here : tally (p at) ≡ tally false = ap tally (others at (omega arith) (omega arith) (λ e. omega (arith, e, less))) in
-          let rest = count-one_range p (at + 1) count number (omega (arith, less)) (omega (arith, high)) (λ k a b other. others k (omega (arith, a)) (omega (arith, b)) other) in
+          let rest = count-at_range p (at + 1) count number (omega (arith, less)) (omega (arith, high)) (λ k a b other. others k (omega (arith, a)) (omega (arith, b)) other) in
           omega (arith, first, here, rest)
       | inr not_less ↦
           let same : at ≡ number = omega (arith, low, not_less) in
@@ -85,9 +85,9 @@ count-one_range p at (suc count) number low high others =
         let rest = none_range (from + 1) many (λ k a b. none k (omega (arith, a)) (omega (arith, b))) in
         omega (arith, first, here, rest)
 
-count-one : (p : ℕ → Bool) (count number : ℕ) → number < count → ((k : ℕ) → k < count → k ≢ number → p k ≡ false) → count_by p (numbers_below count) ≡ tally (p number)
+count-at : (p : ℕ → Bool) (count number : ℕ) → number < count → ((k : ℕ) → k < count → k ≢ number → p k ≡ false) → count_by p (numbers_below count) ≡ tally (p number)
 unfolding numbers_below
-count-one p count number below others = count-one_range p 0 count number (omega arith) (omega (arith, below)) (λ k a b other. others k (omega (arith, b)) other)
+count-at p count number below others = count-at_range p 0 count number (omega arith) (omega (arith, below)) (λ k a b other. others k (omega (arith, b)) other)
 
 count-never : (p : ℕ → Bool) (count : ℕ) → ((k : ℕ) → p k ≡ false) → count_by p (numbers_below count) ≡ 0
 count-never p count never = count-same p (λ k. false) count (λ k below. never k) ∙ all_false (numbers_below count)
@@ -129,7 +129,7 @@ module _ (plan : Plan) (seed : List ℕ) (race candidate : ℕ) (within : candid
           let here : counts told entry ≡ votes_so plan race candidate told
           = rw (eq-eqb (path_of plan seed race entry % candidates_of plan race) candidate leads, has, eq-eqb (ballot_row plan race told.ballot) (entry / candidates_of plan race) (sym once.row_is))
           (ap (λ (c : ℕ). fate_marks plan race c told.fate) once.shows) in
-          count-one (counts told) (entries_of plan race) entry once.below
+          count-at (counts told) (entries_of plan race) entry once.below
           (λ other below differs. other_none other below differs once.alone) ∙ ap tally here
         where
           other_none : (other : ℕ) → other < entries_of plan race → other ≢ entry_showing plan seed race (ballot_row plan race told.ballot) candidate

@@ -1,8 +1,10 @@
+-- The proofs.
 mod Completing
 mod Endings
 mod Forms
 mod Headlines
 mod Judging
+mod Obeyed
 mod Reporting
 mod Samples
 mod Taking

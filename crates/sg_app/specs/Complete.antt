@@ -2,71 +2,93 @@
 use Rattle.std.specs.Prelude.{◌≡◌, ℕ, ◌⊎◌, List}
 use Rattle.std.specs.Io.KnownBytes.{Appends}
 use Rattle.sg_outside.specs.Faults.{Rose}
-use Rattle.sg_outside.specs.Streams.{Seen}
 use Rattle.sg_keeper.specs.declared.rows.Rows.{Rows}
 use Rattle.sg_keeper.specs.declared.setup.Setup.{Setup}
 use Rattle.sg_talk.specs.Talk.{stores_in}
 use Rattle.sg_histories.specs.Histories.{Entry}
-use Rattle.sg_clerk.specs.Asked.{Talks, out_at}
+use Rattle.sg_clerk.specs.Asked.{Talks}
 use Rattle.sg_clerk.specs.Begun.{Begins, IsRefused}
-use Rattle.sg_clerk.specs.Ends.{Moment}
 use Rattle.sg_clerk.specs.Sheet.{sheet_of}
 use Rattle.sg_clerk.specs.Shown.{IsDamaged, IsEmpty, ShowsAll, posted_of}
+use Rattle.sg_batch.specs.DoesScans.{stores_of}
+use Rattle.sg_batch.specs.ScansAsked.{TalksOfScans}
 use Rattle.sg_sample.specs.Summary.{summary_text}
+use Rattle.sg_station.specs.Calls.{failures_in, stores_in as stores_among}
+use Rattle.sg_station.specs.Says.{HasServed}
 use Rattle.sg_app.specs.Audit.{SaysNo, SaysYes}
-use Rattle.sg_app.specs.declared.command.Command.{Command}
-use Rattle.sg_app.specs.declared.command.Command.TheVariants as command
+use Rattle.sg_app.specs.Outside.{Outside, input_at, moment_of, output_at, scene_of}
+use Rattle.sg_words.specs.declared.service.Service.{Service}
+use Rattle.sg_words.specs.declared.command.Command.{Command}
+use Rattle.sg_words.specs.declared.command.Command.TheVariants as command
 
--- no count of faults rose: of the input, of the keeper, of the output
-pub record NothingFailed (before now : Moment) : Type 0 where
+-- no count of faults rose: of the input, of the keeper, of the links, of the output
+pub record NothingFailed (before now : Outside) : Type 0 where
   pub reads : ¬ Rose before.read_faults now.read_faults
   pub keeps : ¬ Rose before.keep_faults now.keep_faults
+  pub links : ¬ Rose before.link_faults now.link_faults
   pub writes : ¬ Rose before.write_faults now.write_faults
 
--- the input at a moment
-abbrev pub input_at : Moment → Seen
-input_at moment = record { bytes = moment.left; faults = moment.read_faults }
-
 -- no setup is kept, and that was written
-abbrev pub SaysEmpty : ℕ → (tells : Type 0) → Rows → Moment → Moment → Type 0
-SaysEmpty status tells rows before now = (status ≡ 7) × IsEmpty tells rows (out_at before) (out_at now)
+abbrev pub SaysEmpty : ℕ → (tells : Type 0) → Rows → Outside → Outside → Type 0
+SaysEmpty status tells rows before now = (status ≡ 7) × IsEmpty tells rows (output_at before) (output_at now)
 
 -- the rows are no office's, and that was written
-abbrev pub SaysDamaged : ℕ → (tells : Type 0) → Rows → Moment → Moment → Type 0
-SaysDamaged status tells rows before now = (status ≡ 8) × IsDamaged tells rows (out_at before) (out_at now)
+abbrev pub SaysDamaged : ℕ → (tells : Type 0) → Rows → Outside → Outside → Type 0
+SaysDamaged status tells rows before now = (status ≡ 8) × IsDamaged tells rows (output_at before) (output_at now)
 
 -- what is shown of the kept rows was written whole, or that there is no office
-abbrev pub ShowsOffice : (Setup → List Entry → List ℕ) → ℕ → (tells : Type 0) → Rows → Moment → Moment → Type 0
+abbrev pub ShowsOffice : (Setup → List Entry → List ℕ) → ℕ → (tells : Type 0) → Rows → Outside → Outside → Type 0
 ShowsOffice shown status tells rows before now =
-    ((status ≡ 0) × ShowsAll shown tells rows (out_at before) (out_at now))
+    ((status ≡ 0) × ShowsAll shown tells rows (output_at before) (output_at now))
     ⊎ SaysEmpty status tells rows before now
     ⊎ SaysDamaged status tells rows before now
 
 -- an office talked, and no answer says that the keeper failed
-pub record KeepsTalking (status : ℕ) (tells : Type 0) (rows rows' : Rows) (before now : Moment) : Type 0 where
-  pub talks : Talks status tells rows rows' before now
+pub record KeepsTalking (status : ℕ) (tells : Type 0) (rows rows' : Rows) (before now : Outside) : Type 0 where
+  pub talks : Talks status tells rows rows' (moment_of before) (moment_of now)
   pub none_lost : stores_in talks.does.exchanges ≡ 0
+
+-- the same over the records of a scanner's file
+pub record KeepsScanning (status : ℕ) (tells : Type 0) (rows rows' : Rows) (before now : Outside) : Type 0 where
+  pub talks : TalksOfScans status tells rows rows' (moment_of before) (moment_of now)
+  pub none_lost : stores_of talks.does.handed ≡ 0
+
+-- an office served so many connections, none of them failed, and no answer says that the keeper failed
+pub record KeepsServing (status : ℕ) (asked : Service) (tells : Type 0) (rows rows' : Rows) (before now : Outside) : Type 0 where
+  pub served : HasServed status asked.port asked.count tells rows rows' (scene_of before) (scene_of now)
+  pub none_failed : failures_in served.serves.calls ≡ 0
+  pub none_lost : stores_among served.serves.calls ≡ 0
 
 -- The work of each command was done, by its status: `audit` reports the verdict; `init` sets an office up, or refuses;
 -- `sheet` and `record` show what is kept; `do` answers all lines (0), or all before one that is refused (7), and no answer
--- says that the keeper failed. The last three say else that no setup is kept (7), or which row is damaged (8). `sample` writes
--- the summary of its run.
-abbrev pub DoesAll : Command → ℕ → (tells : Type 0) → Rows → Rows → Moment → Moment → Type 0
+-- says that the keeper failed; nor does one of `scans`, which answers all records of the file (0), or refuses it (7), or of
+-- `serve`, which serves as many connections as were asked for, and none fails. These five say else that no setup is kept (7),
+-- or which row is damaged (8). `sample` writes the summary of its run.
+abbrev pub DoesAll : Command → ℕ → (tells : Type 0) → Rows → Rows → Outside → Outside → Type 0
 DoesAll command.Audit status tells rows rows' before now =
-    ((status ≡ 0) × SaysYes (input_at before) (input_at now) (out_at before) (out_at now))
-    ⊎ ((status ≡ 1) × SaysNo (input_at before) (input_at now) (out_at before) (out_at now))
+    ((status ≡ 0) × SaysYes (input_at before) (input_at now) (output_at before) (output_at now))
+    ⊎ ((status ≡ 1) × SaysNo (input_at before) (input_at now) (output_at before) (output_at now))
 DoesAll command.Init status tells rows rows' before now =
-    ((status ≡ 0) × Begins (input_at before) (input_at now) tells rows rows' (out_at before) (out_at now))
-    ⊎ ((status ≡ 7) × IsRefused (input_at before) tells rows rows' (out_at before) (out_at now))
+    ((status ≡ 0) × Begins (input_at before) (input_at now) tells rows rows' (output_at before) (output_at now))
+    ⊎ ((status ≡ 7) × IsRefused (input_at before) tells rows rows' (output_at before) (output_at now))
 DoesAll command.Sheet status tells rows rows' before now = ShowsOffice sheet_of status tells rows before now
 DoesAll command.Do status tells rows rows' before now =
     ((status ≡ 0) × KeepsTalking status tells rows rows' before now)
     ⊎ ((status ≡ 7) × KeepsTalking status tells rows rows' before now)
     ⊎ SaysEmpty status tells rows before now
     ⊎ SaysDamaged status tells rows before now
+DoesAll command.Scans status tells rows rows' before now =
+    ((status ≡ 0) × KeepsScanning status tells rows rows' before now)
+    ⊎ ((status ≡ 7) × KeepsScanning status tells rows rows' before now)
+    ⊎ SaysEmpty status tells rows before now
+    ⊎ SaysDamaged status tells rows before now
+DoesAll (command.Serve asked) status tells rows rows' before now =
+    ((status ≡ 0) × KeepsServing status asked tells rows rows' before now)
+    ⊎ SaysEmpty status tells rows before now
+    ⊎ SaysDamaged status tells rows before now
 DoesAll command.Record status tells rows rows' before now = ShowsOffice posted_of status tells rows before now
 DoesAll (command.Sample asked) status tells rows rows' before now = (status ≡ 0) × Appends before.written now.written (summary_text asked.seed asked.ballots)
 
 -- where nothing failed, a command does all its work, but for want of memory
-abbrev pub IsComplete : Command → ℕ → (tells : Type 0) → Rows → Rows → Moment → Moment → Type 0
+abbrev pub IsComplete : Command → ℕ → (tells : Type 0) → Rows → Rows → Outside → Outside → Type 0
 IsComplete asked status tells rows rows' before now = NothingFailed before now → (status ≡ 9) ⊎ DoesAll asked status tells rows rows' before now

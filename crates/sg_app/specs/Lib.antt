@@ -1,7 +1,9 @@
+-- The modules of definitions.
 pub mod Audit
-pub mod Command
 pub mod Complete
 pub mod Headline
+pub mod Outside
 pub mod Report
 pub mod Sampling
+pub mod Touches
 pub mod inside

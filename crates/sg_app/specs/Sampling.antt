@@ -4,7 +4,7 @@ use Rattle.std.specs.Io.KnownBytes.{Appends}
 use Rattle.sg_outside.specs.Faults.{Rose}
 use Rattle.sg_outside.specs.Streams.{AppendsFront, Seen}
 use Rattle.sg_sample.specs.Summary.{summary_text}
-use Rattle.sg_sample.specs.declared.words.Sample.{Sample}
+use Rattle.sg_words.specs.declared.sample.Sample.{Sample}
 
 -- 4: the output's count of faults rose, and a front of the summary was written
 pub record CutsSummary (asked : Sample) (out out' : Seen) : Type 0 where

@@ -1,11 +1,11 @@
-//! The program's commands, over any source and sink.
+//! The program's commands, over any source, keeper, links and sink.
 #![tactic(auto)]
 
 mod audit;
-mod command;
 mod program;
 mod report;
 #[cfg(test)]
 mod tests;
+mod work;
 
 pub use program::run;

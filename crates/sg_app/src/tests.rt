@@ -1,9 +1,12 @@
 //! The program on whole records, with the report and the status that the rules give.
+ghost use Rattle.std.specs.Prelude.{◌≡◌, IfOk, false, is_some};
+
 use super::run;
 use crate::report::write_report;
 use records::{Case, Change, FIRST, FIRST_CASES, TWO_VOTES, TWO_VOTES_CASES};
 use sg_check::{Judged, Kind, Total};
 use sg_keeper::{MemoryKeeper, Rows};
+use sg_links::Calls;
 use sg_outside::{Bytes, Failed, Page};
 use sg_plan::{Items, NoMemory, Word};
 use std::alloc::Global;
@@ -36,6 +39,13 @@ fn keeper_of(alloc: Global) -> MemoryKeeper {
     MemoryKeeper::new(alloc, rows, Items::new(alloc))
 }
 
+/// Links without connections.
+fn no_calls(alloc: Global) -> Result<Calls, Fail>
+    ensures { IfOk result (λ calls. is_some calls.board.current ≡ false) }
+{
+    Ok(Calls::new(alloc, Vec::new(alloc), 0, 0, Vec::new(alloc))?)
+}
+
 /// Audits bytes that come in pieces, where these reads fail, and answers the status.
 fn audit(
     record: &[u8],
@@ -47,7 +57,8 @@ fn audit(
     let words = words_of(alloc, &[b"audit"])?;
     let mut input = Bytes::new(Vec::from_slice(alloc, record)?, piece.max(1), fails);
     let mut keeper = keeper_of(alloc);
-    Ok(run(alloc, &words, &mut input, &mut keeper, page))
+    let mut links = no_calls(alloc)?;
+    Ok(run(alloc, &words, &mut input, &mut keeper, &mut links, page))
 }
 
 /// The text that stands in the place of the line of this number, from 1.
@@ -287,7 +298,15 @@ fn other_words_have_status_2(rt: HostRuntime) -> Result<(), Fail> {
         );
         let mut page = Page::new(rt.alloc(), 100, Vec::new(rt.alloc()), 0)?;
         let mut keeper = keeper_of(rt.alloc());
-        let status = run(rt.alloc(), &words, &mut input, &mut keeper, &mut page);
+        let mut links = no_calls(rt.alloc())?;
+        let status = run(
+            rt.alloc(),
+            &words,
+            &mut input,
+            &mut keeper,
+            &mut links,
+            &mut page,
+        );
         assert_eq!(rt; status, 2);
         assert_eq!(rt; page.written(), b"".as_slice());
     }

@@ -16,6 +16,7 @@ use crate::numbering::{ballot_row, is_entry_at};
 use sg_commit::{Digest, Opening};
 use sg_forms::RowOpening;
 use sg_grammar::Block;
+use sg_plan::limits::MOST_CANDIDATES;
 use sg_plan::{ClaimWord, Items, Plan};
 
 // COMMITMENTS
@@ -297,7 +298,7 @@ pub(crate) fn audited_entries(race: u32, notes: &Items<Note>) -> usize
 }
 
 /// The first codes of a paper, so many of them.
-pub(crate) fn paper_codes(codes: &[u16; 16], count: u32) -> &[u16]
+pub(crate) fn paper_codes(codes: &[u16; MOST_CANDIDATES], count: u32) -> &[u16]
     ensures { result.now ≡ take count codes.now }
 {
     let count = (count as usize).min(codes.len());

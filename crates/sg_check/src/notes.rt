@@ -9,6 +9,7 @@ use sg_commit::Digest;
 use sg_forms::{CodeLine, Line, RowOpening};
 use sg_grammar::{Block, Meaning, Spot, meaning_of};
 use sg_plan::ClaimWord;
+use sg_plan::limits::MOST_CANDIDATES;
 
 /// A line in its place: its coordinates, and their values.
 #[derive(Clone, Copy, Debug)]
@@ -28,7 +29,7 @@ pub enum Note<'a> {
     /// Of a cast ballot, a race that is over.
     Over(u32, u32),
     /// Of an audited ballot and a race, the codes read from its paper, the first so many of them.
-    Paper(u32, u32, [u16; 16], u32),
+    Paper(u32, u32, [u16; MOST_CANDIDATES], u32),
     /// Of a race, an instance and the rows from this one on, the flags.
     Flags(u32, u32, u32, &'a [u8]),
     /// Of a race and the places from this one on, the bits.

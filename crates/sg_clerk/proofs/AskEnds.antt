@@ -1,5 +1,6 @@
 -- How `do` ends, from what was opened and how the run over the lines ended.
 use Rattle.std.proofs.Common.{◌≡◌, ℕ, ◌≤◌, List, inl, inr, refl, ap, ◌∙◌, arith}
+use Rattle.sg_outside.specs.Streams.{Seen}
 use Rattle.sg_keeper.specs.declared.rows.Rows.{Rows}
 use Rattle.sg_keeper.specs.declared.setup.Setup.{Setup}
 use Rattle.sg_histories.specs.Histories.{Entry}
@@ -10,7 +11,7 @@ use Rattle.sg_clerk.specs.Asked.{ClosedSays, DoSays, IsCutLine, out_at}
 use Rattle.sg_clerk.specs.Does.{Does}
 use Rattle.sg_clerk.specs.Ends.{EndsSo, Moment, ending_status}
 use Rattle.sg_clerk.specs.Shown.{damaged_line}
-use Rattle.sg_clerk.specs.inside.Opening.{IsOpen, LineEnds, shown_status}
+use Rattle.sg_clerk.specs.Opening.{IsOpen, LineEnds, shown_status}
 use Rattle.sg_clerk.specs.declared.shown.Shown.{Shown}
 use Rattle.sg_clerk.specs.declared.shown.Shown.TheVariants as shown
 use Rattle.sg_clerk.specs.declared.talk.Ending.{Ending}
@@ -66,24 +67,23 @@ office_talks how kept tells still rows middle after before now count office open
 
 -- NO OFFICE IS OPENED
 
--- by what the status says
-closed : (status : ℕ) (tells : Type 0) (rows middle : Rows) (before now : Moment) → now.left ≡ before.left → now.read_faults ≡ before.read_faults → (tells → middle ≡ rows)
-    → ClosedSays status tells rows before now → DoSays status tells rows middle before now
-closed status tells rows middle before now unread quiet same says = inr (record { unread = unread; no_fault = quiet; same = same; says = says })
-
 -- behind rows of no office
-damage_says : (how : Shown) (tells : Type 0) (rows : Rows) (table row : ℕ) (before now : Moment) → (tells → opening rows ≡ Damaged table row)
-    → LineEnds (damaged_line table row) shown.Damaged how (out_at before) (out_at now) → ClosedSays (shown_status how) tells rows before now
-damage_says shown.Done tells rows table row before now damage ends = absurd (omega (arith, ap shown_status ends.0))
-damage_says shown.WriteFault tells rows table row before now damage ends = inl (refl, record { cause = ends.0; cut = IsCutLine.NoOffice table row damage ends.1 })
-damage_says shown.LoadFault tells rows table row before now damage ends = absurd (omega (arith, ap shown_status ends.0))
-damage_says shown.Empty tells rows table row before now damage ends = absurd (omega (arith, ap shown_status ends.0))
-damage_says shown.Damaged tells rows table row before now damage ends = inr (inr (inr (inl (refl, record { table = table; row = row; damage = damage; written = ends.1 }))))
-damage_says shown.NoMemory tells rows table row before now damage ends = inr (inr (inr (inr (refl, ends))))
+pub damage_says : (how : Shown) (tells : Type 0) (rows : Rows) (table row faults faults' : ℕ) (out out' : Seen) → (tells → opening rows ≡ Damaged table row)
+    → LineEnds (damaged_line table row) shown.Damaged how out out' → ClosedSays (shown_status how) tells rows faults faults' out out'
+damage_says shown.Done tells rows table row faults faults' out out' damage ends = absurd (omega (arith, ap shown_status ends.0))
+damage_says shown.WriteFault tells rows table row faults faults' out out' damage ends = inl (refl, record { cause = ends.0; cut = IsCutLine.NoOffice table row damage ends.1 })
+damage_says shown.LoadFault tells rows table row faults faults' out out' damage ends = absurd (omega (arith, ap shown_status ends.0))
+damage_says shown.Empty tells rows table row faults faults' out out' damage ends = absurd (omega (arith, ap shown_status ends.0))
+damage_says shown.Damaged tells rows table row faults faults' out out' damage ends = inr (inr (inr (inl (refl, record { table = table; row = row; damage = damage; written = ends.1 }))))
+damage_says shown.NoMemory tells rows table row faults faults' out out' damage ends = inr (inr (inr (inr (refl, ends))))
 
 -- the same, of the whole command
 pub damage_ends : (how : Shown) (tells : Type 0) (rows middle : Rows) (table row : ℕ) (before now : Moment) → now.left ≡ before.left → now.read_faults ≡ before.read_faults
     → (tells → middle ≡ rows) → (tells → opening rows ≡ Damaged table row) → LineEnds (damaged_line table row) shown.Damaged how (out_at before) (out_at now)
     → DoSays (shown_status how) tells rows middle before now
-damage_ends how tells rows middle table row before now unread quiet same damage ends =
-    closed _ tells rows middle before now unread quiet same (damage_says how tells rows table row before now damage ends)
+damage_ends how tells rows middle table row before now unread quiet same damage ends = inr (record {
+  unread = unread;
+  no_fault = quiet;
+  same = same;
+  says = damage_says how tells rows table row before.keep_faults now.keep_faults (out_at before) (out_at now) damage ends;
+})

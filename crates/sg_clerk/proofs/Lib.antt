@@ -1,10 +1,10 @@
 -- The proofs.
-mod AskEnds
+pub mod AskEnds
 pub mod Beginning
-mod Hearing
+pub mod Hearing
 mod Sheets
 pub mod Showing
 mod Staying
-mod TalkGrows
+pub mod TalkGrows
 mod TalkGoes
 mod TalkEnds

@@ -19,7 +19,8 @@ use Rattle.sg_tables.proofs.TableLaws.{code_laws}
 use Rattle.sg_tables.specs.Tables.{code_beside, codes_of_row}
 use Rattle.sg_plan.specs.declared.plan.Plan.{Plan}
 use Rattle.sg_lines.specs.Words.{code_word}
-use Rattle.sg_clerk.specs.Sheet.{ballot_lines, code_words, codes_line, line_text, lines_from, lines_text, sheet_text}
+use Rattle.sg_sheet.specs.Sheet.{ballot_lines, code_words, codes_line, line_text, lines_from, lines_text}
+use Rattle.sg_clerk.specs.Sheet.{sheet_text}
 
 -- WHAT WAS WRITTEN
 
@@ -130,11 +131,11 @@ has_listed plan ballot at race is = has_among plan ballot race ∙ any_at (races
 
 -- the text of a ballot's races from one on
 pub races_at : (plan : Plan) (seed : List ℕ) (ballot : ℕ) (races : List ℕ) (at race : ℕ) → slice_get races at ≡ Some race
-    → lines_text plan.version (map (codes_line plan seed ballot) (drop at races))
-    ≡ line_text plan.version (codes_line plan seed ballot race) ++ lines_text plan.version (map (codes_line plan seed ballot) (drop (at + 1) races))
+    → lines_text plan.version (map (codes_line plan (codes_of_row plan seed) ballot) (drop at races))
+    ≡ line_text plan.version (codes_line plan (codes_of_row plan seed) ballot race) ++ lines_text plan.version (map (codes_line plan (codes_of_row plan seed) ballot) (drop (at + 1) races))
 races_at plan seed ballot races at race is =
-    ap (λ l. lines_text plan.version (map (codes_line plan seed ballot) l)) (drop_at races at race is)
-    ∙ flat_map-cons (line_text plan.version) (codes_line plan seed ballot race) (map (codes_line plan seed ballot) (drop (at + 1) races))
+    ap (λ l. lines_text plan.version (map (codes_line plan (codes_of_row plan seed) ballot) l)) (drop_at races at race is)
+    ∙ flat_map-cons (line_text plan.version) (codes_line plan (codes_of_row plan seed) ballot race) (map (codes_line plan (codes_of_row plan seed) ballot) (drop (at + 1) races))
 
 abbrev IsNothing : Option ℕ → Type 0
 IsNothing None = Unit {0}
@@ -152,7 +153,7 @@ style_place plan at style is =
     pick false x e found = found
 
 -- the text of all ballots is that from the first on
-pub sheet_start : (plan : Plan) (seed : List ℕ) → lines_text plan.version (lines_from plan seed (0 + 1) (drop 0 (ballot_styles plan.runs))) ≡ sheet_text plan seed
+pub sheet_start : (plan : Plan) (seed : List ℕ) → lines_text plan.version (lines_from plan (codes_of_row plan seed) (0 + 1) (drop 0 (ballot_styles plan.runs))) ≡ sheet_text plan seed
 unfolding sheet_text
 sheet_start plan seed = refl
 
@@ -164,8 +165,8 @@ style_races plan other ballot style races same are is =
 
 -- the text of all ballots from one on
 pub ballots_at : (plan : Plan) (seed : List ℕ) (at style : ℕ) → style_of_ballot plan (at + 1) ≡ Some style
-    → lines_text plan.version (lines_from plan seed (at + 1) (drop at (ballot_styles plan.runs)))
-    ≡ lines_text plan.version (ballot_lines plan seed (at + 1) style) ++ lines_text plan.version (lines_from plan seed (at + 1 + 1) (drop (at + 1) (ballot_styles plan.runs)))
+    → lines_text plan.version (lines_from plan (codes_of_row plan seed) (at + 1) (drop at (ballot_styles plan.runs)))
+    ≡ lines_text plan.version (ballot_lines plan (codes_of_row plan seed) (at + 1) style) ++ lines_text plan.version (lines_from plan (codes_of_row plan seed) (at + 1 + 1) (drop (at + 1) (ballot_styles plan.runs)))
 ballots_at plan seed at style is =
-    ap (λ l. lines_text plan.version (lines_from plan seed (at + 1) l)) (drop_at (ballot_styles plan.runs) at style (style_place plan at style is))
-    ∙ flat_map-append (line_text plan.version) (ballot_lines plan seed (at + 1) style) (lines_from plan seed (at + 1 + 1) (drop (at + 1) (ballot_styles plan.runs)))
+    ap (λ l. lines_text plan.version (lines_from plan (codes_of_row plan seed) (at + 1) l)) (drop_at (ballot_styles plan.runs) at style (style_place plan at style is))
+    ∙ flat_map-append (line_text plan.version) (ballot_lines plan (codes_of_row plan seed) (at + 1) style) (lines_from plan (codes_of_row plan seed) (at + 1 + 1) (drop (at + 1) (ballot_styles plan.runs)))

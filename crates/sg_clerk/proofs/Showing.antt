@@ -14,7 +14,7 @@ use Rattle.sg_histories.specs.ValidRows.{Damaged, Empty, Opens, opening}
 use Rattle.sg_histories.specs.declared.kept.Kept.{Kept}
 use Rattle.sg_clerk.specs.Sheet.{sheet_of, sheet_text}
 use Rattle.sg_clerk.specs.Shown.{IsDue, IsDueOf, ShowSays, WritesFront, damaged_line, empty_line, posted_of}
-use Rattle.sg_clerk.specs.inside.Opening.{IsOpen, IsTextOf, LineEnds, OfficeEnds, ShowEnds, WritesPart, WritesWhole, shown_status}
+use Rattle.sg_clerk.specs.Opening.{IsOpen, IsTextOf, LineEnds, OfficeEnds, ShowEnds, WritesPart, WritesWhole, shown_status}
 use Rattle.sg_clerk.specs.declared.shown.Shown.{Shown}
 use Rattle.sg_clerk.specs.declared.shown.Shown.TheVariants as shown
 

@@ -24,7 +24,7 @@ use Rattle.sg_histories.specs.Stories.{answered, story_of}
 use Rattle.sg_histories.specs.declared.kept.Claim.{Claim}
 use Rattle.std.specs.Prelude.{length}
 use Rattle.sg_clerk.specs.Laws.{RecordStays, SheetHasPapers, codes_in}
-use Rattle.sg_clerk.specs.Sheet.{codes_line}
+use Rattle.sg_sheet.specs.Sheet.{codes_line}
 use Rattle.sg_clerk.specs.Shown.{posted_of}
 
 -- ONE ACT MORE
@@ -101,6 +101,6 @@ sheet_has_papers plan seed ballot style is =
     each (races_of_style plan style)
     ∙ ap (λ s. map (λ race. codes_of_row plan seed race (ballot_row plan race ballot)) (option_map_or (races_of_style plan) s [])) (sym is)
   where
-    each : (races : List ℕ) → map codes_in (map (codes_line plan seed ballot) races) ≡ map (λ race. codes_of_row plan seed race (ballot_row plan race ballot)) races
+    each : (races : List ℕ) → map codes_in (map (codes_line plan (codes_of_row plan seed) ballot) races) ≡ map (λ race. codes_of_row plan seed race (ballot_row plan race ballot)) races
     each [] = refl
     each (race ∷ races) = ap (λ l. codes_of_row plan seed race (ballot_row plan race ballot) ∷ l) (each races)

@@ -46,20 +46,20 @@ pub record LineFails (tells : Type 0) (rows : Rows) (out out' : Seen) : Type 0 w
 
 -- the status, where no office was opened: with 5 the keeper's count of faults rose, with 7 no setup is kept, with 8 the rows
 -- are no office's, with 4 a write of the line that says so failed, and with 9 memory was wanted and nothing was written
-abbrev pub ClosedSays : ℕ → (tells : Type 0) → Rows → Moment → Moment → Type 0
-ClosedSays status tells rows before now =
-    ((status ≡ 4) × LineFails tells rows (out_at before) (out_at now))
-    ⊎ ((status ≡ 5) × LoadFails before.keep_faults now.keep_faults (out_at before) (out_at now))
-    ⊎ ((status ≡ 7) × IsEmpty tells rows (out_at before) (out_at now))
-    ⊎ ((status ≡ 8) × IsDamaged tells rows (out_at before) (out_at now))
-    ⊎ ((status ≡ 9) × (out_at now ≡ out_at before))
+abbrev pub ClosedSays : ℕ → (tells : Type 0) → Rows → ℕ → ℕ → Seen → Seen → Type 0
+ClosedSays status tells rows faults faults' out out' =
+    ((status ≡ 4) × LineFails tells rows out out')
+    ⊎ ((status ≡ 5) × LoadFails faults faults' out out')
+    ⊎ ((status ≡ 7) × IsEmpty tells rows out out')
+    ⊎ ((status ≡ 8) × IsDamaged tells rows out out')
+    ⊎ ((status ≡ 9) × (out' ≡ out))
 
 -- no office was opened: no line was read, and the rows are as they were, where they are told
 pub record StaysClosed (status : ℕ) (tells : Type 0) (rows rows' : Rows) (before now : Moment) : Type 0 where
   pub unread : now.left ≡ before.left
   pub no_fault : now.read_faults ≡ before.read_faults
   pub same : tells → rows' ≡ rows
-  pub says : ClosedSays status tells rows before now
+  pub says : ClosedSays status tells rows before.keep_faults now.keep_faults (out_at before) (out_at now)
 
 -- how `do` ended, by its status: there is no other
 abbrev pub DoSays : ℕ → (tells : Type 0) → Rows → Rows → Moment → Moment → Type 0

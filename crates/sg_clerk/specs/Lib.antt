@@ -4,6 +4,7 @@ pub mod Begun
 pub mod Does
 pub mod Ends
 pub mod Laws
+pub mod Opening
 pub mod Sheet
 pub mod Shown
 pub mod inside

@@ -1,6 +1,5 @@
 -- How the code goes. Only clauses of private functions and proofs cite this.
 pub mod Beginning
 pub mod Hearing
-pub mod Opening
 pub mod Printing
 pub mod Steps

@@ -19,7 +19,7 @@ fn read_behind<S: Source>(buf: &mut [u8], end: usize, source: &mut S) -> Result<
 
 /// Reads bytes into the front of the buffer until the source's end or until the buffer is full, and answers how many
 /// these are. It refuses only where the source failed.
-pub(crate) fn fill<S: Source>(buf: &mut [u8], source: &mut S) -> Result<usize, Failed>
+pub fn fill<S: Source>(buf: &mut [u8], source: &mut S) -> Result<usize, Failed>
     ensures bound { IfOk result (λ count. count ≤ length buf.new) }
     ensures taken { IfOk result (λ count. Consumes (S.left source.old) (S.left source.new) (take count buf.new)) }
     ensures ended { IfOk result (λ count. count < length buf.new → IsAtEnd (S.left source.new)) }

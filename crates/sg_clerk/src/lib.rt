@@ -18,8 +18,10 @@ mod tests;
 
 pub use asking::answer_asks;
 pub use begun::{Begun, begun_status, init};
+pub use filling::fill;
+pub use opened::{Opened, open_kept};
 pub use posted::record;
 pub use printing::sheet;
 pub use refusal::Refusal;
-pub use shown::{Shown, shown_status};
-pub use talk::{Ending, Overrun, do_lines, ending_status};
+pub use shown::{Shown, show_damage, show_empty, shown_status};
+pub use talk::{Ending, Overrun, do_lines, ending_status, line_of};

@@ -1,6 +1,6 @@
 //! An office, opened from the rows of its keeper.
 ghost use Rattle.std.specs.Prelude.{◌≡◌, ◌≤◌};
-ghost use Rattle.sg_clerk.specs.inside.Opening.{OpensTo};
+ghost use Rattle.sg_clerk.specs.Opening.{OpensTo};
 
 use sg_keeper::{KeepFault, Keeper};
 use sg_office::{Office, OpenFault};
@@ -22,7 +22,7 @@ pub enum Opened {
 }
 
 /// Loads the rows and opens the office that they are of. The rows stay as they are.
-pub(crate) fn open_kept<K: Keeper>(alloc: Global, keeper: &mut K) -> Opened
+pub fn open_kept<K: Keeper>(alloc: Global, keeper: &mut K) -> Opened
     ensures opens { OpensTo result (K.tells keeper.old) (K.rows keeper.old) (K.faults keeper.old) (K.faults keeper.new) }
     ensures told { K.tells keeper.old → K.tells keeper.new }
     ensures same { K.tells keeper.old → K.rows keeper.new ≡ K.rows keeper.old }

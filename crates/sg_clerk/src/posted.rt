@@ -2,7 +2,7 @@
 ghost use Rattle.std.specs.Prelude.{◌≡◌, ◌≤◌};
 ghost use Rattle.sg_outside.specs.Streams.{seen};
 ghost use Rattle.sg_clerk.specs.Shown.{posted_of};
-ghost use Rattle.sg_clerk.specs.inside.Opening.{OfficeEnds, ShowEnds};
+ghost use Rattle.sg_clerk.specs.Opening.{OfficeEnds, ShowEnds};
 
 use crate::opened::{Opened, open_kept};
 use crate::shown::{Shown, show_damage, show_empty};

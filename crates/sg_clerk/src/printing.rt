@@ -7,9 +7,10 @@ ghost use Rattle.sg_plan.specs.Limits.{fault_of};
 ghost use Rattle.sg_lines.specs.Words.{code_word};
 ghost use Rattle.sg_record.specs.Writing.{IsVersion};
 ghost use Rattle.sg_tables.specs.Tables.{codes_of_row};
-ghost use Rattle.sg_clerk.specs.Sheet.{ballot_lines, ballot_text, code_words, codes_line as codes_seen, line_text, lines_text, sheet_of, sheet_text};
-ghost use Rattle.sg_clerk.specs.Sheet.SheetLine.{Codes};
-ghost use Rattle.sg_clerk.specs.inside.Opening.{OfficeEnds, ShowEnds};
+ghost use Rattle.sg_sheet.specs.Sheet.{ballot_lines, ballot_text, code_words, codes_line as codes_seen, line_text, lines_text};
+ghost use Rattle.sg_clerk.specs.Sheet.{sheet_of, sheet_text};
+ghost use Rattle.sg_sheet.specs.Sheet.SheetLine.{Codes};
+ghost use Rattle.sg_clerk.specs.Opening.{OfficeEnds, ShowEnds};
 ghost use Rattle.sg_clerk.specs.inside.Printing.{HasStopCause};
 
 use crate::lines::put_decimal;
@@ -166,7 +167,7 @@ fn write_race<O: Sink>(
 ) -> Result<(), Stop>
     requires index { index.now ≡ tables.now.plan }
     requires has { ballot_has tables.now.plan ballot race ≡ true }
-    ensures bytes { PutAppends (O.written out.old) (O.written out.new) result (line_text tables.now.plan.version (codes_seen tables.now.plan tables.now.seed ballot race)) }
+    ensures bytes { PutAppends (O.written out.old) (O.written out.new) result (line_text tables.now.plan.version (codes_seen tables.now.plan (codes_of_row tables.now.plan tables.now.seed) ballot race)) }
     ensures cause { HasStopCause (O.faults out.old) (O.faults out.new) result }
 {
     let row = row_in(tables, index, race, ballot);
@@ -192,7 +193,7 @@ fn write_races<O: Sink>(
 ) -> Result<(), Stop>
     requires index { index.now ≡ tables.now.plan }
     requires races { races.now ≡ races_of_ballot tables.now.plan ballot }
-    ensures bytes { PutAppends (O.written out.old) (O.written out.new) result (lines_text tables.now.plan.version (map (codes_seen tables.now.plan tables.now.seed ballot) races.now)) }
+    ensures bytes { PutAppends (O.written out.old) (O.written out.new) result (lines_text tables.now.plan.version (map (codes_seen tables.now.plan (codes_of_row tables.now.plan tables.now.seed) ballot) races.now)) }
     ensures cause { HasStopCause (O.faults out.old) (O.faults out.new) result }
 {
     for at in 0..races.len() {
@@ -227,7 +228,7 @@ fn write_ballot<O: Sink>(
     requires first { 1 ≤ ballot }
     requires last { ballot ≤ ballots_of tables.now.plan }
     requires style { style_of_ballot tables.now.plan ballot ≡ Some style }
-    ensures bytes { PutAppends (O.written out.old) (O.written out.new) result (lines_text tables.now.plan.version (ballot_lines tables.now.plan tables.now.seed ballot style)) }
+    ensures bytes { PutAppends (O.written out.old) (O.written out.new) result (lines_text tables.now.plan.version (ballot_lines tables.now.plan (codes_of_row tables.now.plan tables.now.seed) ballot style)) }
     ensures cause { HasStopCause (O.faults out.old) (O.faults out.new) result }
 {
     match write_head(alloc, ballot, style, out) {

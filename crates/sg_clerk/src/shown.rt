@@ -2,7 +2,7 @@
 ghost use Rattle.std.specs.Prelude.{◌≡◌};
 ghost use Rattle.sg_outside.specs.Streams.{seen};
 ghost use Rattle.sg_clerk.specs.Shown.{damaged_line as damaged_text, empty_line};
-ghost use Rattle.sg_clerk.specs.inside.Opening.{LineEnds, shown_status};
+ghost use Rattle.sg_clerk.specs.Opening.{LineEnds, shown_status};
 
 use crate::lines::{damaged_line, put_empty};
 use sg_outside::{Failed, Sink};
@@ -40,7 +40,7 @@ pub fn shown_status(ending: Shown) -> u8
 }
 
 /// Writes that no setup is kept.
-pub(crate) fn show_empty<O: Sink>(out: &mut O) -> Shown
+pub fn show_empty<O: Sink>(out: &mut O) -> Shown
     ensures { LineEnds empty_line Shown.Empty result (seen (O.written out.old) (O.faults out.old)) (seen (O.written out.new) (O.faults out.new)) }
 {
     match put_empty(out) {
@@ -50,7 +50,7 @@ pub(crate) fn show_empty<O: Sink>(out: &mut O) -> Shown
 }
 
 /// Writes which row is no office's.
-pub(crate) fn show_damage<O: Sink>(alloc: Global, table: u32, row: u64, out: &mut O) -> Shown
+pub fn show_damage<O: Sink>(alloc: Global, table: u32, row: u64, out: &mut O) -> Shown
     ensures { LineEnds (damaged_text table row) Shown.Damaged result (seen (O.written out.old) (O.faults out.old)) (seen (O.written out.new) (O.faults out.new)) }
 {
     let Ok(line) = damaged_line(alloc, table, row) else {

@@ -69,7 +69,7 @@ enum Step {
 }
 
 /// The line that is written for an answer.
-fn line_of(alloc: Global, version: u32, answer: &Answered) -> Result<Word, NoMemory>
+pub fn line_of(alloc: Global, version: u32, answer: &Answered) -> Result<Word, NoMemory>
     requires { IsWritable version answer.now }
     ensures { IfOk result (λ line. line ≡ answer_line version answer.now) }
 {

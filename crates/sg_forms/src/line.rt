@@ -1,6 +1,7 @@
 //! The forms of a line of the public record, as values.
 use sg_commit::{Digest, Key, Opening};
 use sg_plan::ClaimWord;
+use sg_plan::limits::{MOST_CANDIDATES, MOST_RACES};
 
 /// What a `code` line says: the code beside a candidate, under its key.
 #[derive(Clone, Copy, Debug, PartialEq, Eq)]
@@ -53,7 +54,7 @@ pub enum Line<'a> {
         /// The style's name.
         name: &'a [u8],
         /// The numbers of its races.
-        races: [u32; 32],
+        races: [u32; MOST_RACES],
         /// How many races it has.
         count: u32,
     },
@@ -104,7 +105,7 @@ pub enum Line<'a> {
         /// The race's number.
         race: u32,
         /// The codes read from the paper, by candidate.
-        codes: [u16; 16],
+        codes: [u16; MOST_CANDIDATES],
         /// How many codes there are.
         count: u32,
     },

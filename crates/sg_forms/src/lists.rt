@@ -11,7 +11,7 @@ use sg_plan::limits::{MOST_CANDIDATES, MOST_RACES};
 
 /// The words that are left, where they are 1 to 32 numbers: the numbers, with zeros behind them, and how many they are.
 #[tactic(auto, using(crate::proofs::Few::few_steps))]
-pub(crate) fn few_numbers(mut words: Words) -> Option<([u32; 32], u32)>
+pub(crate) fn few_numbers(mut words: Words) -> Option<([u32; MOST_RACES], u32)>
     ensures exact { option_map (λ found. take found.1 found.0) result ≡ few_by decimal_of 32 words.entry }
     ensures zeros { IfSome result (λ found. IsZeroBehind 32 found.1 found.0) }
 {
@@ -33,7 +33,7 @@ pub(crate) fn few_numbers(mut words: Words) -> Option<([u32; 32], u32)>
 
 /// The words that are left, where they are 1 to 16 codes: the codes, with zeros behind them, and how many they are.
 #[tactic(auto, using(crate::proofs::Few::few_steps))]
-pub(crate) fn few_codes(version: u32, mut words: Words) -> Option<([u16; 16], u32)>
+pub(crate) fn few_codes(version: u32, mut words: Words) -> Option<([u16; MOST_CANDIDATES], u32)>
     ensures exact { option_map (λ found. take found.1 found.0) result ≡ few_by (code_of version) 16 words.entry }
     ensures zeros { IfSome result (λ found. IsZeroBehind 16 found.1 found.0) }
 {

@@ -10,6 +10,7 @@ ghost use Rattle.sg_grammar.specs.Slots.{IsCounted, RunFits, TellsEntries, is_ru
 use crate::head::add_to_plan;
 use crate::state::Head;
 use sg_forms::Line;
+use sg_plan::limits::MOST_RACES;
 use sg_plan::{Items, NoMemory, Plan, Run, Word};
 use std::alloc::Global;
 use std::marker::Model;
@@ -40,7 +41,7 @@ fn more_entries(plan: &Plan, before: u32, race: u32, run: Run) -> u32
 }
 
 /// The entries of all races with one more run of ballots.
-fn entries_with_run(plan: &Plan, before: [u32; 32], run: Run) -> [u32; 32]
+fn entries_with_run(plan: &Plan, before: [u32; MOST_RACES], run: Run) -> [u32; MOST_RACES]
     requires few_races { length plan.now.races ≤ 32 }
     requires tells { TellsEntries plan.now before }
     requires fits { RunFits plan.now run.style run.count }
@@ -107,7 +108,7 @@ fn run_of(line: &Line) -> Option<Run>
 #[derive(Debug, Drop)]
 pub(crate) struct CountedPlan {
     plan: Plan,
-    entries: [u32; 32],
+    entries: [u32; MOST_RACES],
     styles: Items<u32>,
 }
 
@@ -138,7 +139,7 @@ impl CountedPlan {
         };
         CountedPlan {
             plan,
-            entries: [0; 32],
+            entries: [0; MOST_RACES],
             styles: Items::new(alloc),
         }
     }

@@ -136,7 +136,7 @@ fn last_names(races: &Items<Race>) -> &[Word]
 }
 
 /// The first numbers, so many of them.
-fn first_numbers(numbers: &[u32; 32], count: u32) -> &[u32]
+fn first_numbers(numbers: &[u32; MOST_RACES], count: u32) -> &[u32]
     ensures { result.now ≡ take count numbers.now }
 {
     let count = count as usize;
@@ -465,8 +465,8 @@ mod tests {
     }
 
     /// The first two of a style's numbers.
-    fn numbers(first: u32, second: u32) -> [u32; 32] {
-        let mut numbers = [0; 32];
+    fn numbers(first: u32, second: u32) -> [u32; MOST_RACES] {
+        let mut numbers = [0; MOST_RACES];
         numbers[0] = first;
         numbers[1] = second;
         numbers

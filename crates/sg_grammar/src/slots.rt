@@ -9,6 +9,7 @@ ghost use Rattle.sg_grammar.specs.Spots.{IsRaceOf, LacksRaces};
 
 use crate::counted::CountedPlan;
 use crate::state::{Block, Slot};
+use sg_plan::limits::MOST_BITS;
 
 /// A number of so many is not the last of them.
 fn is_before_last(at: u32, end: u32) -> bool
@@ -23,7 +24,7 @@ fn is_before_last(at: u32, end: u32) -> bool
 fn lines_of_bits(bits: u32) -> u32
     ensures { result ≡ lines_for bits }
 {
-    ((u64::from(bits) + 63) / 64) as u32
+    ((bits as usize + MOST_BITS - 1) / MOST_BITS) as u32
 }
 
 /// How many of so many bits stand on a line.
@@ -31,7 +32,7 @@ fn bits_of_line(bits: u32, line: u32) -> u32
     requires { line < lines_for bits }
     ensures { result ≡ bits_on bits line }
 {
-    (bits - 64 * line).min(64)
+    (bits - MOST_BITS as u32 * line).min(MOST_BITS as u32)
 }
 
 /// The first race from this one on that has an entry.

@@ -8,6 +8,10 @@ ghost use Rattle.sg_grammar.specs.Walk.{in_code_commit, in_row_commit, in_seal, 
 
 use crate::state::{Block, Slot, Spot};
 use sg_forms::Line;
+use sg_plan::limits::{MOST_BITS, MOST_CANDIDATES};
+
+/// How many bits a full line has.
+const LINE_BITS: u32 = MOST_BITS as u32;
 
 /// The line in the place of the commitment of this entry's code.
 fn code_commit_spot(race: u32, entry: u32, line: &Line) -> Option<Spot>
@@ -50,12 +54,12 @@ fn seal_spot(number: u32, line: &Line) -> Option<Spot>
     }
 }
 
-/// How many codes a paper lists, of which a line has room for 16.
+/// How many codes a paper lists, of which a line has room for as many as candidates.
 #[tactic(auto, using(crate::proofs::DueLines::listed))]
-fn count_listed(codes: &[u16; 16], count: u32) -> u32
+fn count_listed(codes: &[u16; MOST_CANDIDATES], count: u32) -> u32
     ensures { result ≡ length (take count codes.now) }
 {
-    count.min(16)
+    count.min(MOST_CANDIDATES as u32)
 }
 
 /// The line in the place of this race's paper, with exactly so many codes.
@@ -104,7 +108,7 @@ fn flags_spot(race: u32, instance: u32, number: u32, count: u32, line: &Line) ->
             Spot::Flags {
                 race,
                 instance,
-                from: 64 * number,
+                from: LINE_BITS * number,
             },
         ),
         _ => None,
@@ -120,7 +124,7 @@ fn places_spot(race: u32, number: u32, count: u32, line: &Line) -> Option<Spot>
         Line::Places { race: named, bits } if *named == race && bits.len() == count as usize =>
             Some(Spot::Places {
                 race,
-                from: 64 * number,
+                from: LINE_BITS * number,
             }),
         _ => None,
     }

@@ -1,5 +1,6 @@
 -- What a head and the bytes behind it lead to, once more bytes were read.
-use Rattle.std.proofs.Common.{◌≡◌, inl, inr, ℕ, ◌+◌, ◌<◌, ◌≤◌, Bool, true, List, ◌++◌, length, take, drop, slice_range, refl, sym, ap, subst, ◌∙◌, arith, length-take, length-drop, take-append-drop, take-take}
+use Rattle.std.proofs.Common.{◌≡◌, inl, inr, ℕ, ◌+◌, ◌<◌, ◌≤◌, Bool, true, List, ◌++◌, length, max, take, drop, slice_range, refl, sym, ap, subst, ◌∙◌, arith, length-take, length-drop, take-append-drop, take-take}
+use Rattle.std.proofs.lemmas.Bool.{cases_lt}
 use Rattle.std.proofs.lemmas.List.{drop-append-le, length-map}
 use Rattle.httparse.specs.Grammar.{RequestHead, ReadsRequest}
 use Rattle.httparse.specs.Spans.{IsRequestWithin, IsRequestAt, header_bytes, name_and_value}
@@ -9,7 +10,7 @@ use Rattle.httparse.proofs.GrammarLemmas.{ReadsRequest-append}
 use Rattle.sg_http.specs.declared.refusal.Refusal.TheVariants as refusal
 use Rattle.sg_http.specs.declared.asking.Asked.{Asked}
 use Rattle.sg_http.specs.declared.asking.Asked.TheVariants as asks
-use Rattle.sg_http.specs.Leads.{HasHead, IsUnheard, LeadTo, LeadsBehind, asked_of}
+use Rattle.sg_http.specs.Leads.{HasHead, IsUnheard, LeadTo, LeadsBehind, TakesFew, asked_of}
 use Rattle.sg_http.specs.Leads.Lead.{Refused, Posts}
 
 -- the head that was read has few header lines
@@ -60,6 +61,35 @@ leads_short text head len n is_ended has asked within short ended = inl (record 
   leads = subst (λ (a : Asked). LeadsBehind a (drop len text) is_ended (Refused refusal.Body)) asked
       (inr (omega (arith, length-drop len text), ended, refl));
 })
+
+-- the bytes that were taken are few
+pub few_in_head : (bytes : List ℕ) (end : ℕ) → end ≤ 8192 → TakesFew (take end bytes)
+few_in_head bytes end short =
+    let size : length (take end bytes) ≤ 8192 = omega (arith, short, length-take end bytes) in
+    record { most = omega (arith, size); only = inl size }
+
+few_in_body : (text : List ℕ) (head : RequestHead) (len n : ℕ) → HasHead text head (drop len text) → asks.Body n ≡ asked_of head
+    → len ≤ 8192 → n ≤ 65536 → length text ≤ len + n → TakesFew text
+few_in_body text head len n has asked short size few = record {
+  most = omega (arith, short, size, few);
+  only = inr (record {
+    head = head;
+    rest = drop len text;
+    count = n;
+    has = has;
+    asked = sym asked;
+    short = omega (arith, short, length-drop len text);
+    few = omega (arith, few, length-drop len text);
+  });
+}
+
+pub few_behind : (bytes : List ℕ) (head : RequestHead) (len n first end : ℕ) → HasHead (take end bytes) head (drop len (take end bytes)) → asks.Body n ≡ asked_of head
+    → len ≤ first → first ≤ 8192 → n ≤ 65536 → end ≤ max first (len + n) → TakesFew (take end bytes)
+few_behind bytes head len n first end has asked within short size most =
+    elim (cases_lt first end) [
+      | inl more ↦ few_in_body (take end bytes) head len n has asked (omega (arith, within, short)) size (omega (arith, more, most, length-take end bytes))
+      | inr enough ↦ few_in_head bytes end (omega (arith, enough, short))
+    ]
 
 -- a read failed before
 pub unheard : (text : List ℕ) (head : RequestHead) (len n : ℕ) → HasHead text head (drop len text) → asks.Body n ≡ asked_of head

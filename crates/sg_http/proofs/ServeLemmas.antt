@@ -10,7 +10,7 @@ use Rattle.sg_histories.specs.Standing.{StandsFor}
 use Rattle.sg_histories.specs.declared.kept.Kept.{Kept}
 use Rattle.sg_http.specs.declared.serving.Served.{Served}
 use Rattle.sg_http.specs.declared.serving.Served.TheVariants as served
-use Rattle.sg_http.specs.Leads.{IsUnheard, Lead, LeadTo}
+use Rattle.sg_http.specs.Leads.{IsUnheard, Lead, LeadTo, TakesFew}
 use Rattle.sg_http.specs.Visits.{Serves, due_of, text_of}
 use Rattle.sg_http.specs.inside.Responses.{HasSaid, Responds, Sends}
 
@@ -98,16 +98,17 @@ gone setup office history tells rows taken is_ended known faults stands none end
 
 -- bytes were taken, answered, and the connection was finished
 pub serves : (how : Served) (setup : Setup) (office : Kept) (history : List Entry) (tells : Type 0) (rows after : Rows) (taken : List ℕ) (is_ended : Bool)
-    (k1 k2 k3 k4 : Option Board) (faults later : ℕ) → Taken k1 k2 taken is_ended
+    (k1 k2 k3 k4 : Option Board) (faults later : ℕ) → Taken k1 k2 taken is_ended → TakesFew taken
     → Responds how setup office history tells rows after taken is_ended k2 k3 faults later → k4 ≡ option_map finishes k3
     → Serves how setup office history tells rows after k1 k4 faults later
-serves how setup office history tells rows after taken is_ended k1 k2 k3 k4 faults later p r q = record {
+serves how setup office history tells rows after taken is_ended k1 k2 k3 k4 faults later p few r q = record {
   taken = taken;
   is_ended = is_ended;
   sent = r.sent;
   said = r.said;
   next = r.next;
   came = p.came;
+  few = few;
   board = sent_end k1 k2 k3 k4 taken is_ended r.sent p r.board q;
   ends = r.ends;
   stands = r.stands;

@@ -99,3 +99,21 @@ abbrev pub IsUnheard : List ℕ → Type 0
 IsUnheard bytes =
     HasNoHead bytes
     ⊎ ((head : RequestHead) × (rest : List ℕ) × (n : ℕ) × HasHead bytes head rest × (asked_of head ≡ asks.Body n) × (length rest < n))
+
+-- ---- how many bytes are taken
+
+-- a head within its bytes asks for a body, and no more bytes stand behind it than the body has
+pub record IsWithinBody (taken : List ℕ) : Type 0 where
+  pub head : RequestHead
+  pub rest : List ℕ
+  pub count : ℕ
+  pub has : HasHead taken head rest
+  pub asked : asked_of head ≡ asks.Body count
+  pub short : length taken ≤ 8192 + length rest
+  pub few : length rest ≤ count
+
+-- no more are taken than a head may have, or, where the head asks for a body, none behind that body; so never more than
+-- 73,728: a head's 8,192 and a body's 65,536
+pub record TakesFew (taken : List ℕ) : Type 0 where
+  pub most : length taken ≤ 73728
+  pub only : (length taken ≤ 8192) ⊎ IsWithinBody taken

@@ -18,7 +18,7 @@ use Rattle.sg_http.specs.declared.refusal.Refusal.{Refusal}
 use Rattle.sg_http.specs.declared.refusal.Verb.{Verb}
 use Rattle.sg_http.specs.declared.serving.Served.{Served}
 use Rattle.sg_http.specs.declared.serving.Served.TheVariants as served
-use Rattle.sg_http.specs.Leads.{IsUnheard, Lead, LeadTo}
+use Rattle.sg_http.specs.Leads.{IsUnheard, Lead, LeadTo, TakesFew}
 use Rattle.sg_http.specs.Leads.Lead.{Posts, Refused, Sees}
 use Rattle.sg_http.specs.Replies.{allowed_by, answer_text, memory_text, refused_status, refused_text}
 
@@ -98,8 +98,8 @@ Ends served.WriteFailed setup taken is_ended sent said before after = IsAnswered
 Ends served.ReadFailed setup taken is_ended sent said before after = IsUnheard taken × (is_ended ≡ false) × IsUnanswered sent said before after
 Ends served.Gone setup taken is_ended sent said before after = (taken ≡ []) × (is_ended ≡ true) × IsUnanswered sent said before after
 
--- The current connection was served after this history and is finished: what was taken of it and sent on it, and what the
--- office said. The office then stands for the next history, and the kept rows follow where they are told; where the office
+-- The current connection was served after this history and is finished: what was taken of it, never more than a head and its
+-- body, and sent on it, and what the office said. The office then stands for the next history, and the kept rows follow where they are told; where the office
 -- said that the keeper failed, the keeper's count of faults rose, unless that stands at its last value.
 pub record Serves (how : Served) (setup : Setup) (office : Kept) (history : List Entry) (tells : Type 0) (rows after : Rows) (old new : Option Board) (faults later : ℕ) : Type 0 where
   pub taken : List ℕ
@@ -108,6 +108,7 @@ pub record Serves (how : Served) (setup : Setup) (office : Kept) (history : List
   pub said : Option Answered
   pub next : List Entry
   pub came : Come old taken is_ended
+  pub few : TakesFew taken
   pub board : new ≡ option_map (λ b. finishes (on_current (gets sent) (on_current (takes taken is_ended) b))) old
   pub ends : Ends how setup taken is_ended sent said history next
   pub stands : StandsFor office next

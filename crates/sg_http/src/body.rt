@@ -1,6 +1,6 @@
 //! The body of a request is read.
 
-ghost use Rattle.std.specs.Prelude.{◌≡◌, ◌+◌, ◌<◌, ◌≤◌, ◌==◌, true, false, length, take, Option};
+ghost use Rattle.std.specs.Prelude.{◌≡◌, ◌+◌, ◌<◌, ◌≤◌, ◌==◌, true, false, length, max, take, Option};
 ghost use Rattle.sg_links.specs.Board.{Board, Taken};
 ghost use Rattle.sg_outside.specs.Faults.{Rose};
 ghost use Rattle.sg_http.specs.inside.Reading.{EndsBody};
@@ -36,6 +36,7 @@ pub fn read_rest<L: Links>(links: &mut L, buf: &mut [u8], end: usize, goal: usiz
     ensures front { take end buf.new ≡ take end buf.old }
     ensures order { end ≤ result.end }
     ensures bounds { result.end ≤ length buf.new }
+    ensures most { result.end ≤ max end goal }
     ensures ends { EndsBody result.came result.end goal result.is_ended }
     ensures failed { result.came ≡ Came.Failed → Rose (L.faults links.old) (L.faults links.new) }
     ensures later { L.faults links.old ≤ L.faults links.new }

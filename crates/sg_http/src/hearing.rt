@@ -5,6 +5,7 @@ ghost use Rattle.httparse.specs.Spans.{IsRequestWithin, IsRequestOf};
 ghost use Rattle.sg_links.specs.Board.{Board, Taken};
 ghost use Rattle.sg_outside.specs.Faults.{Rose};
 ghost use Rattle.sg_http.specs.Places.{routes};
+ghost use Rattle.sg_http.specs.Leads.{TakesFew};
 ghost use Rattle.sg_http.specs.inside.Reading.{Hears};
 ghost use Rattle.sg_http.specs.declared.hearing.Way.TheVariants as Way;
 
@@ -58,6 +59,7 @@ fn hear_behind<L: Links>(
     ensures taken { (first : Option Board) → Taken first (L.board links.old) (take end buf.old) false
         → Taken first (L.board links.new) (take result.end buf.new) result.is_ended }
     ensures bounds { result.end ≤ length buf.new }
+    ensures few { TakesFew (take result.end buf.new) }
     ensures hears { Hears result.way (take result.end buf.new) result.is_ended }
     ensures failed { result.way ≡ Way.Failed → Rose (L.faults links.old) (L.faults links.new) }
     ensures later { L.faults links.old ≤ L.faults links.new }
@@ -105,6 +107,7 @@ pub fn hear<L: Links>(
     requires routes { router.now ≡ routes }
     ensures taken { Taken (L.board links.old) (L.board links.new) (take result.end buf.new) result.is_ended }
     ensures bounds { result.end ≤ length buf.new }
+    ensures few { TakesFew (take result.end buf.new) }
     ensures hears { Hears result.way (take result.end buf.new) result.is_ended }
     ensures failed { result.way ≡ Way.Failed → Rose (L.faults links.old) (L.faults links.new) }
     ensures later { L.faults links.old ≤ L.faults links.new }

@@ -228,7 +228,7 @@ impl Ledger {
         plan: &Plan,
         ballot: u32,
         race: u32,
-        codes: &[u16; 16],
+        codes: &[u16; MOST_CANDIDATES],
         count: u32,
     ) -> Option<Kind>
         requires good { fault_of plan.now ≡ None }
@@ -515,7 +515,14 @@ impl Ledger {
     }
 
     /// Keeps the codes of a paper, the first so many of them.
-    fn write_paper(&mut self, plan: &Plan, ballot: u32, race: u32, codes: &[u16; 16], count: u32)
+    fn write_paper(
+        &mut self,
+        plan: &Plan,
+        ballot: u32,
+        race: u32,
+        codes: &[u16; MOST_CANDIDATES],
+        count: u32,
+    )
         requires good { fault_of plan.now ≡ None }
         requires placed { IsPlacedIn plan.now (PaperAt ballot race (take count codes.now)) }
         requires sized { IsSized plan.now self.old }

@@ -1,4 +1,4 @@
-//! The program: the real input and output, the keeper over `office.db`, and `main`.
+//! The program: the real input, output and connections, the keeper over `office.db`, and `main`.
 #![tactic(auto)]
 
 mod causes;
@@ -6,6 +6,7 @@ mod file_keeper;
 #[cfg(test)]
 mod file_keeper_tests;
 mod streams;
+mod tcp_links;
 
 use causes::say_why;
 use file_keeper::FileKeeper;
@@ -14,6 +15,7 @@ use sg_plan::{Items, NoMemory, Word};
 use std::process::ExitCode;
 use std::{env, io};
 use streams::{StdSink, StdSource};
+use tcp_links::TcpLinks;
 
 /// The status for words that are no command's.
 const BAD_WORDS: u8 = 2;
@@ -63,12 +65,20 @@ fn words_of(rt: &HostRuntime) -> Result<Items<Word>, WordFault> {
 fn main(rt: HostRuntime) -> ExitCode {
     let mut input = StdSource::new(rt.stdin());
     let mut keeper = FileKeeper::new(&rt);
+    let mut links = TcpLinks::new(&rt);
     let mut out = StdSink::new(rt.stdout());
     let status = match words_of(&rt) {
-        Ok(words) => run(rt.alloc(), &words, &mut input, &mut keeper, &mut out),
+        Ok(words) => run(
+            rt.alloc(),
+            &words,
+            &mut input,
+            &mut keeper,
+            &mut links,
+            &mut out,
+        ),
         Err(WordFault::NotText) => BAD_WORDS,
         Err(WordFault::NoMemory) => WANT_OF_MEMORY,
     };
-    say_why(&rt, status, &input, &out);
+    say_why(&rt, status, &input, &links, &out);
     ExitCode::from(status)
 }

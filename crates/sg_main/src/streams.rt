@@ -48,11 +48,11 @@ impl Source for StdSource {
 }
 
 /// Reads, and reads again where the call was interrupted before a byte came.
-fn read_on(stdin: &mut Stdin, buf: &mut [u8]) -> io::Result<usize>
+pub(crate) fn read_on<R: Read>(reader: &mut R, buf: &mut [u8]) -> io::Result<usize>
     ensures { IfOk result (λ count. count ≤ length buf.new) }
 {
     for _ in 0..u64::MAX {
-        match stdin.read(buf) {
+        match reader.read(buf) {
             Ok(count) => return Ok(count),
             Err(error) if error.kind() == ErrorKind::Interrupted => {}
             Err(error) => return Err(error),
@@ -106,10 +106,10 @@ impl Sink for StdSink {
 }
 
 /// Writes all of the bytes.
-fn write_whole(stdout: &mut Stdout, bytes: &[u8]) -> io::Result<()> {
+pub(crate) fn write_whole<W: Write>(writer: &mut W, bytes: &[u8]) -> io::Result<()> {
     let mut rest = bytes;
     while !rest.is_empty() {
-        let count = write_on(stdout, rest)?;
+        let count = write_on(writer, rest)?;
         if count == 0 {
             return Err(io::Error::from(ErrorKind::WriteZero));
         }
@@ -119,11 +119,11 @@ fn write_whole(stdout: &mut Stdout, bytes: &[u8]) -> io::Result<()> {
 }
 
 /// Writes some of the bytes, and writes again where the call was interrupted before a byte went.
-fn write_on(stdout: &mut Stdout, bytes: &[u8]) -> io::Result<usize>
+fn write_on<W: Write>(writer: &mut W, bytes: &[u8]) -> io::Result<usize>
     ensures { IfOk result (λ count. count ≤ length bytes.now) }
 {
     for _ in 0..u64::MAX {
-        match stdout.write(bytes) {
+        match writer.write(bytes) {
             Ok(count) => return Ok(count),
             Err(error) if error.kind() == ErrorKind::Interrupted => {}
             Err(error) => return Err(error),

@@ -5,8 +5,7 @@ mod Fits
 mod NowTold
 mod Repeats
 mod NewKeys
-mod DoneOrder
-mod Halving
+mod DonesRise
 mod Stands
 mod Turns
 mod NoStore

@@ -1,10 +1,9 @@
 -- The keys of an act that is accepted are not among the rows of its history.
-use Rattle.std.proofs.Common.{◌≡◌, ◌≢◌, ℕ, ◌+◌, ◌<◌, Bool, true, false, ◌&&◌, ◌||◌, not, cond, List, [], ◌∷◌, ◌++◌, length, map, Some, None, refl, ap, ◌∙◌, arith}
-use Rattle.std.specs.List.{join_with_byte, list_any}
+use Rattle.std.proofs.Common.{◌≡◌, ◌≢◌, ℕ, ◌+◌, ◌<◌, true, false, List, [], ◌∷◌, ◌++◌, length, map, None, refl, ap, ◌∙◌, arith}
+use Rattle.std.specs.List.{join_with_byte}
 use Rattle.std.specs.Option.{option_map}
 use Rattle.sg_desks.specs.ActTexts.{act_text, codes_word, draw_word, mark_word}
 use Rattle.std.specs.Prelude.{pos}
-use Rattle.std.specs.Ordering.{int_eq}
 use Rattle.sg_plan.specs.declared.plan.Draw.{Draw}
 use Rattle.sg_plan.specs.declared.plan.Fate.{Fate}
 use Rattle.sg_plan.specs.declared.plan.Fate.TheVariants as fate
@@ -16,7 +15,6 @@ use Rattle.sg_keeper.specs.declared.asks.Act.TheVariants as act
 use Rattle.sg_keeper.specs.declared.asks.Stamp.{Stamp}
 use Rattle.sg_keeper.specs.declared.rows.BallotRow.{BallotRow}
 use Rattle.sg_keeper.specs.declared.rows.ClaimRow.{ClaimRow}
-use Rattle.sg_keeper.specs.declared.rows.DoneRow.{DoneRow}
 use Rattle.sg_histories.specs.Answers.{accepts, entry_of, is_cast, is_closed, is_voting, refusal_of, unless}
 use Rattle.sg_keeper.specs.declared.replies.Reply.TheVariants as reply
 use Rattle.sg_histories.specs.Lawful.{Lawful}
@@ -24,23 +22,11 @@ use Rattle.sg_histories.proofs.Accepted.{Passed, early, first_none, passed, unle
 use Rattle.sg_histories.proofs.NewKeys.{any_put, apart, new_ballot, new_void}
 use Rattle.sg_histories.proofs.OutRows.{stage_rows, stages_out}
 use Rattle.sg_histories.proofs.Stamps.{new_number, rows_tell}
+use Rattle.sg_acts.proofs.NewRows.{new_row}
 use Rattle.sg_office.proofs.Pushed.{length_pushed}
 use Rattle.sg_keeper.specs.declared.setup.Setup.{Setup}
 use Rattle.sg_histories.specs.Histories.{Entry, claims_after, claims_of, fate_of, fate_word, phase_of, phase_word, scanner_of, stage_of}
 use Rattle.sg_histories.specs.KeptRows.{change_of, done_row, row_of_act, rows_of}
-use Rattle.sg_histories.specs.Standing.{text_at}
-
--- a stamp without a text is new
-pub new_done : (station number : ℕ) (text : List ℕ) (rows : List DoneRow)
-    → text_at station number rows ≡ None → is_new done_is (record { station = pos station; number = pos number; act = text }) rows ≡ true
-new_done station number text [] e = refl
-new_done station number text (x ∷ xs) e = by_test (int_eq x.station (pos station) && int_eq x.number (pos number)) e (new_done station number text xs)
-  where
-    by_test : (b : Bool) → cond b (Some x.act) (text_at station number xs) ≡ None
-        → (text_at station number xs ≡ None → not (list_any (λ kept. int_eq kept.station (pos station) && int_eq kept.number (pos number)) xs) ≡ true)
-        → not (b || list_any (λ kept. int_eq kept.station (pos station) && int_eq kept.number (pos number)) xs) ≡ true
-    by_test true k ih = cc
-    by_test false k ih = ih k
 
 -- STAGES
 
@@ -119,6 +105,6 @@ new_change setup text history stamp asked lawful accepted = record { row = by_ac
         (not_cast (fate_of history ballot) (voids setup.plan (phase_of history) (fate_word (fate_of history ballot)) (scanner_of history ballot) stamp.station ballot e).cast)
 
     done_new : is_new done_is (done_row setup.plan.version (entry_of stamp asked)) (rows_of setup text history).dones ≡ true
-    done_new = new_done stamp.station stamp.number (act_text setup.plan.version asked) (rows_of setup text history).dones
+    done_new = new_row (done_row setup.plan.version (entry_of stamp asked)) stamp.station stamp.number (rows_of setup text history).dones refl refl
         (rows_tell setup text history lawful stamp.station stamp.number
         ∙ ap (option_map (act_text setup.plan.version)) (new_number setup history stamp asked pass.new).1)

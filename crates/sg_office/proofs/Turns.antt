@@ -1,10 +1,10 @@
 -- A call of the office is a turn of the talk.
-use Rattle.std.proofs.Common.{◌≡◌, ◌≢◌, ℕ, ◌-◌, ◌<◌, ◌≤◌, ◌^◌, true, cond, List, ◌∷◌, length, unwrap_or, Some, None, is_none, refl, ap, sym, ◌∙◌, arith, subst}
+use Rattle.std.proofs.Common.{◌≡◌, ◌≢◌, ℕ, ◌-◌, ◌<◌, ◌≤◌, ◌^◌, true, cond, List, [], ◌∷◌, length, unwrap_or, Some, None, is_none, refl, ap, sym, ◌∙◌, arith, subst}
 use Rattle.std.specs.Prelude.{slice_set}
 use Rattle.std.proofs.lemmas.Bool.Decides.{nat_tests}
 use Rattle.sg_plan.specs.Ballots.{ballots_of}
 use Rattle.sg_plan.specs.declared.plan.Fate.TheVariants as fate
-use Rattle.sg_keeper.specs.Rows.{IsNewChange, with_change}
+use Rattle.sg_keeper.specs.Rows.{IsNewChange, done_is, is_new, with_change}
 use Rattle.sg_keeper.specs.declared.asks.Act.{Act}
 use Rattle.sg_keeper.specs.declared.asks.Act.TheVariants as act
 use Rattle.sg_keeper.specs.declared.asks.Ask.{Ask}
@@ -193,15 +193,15 @@ IsMade kept stamp done ready = IsReady ready (part_of kept.slots stamp.station d
 
 pub ready_stands : (kept : Kept) (stamp : Stamp) (done : Act) (ready : Ready) → IsOffice kept → stamp.number < 2 ^ 32 → IsAskable kept.setup done
     → ((history : List Entry) → StandsFor kept history → accepts kept.setup history stamp done ≡ true) → IsMade kept stamp done ready
-    → (history : List Entry) → StandsFor kept history → StandsFor (with_part kept ready.part ready.done) (entry_of stamp done ∷ history)
+    → (history : List Entry) → StandsFor kept history → StandsFor (with_part kept ready.part ready.change.done) (entry_of stamp done ∷ history)
 ready_stands kept stamp done ready office few is accepted made history stands =
-    subst (λ (p : Part). StandsFor (with_part kept p ready.done) (entry_of stamp done ∷ history)) (sym made.part_is)
-    (subst (λ (d : DoneRow). StandsFor (with_part kept (part_of kept.slots stamp.station done) d) (entry_of stamp done ∷ history)) (sym made.done_is)
+    subst (λ (p : Part). StandsFor (with_part kept p ready.change.done) (entry_of stamp done ∷ history)) (sym made.part_is)
+    (subst (λ (d : DoneRow). StandsFor (with_part kept (part_of kept.slots stamp.station done) d) (entry_of stamp done ∷ history)) (sym (ap (λ (c : Change). c.done) made.change_is))
     (part_stands kept history stamp done office.slots few is stands (accepted history stands)))
 
 pub ready_allowed : (kept : Kept) (stamp : Stamp) (done : Act) (ready : Ready) → IsOffice kept → stamp.number < 2 ^ 32 → IsAskable kept.setup done
     → ((history : List Entry) → StandsFor kept history → accepts kept.setup history stamp done ≡ true) → IsMade kept stamp done ready
-    → Allows kept (with_part kept ready.part ready.done)
+    → Allows kept (with_part kept ready.part ready.change.done)
 ready_allowed kept stamp done ready office few is accepted made = λ history stands. (entry_of stamp done ∷ history, ready_stands kept stamp done ready office few is accepted made history stands)
 
 pub ready_fits : (kept : Kept) (stamp : Stamp) (done : Act) (ready : Ready) → IsOffice kept
@@ -209,6 +209,15 @@ pub ready_fits : (kept : Kept) (stamp : Stamp) (done : Act) (ready : Ready) → 
     → FitsPart kept.setup.plan ready.part
 ready_fits kept stamp done ready office accepted made =
     subst (FitsPart kept.setup.plan) (sym made.part_is) (part_fits kept.setup office.history stamp kept.slots done (accepted office.history office.stands))
+
+-- its number is new
+pub ready_new : (kept : Kept) (stamp : Stamp) (done : Act) (ready : Ready) → IsOffice kept
+    → ((history : List Entry) → StandsFor kept history → accepts kept.setup history stamp done ≡ true) → IsMade kept stamp done ready
+    → is_new done_is ready.change.done kept.dones ≡ true
+ready_new kept stamp done ready office accepted made =
+    ap (λ (c : Change). is_new done_is c.done kept.dones) made.change_is
+    ∙ (ap (is_new done_is (done_row kept.setup.plan.version (entry_of stamp done))) (office.stands.dones [])
+    ∙ (new_change kept.setup [] office.history stamp done office.stands.lawful (accepted office.history office.stands)).done)
 
 setup_stays : (kept : Kept) (p : Part) (row : DoneRow) → (with_part kept p row).setup ≡ kept.setup
 setup_stays kept (part.Ballot ballot slot) row = refl
@@ -219,14 +228,14 @@ pub accept_turned : (kept new : Kept) (tells : Type 0) (rows after : Rows) (stam
     → IsOffice kept → stamp.number < 2 ^ 32 → IsAskable kept.setup done
     → ((history : List Entry) → StandsFor kept history → accepts kept.setup history stamp done ≡ true) → IsMade kept stamp done ready
     → said ≡ body_with kept.setup (fate_at kept.slots) done
-    → new ≡ with_part kept ready.part ready.done → (tells → IsNewChange rows ready.change → after ≡ with_change rows ready.change)
+    → new ≡ with_part kept ready.part ready.change.done → (tells → IsNewChange rows ready.change → after ≡ with_change rows ready.change)
     → (history : List Entry) → StandsFor kept history
     → Turned kept new tells rows after (ask.Do stamp done) (reply.Done said) history
 accept_turned kept new tells rows after stamp done ready said office few is accepted made said_is new_is added history stands =
     subst (λ (k : Kept). Turned kept k tells rows after (ask.Do stamp done) (reply.Done said) history) (sym new_is)
-    (subst (λ (b : Body). Turned kept (with_part kept ready.part ready.done) tells rows after (ask.Do stamp done) (reply.Done b) history) (sym says)
-    (kept_turn kept (with_part kept ready.part ready.done) tells rows after stamp done ready.change history stands (accepted history stands)
-    (setup_stays kept ready.part ready.done) (ready_stands kept stamp done ready office few is accepted made history stands) added changes))
+    (subst (λ (b : Body). Turned kept (with_part kept ready.part ready.change.done) tells rows after (ask.Do stamp done) (reply.Done b) history) (sym says)
+    (kept_turn kept (with_part kept ready.part ready.change.done) tells rows after stamp done ready.change history stands (accepted history stands)
+    (setup_stays kept ready.part ready.change.done) (ready_stands kept stamp done ready office few is accepted made history stands) added changes))
   where
     says : said ≡ body_of kept.setup history done
     says = said_is ∙ body_told kept history done stands (accepted_fits kept.setup history stamp done (accepted history stands))

@@ -2,4 +2,3 @@
 pub mod Looks
 pub mod Now
 pub mod Ready
-pub mod Stamps

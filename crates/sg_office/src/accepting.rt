@@ -2,7 +2,7 @@
 ghost use Rattle.std.specs.Prelude.{◌≡◌, ◌-◌, ◌<◌, ◌≤◌, ◌^◌, ◌∷◌, ◌++◌, [], List, IfOk, OnOk, OnErr, true, false, length, slice_set};
 ghost use Rattle.sg_outside.specs.Faults.{Rose};
 ghost use Rattle.sg_plan.specs.Ballots.{ballots_of};
-ghost use Rattle.sg_keeper.specs.Rows.{HasFaultCause, IsAscii, IsAsciiChange, IsNewChange, with_change};
+ghost use Rattle.sg_keeper.specs.Rows.{HasFaultCause, IsAscii, IsAsciiChange, IsNewChange, done_is, is_new, with_change};
 ghost use Rattle.sg_keeper.specs.declared.asks.Ask.TheVariants as asked;
 ghost use Rattle.sg_keeper.specs.declared.asks.Look.{Look as Seen};
 ghost use Rattle.sg_desks.specs.ActTexts.{act_text as text_of};
@@ -11,14 +11,13 @@ ghost use Rattle.sg_histories.specs.Histories.{Entry};
 ghost use Rattle.sg_histories.specs.Lawful.{IsAskable};
 ghost use Rattle.sg_histories.specs.Standing.{IsAsk, StandsFor, Turned};
 ghost use Rattle.sg_office.specs.declared.ready.Part.TheVariants as part;
-ghost use Rattle.sg_office.specs.inside.Ready.{Allows, FitsPart, IsPlace, IsReady, act_change, part_of, with_part};
+ghost use Rattle.sg_office.specs.inside.Ready.{Allows, FitsPart, IsReady, act_change, part_of, with_part};
 
 use crate::keeping::{keep, keep_claim};
 use crate::office::Office;
-use crate::ready::{Part, Ready, copy_done, ready_change, ready_part};
-use crate::stamps::done_place;
+use crate::ready::{Part, Ready, ready_change, ready_part};
 use sg_histories::{Claim, Slot};
-use sg_keeper::{Act, Ask, Change, DoneRow, KeepFault, Keeper, Reply, Stamp};
+use sg_keeper::{Act, Ask, Change, KeepFault, Keeper, Reply, Stamp};
 use sg_plan::{NoMemory, Stage, Word};
 use std::alloc::Global;
 
@@ -26,26 +25,25 @@ impl Office {
     /// Keeps an act on a ballot.
     fn keep_ballot<K: Keeper>(
         &mut self,
+        alloc: Global,
         keeper: &mut K,
         ballot: u32,
         slot: Slot,
         change: &Change,
-        place: usize,
-        done: DoneRow,
     ) -> Result<(), KeepFault>
         requires first { 1 ≤ ballot }
         requires last { ballot ≤ ballots_of self.old.setup.plan }
-        requires allowed { Allows self.old (with_part self.old (part.Ballot ballot slot) done) }
-        requires place { IsPlace self.old.dones place done }
+        requires allowed { Allows self.old (with_part self.old (part.Ballot ballot slot) change.now.done) }
+        requires new { is_new done_is change.now.done self.old.dones ≡ true }
         requires ascii { IsAsciiChange change.now }
         ensures told { K.tells keeper.old → K.tells keeper.new }
-        ensures ok { OnOk result (self.new ≡ with_part self.old (part.Ballot ballot slot) done) }
+        ensures ok { OnOk result (self.new ≡ with_part self.old (part.Ballot ballot slot) change.now.done) }
         ensures err { OnErr result (self.new ≡ self.old) }
         ensures kept { K.tells keeper.old → IsNewChange (K.rows keeper.old) change.now → OnOk result (K.rows keeper.new ≡ with_change (K.rows keeper.old) change.now) }
         ensures left { K.tells keeper.old → OnErr result (K.rows keeper.new ≡ K.rows keeper.old) }
         ensures cause { HasFaultCause (K.faults keeper.old) (K.faults keeper.new) result }
     {
-        match keep(&mut self.dones, keeper, change, place, done) {
+        match keep(alloc, &mut self.dones, keeper, change) {
             Ok(()) => {
                 self.slots.replace(ballot as usize - 1, slot);
                 Ok(())
@@ -57,23 +55,22 @@ impl Office {
     /// Keeps the close or the draw.
     fn keep_stage<K: Keeper>(
         &mut self,
+        alloc: Global,
         keeper: &mut K,
         stage: Stage,
         change: &Change,
-        place: usize,
-        done: DoneRow,
     ) -> Result<(), KeepFault>
-        requires allowed { Allows self.old (with_part self.old (part.Stage stage) done) }
-        requires place { IsPlace self.old.dones place done }
+        requires allowed { Allows self.old (with_part self.old (part.Stage stage) change.now.done) }
+        requires new { is_new done_is change.now.done self.old.dones ≡ true }
         requires ascii { IsAsciiChange change.now }
         ensures told { K.tells keeper.old → K.tells keeper.new }
-        ensures ok { OnOk result (self.new ≡ with_part self.old (part.Stage stage) done) }
+        ensures ok { OnOk result (self.new ≡ with_part self.old (part.Stage stage) change.now.done) }
         ensures err { OnErr result (self.new ≡ self.old) }
         ensures kept { K.tells keeper.old → IsNewChange (K.rows keeper.old) change.now → OnOk result (K.rows keeper.new ≡ with_change (K.rows keeper.old) change.now) }
         ensures left { K.tells keeper.old → OnErr result (K.rows keeper.new ≡ K.rows keeper.old) }
         ensures cause { HasFaultCause (K.faults keeper.old) (K.faults keeper.new) result }
     {
-        match keep(&mut self.dones, keeper, change, place, done) {
+        match keep(alloc, &mut self.dones, keeper, change) {
             Ok(()) => {
                 self.stage = stage;
                 Ok(())
@@ -85,58 +82,54 @@ impl Office {
     /// Keeps a claim.
     fn keep_claim<K: Keeper>(
         &mut self,
+        alloc: Global,
         keeper: &mut K,
         claim: Claim,
         change: &Change,
-        place: usize,
-        done: DoneRow,
     ) -> Result<(), KeepFault>
-        requires allowed { Allows self.old (with_part self.old (part.Claim claim) done) }
-        requires place { IsPlace self.old.dones place done }
+        requires allowed { Allows self.old (with_part self.old (part.Claim claim) change.now.done) }
+        requires new { is_new done_is change.now.done self.old.dones ≡ true }
         requires ascii { IsAsciiChange change.now }
         ensures told { K.tells keeper.old → K.tells keeper.new }
-        ensures ok { OnOk result (self.new ≡ with_part self.old (part.Claim claim) done) }
+        ensures ok { OnOk result (self.new ≡ with_part self.old (part.Claim claim) change.now.done) }
         ensures err { OnErr result (self.new ≡ self.old) }
         ensures kept { K.tells keeper.old → IsNewChange (K.rows keeper.old) change.now → OnOk result (K.rows keeper.new ≡ with_change (K.rows keeper.old) change.now) }
         ensures left { K.tells keeper.old → OnErr result (K.rows keeper.new ≡ K.rows keeper.old) }
         ensures cause { HasFaultCause (K.faults keeper.old) (K.faults keeper.new) result }
     {
         keep_claim(
+            alloc,
             &mut self.claims,
             &mut self.dones,
             keeper,
             claim,
             change,
-            place,
-            done,
         )
     }
 
     /// Keeps what was made ready.
-    fn keep_ready<K: Keeper>(&mut self, keeper: &mut K, ready: Ready) -> Result<(), KeepFault>
+    fn keep_ready<K: Keeper>(
+        &mut self,
+        alloc: Global,
+        keeper: &mut K,
+        ready: Ready,
+    ) -> Result<(), KeepFault>
         requires fits { FitsPart self.old.setup.plan ready.part }
-        requires allowed { Allows self.old (with_part self.old ready.part ready.done) }
-        requires place { IsPlace self.old.dones ready.place ready.done }
+        requires allowed { Allows self.old (with_part self.old ready.part ready.change.done) }
+        requires new { is_new done_is ready.change.done self.old.dones ≡ true }
         requires ascii { IsAsciiChange ready.change }
         ensures told { K.tells keeper.old → K.tells keeper.new }
-        ensures ok { OnOk result (self.new ≡ with_part self.old ready.part ready.done) }
+        ensures ok { OnOk result (self.new ≡ with_part self.old ready.part ready.change.done) }
         ensures err { OnErr result (self.new ≡ self.old) }
         ensures kept { K.tells keeper.old → IsNewChange (K.rows keeper.old) ready.change → OnOk result (K.rows keeper.new ≡ with_change (K.rows keeper.old) ready.change) }
         ensures left { K.tells keeper.old → OnErr result (K.rows keeper.new ≡ K.rows keeper.old) }
         ensures cause { HasFaultCause (K.faults keeper.old) (K.faults keeper.new) result }
     {
-        let Ready {
-            part,
-            change,
-            done,
-            place,
-        } = ready;
+        let Ready { part, change } = ready;
         match part {
-            Part::Ballot(ballot, slot) => {
-                self.keep_ballot(keeper, ballot, slot, &change, place, done)
-            }
-            Part::Stage(stage) => self.keep_stage(keeper, stage, &change, place, done),
-            Part::Claim(claim) => self.keep_claim(keeper, claim, &change, place, done),
+            Part::Ballot(ballot, slot) => self.keep_ballot(alloc, keeper, ballot, slot, &change),
+            Part::Stage(stage) => self.keep_stage(alloc, keeper, stage, &change),
+            Part::Claim(claim) => self.keep_claim(alloc, keeper, claim, &change),
         }
     }
 
@@ -166,20 +159,12 @@ impl Office {
         requires ascii { IsAscii text }
         requires few { length self.now.claims < 2 ^ 32 }
         ensures ready { IfOk result (λ ready. IsReady ready (part_of self.now.slots stamp.now.station act.now) (act_change self.now.setup.plan.version (length self.now.claims) stamp.now act.now)) }
-        ensures place { IfOk result (λ ready. IsPlace self.now.dones ready.place ready.done) }
         ensures ascii { IfOk result (λ ready. IsAsciiChange ready.change) }
     {
         self.office_law();
         let change = self.change(alloc, stamp, act, text)?;
         let part = ready_part(alloc, &self.slots, stamp.station, act)?;
-        let done = copy_done(alloc, &change.done)?;
-        let place = done_place(&self.dones, stamp.station, stamp.number);
-        Ok(Ready {
-            part,
-            change,
-            done,
-            place,
-        })
+        Ok(Ready { part, change })
     }
 
     /// Accepts a new act.
@@ -211,7 +196,7 @@ impl Office {
         let Ok(ready) = self.ready(alloc, stamp, act, text) else {
             return Reply::Memory;
         };
-        match self.keep_ready(keeper, ready) {
+        match self.keep_ready(alloc, keeper, ready) {
             Ok(()) => Reply::Done(body),
             Err(KeepFault::NoMemory) => Reply::Memory,
             Err(KeepFault::Failed) => Reply::Store,

@@ -19,7 +19,7 @@ use crate::refusals::{
     scan_refusal, void_refusal,
 };
 use crate::slots::{fate_at, phase_word, scanner_at, word_at};
-use crate::stamps::{knows_secret, text_at};
+use crate::stamps::knows_secret;
 use sg_desks::laws::texts_law;
 use sg_desks::{act_text, claim_word, paper_matches};
 use sg_keeper::{Act, Body, Look, Phase, Reply, Stamp};
@@ -121,7 +121,7 @@ impl Office {
     {
         self.office_law();
         texts_law();
-        match text_at(&self.dones, stamp.station, stamp.number) {
+        match self.dones.text_at(stamp.station, stamp.number) {
             None => Ok(None),
             Some(kept) => {
                 if kept.equals(text) {

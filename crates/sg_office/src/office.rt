@@ -8,9 +8,10 @@ ghost use Rattle.sg_histories.specs.Stories.{story_of};
 ghost use Rattle.sg_office.specs.inside.Now.{story_now};
 
 use crate::stories::{answer_claims, copy_stage, tell_fates};
+use sg_acts::DoneList;
 use sg_histories::laws::stories_law;
 use sg_histories::{Claim, Kept, Slot};
-use sg_keeper::{DoneRow, Setup};
+use sg_keeper::Setup;
 use sg_plan::{BallotIndex, Items, NoMemory, Stage};
 use sg_post::{Posting, Story};
 use sg_tables::Tables;
@@ -28,7 +29,7 @@ pub struct Office {
     pub(crate) slots: Items<Slot>,
     pub(crate) stage: Stage,
     pub(crate) claims: Items<Claim>,
-    pub(crate) dones: Items<DoneRow>,
+    pub(crate) dones: DoneList,
 }
 
 impl Model for Office {
@@ -56,8 +57,8 @@ impl Model for Office {
 }
 
 impl Office {
-    /// The office that keeps this: it makes the tables and an index of the plan's ballots. It refuses for want of
-    /// memory alone.
+    /// The office that keeps this: it makes the tables, an index of the plan's ballots, and a tree of the acts by their
+    /// stamps. It refuses for want of memory alone.
     pub fn with(alloc: Global, kept: Kept) -> Result<Office, NoMemory>
         requires { IsOffice kept }
         ensures { IfOk result (λ office. office ≡ kept) }
@@ -74,6 +75,7 @@ impl Office {
             seed,
             secrets,
         } = setup;
+        let dones = DoneList::of(alloc, dones)?;
         let tables = Tables::make(alloc, &plan, &seed)?;
         let index = BallotIndex::make(alloc, &plan)?;
         Ok(Office {

@@ -28,12 +28,8 @@ pub enum Part {
 pub struct Ready {
     /// What changes beside the rows.
     pub part: Part,
-    /// What the keeper is given.
+    /// What the keeper is given, and of it the row of the act for the office's own list.
     pub change: Change,
-    /// The row of the act, for the office's own list.
-    pub done: DoneRow,
-    /// Where it goes there.
-    pub place: usize,
 }
 
 /// The row of an act that was done.
@@ -145,16 +141,4 @@ pub fn ready_change(
     let row = ready_row(alloc, version, claims, act)?;
     let done = done_row(stamp, text);
     Ok(Change { row, done })
-}
-
-/// The same row.
-pub fn copy_done(alloc: Global, row: &DoneRow) -> Result<DoneRow, NoMemory>
-    ensures { IfOk result (λ copy. copy ≡ row.now) }
-{
-    let act = row.act.copy(alloc)?;
-    Ok(DoneRow {
-        station: row.station,
-        number: row.number,
-        act,
-    })
 }

@@ -1,14 +1,13 @@
--- The summary of a sample run, how its writing ends, and the words that ask for one (this project's sample run).
+-- The summary of a sample run, and how its writing ends (this project's sample run).
 use Rattle.std.specs.Io.KnownBytes.{Appends, Keeps}
 use Rattle.std.specs.List.{flat_map, join_with_byte}
-use Rattle.std.specs.Option.{option_and_then}
-use Rattle.std.specs.Prelude.{ℕ, nat_le, if◌then◌else◌, Bool, true, false, ◌&&◌, List, [], ◌∷◌, ◌++◌, length, count_by, codes, Option, Some, None}
+use Rattle.std.specs.Prelude.{ℕ, Bool, true, false, List, [], ◌∷◌, ◌++◌, length, count_by, codes}
 use Rattle.sg_outside.specs.Faults.{Rose}
 use Rattle.sg_outside.specs.Streams.{AppendsFront, Seen}
 use Rattle.sg_outside.specs.TextLines.{lines_of}
 use Rattle.sg_plan.specs.declared.plan.Fate.{Fate}
 use Rattle.sg_plan.specs.declared.plan.Fate.TheVariants as fate
-use Rattle.sg_lines.specs.Words.{decimal, decimal_of, encode_lower}
+use Rattle.sg_lines.specs.Words.{decimal, encode_lower}
 use Rattle.sg_post.specs.Posted.{seal_3}
 use Rattle.sg_post.specs.declared.story.Told.{Told}
 use Rattle.sg_check.specs.declared.judged.Total.{Total}
@@ -16,7 +15,6 @@ use Rattle.sg_accepted.specs.Totals.{told_totals}
 use Rattle.sg_sample.specs.SampleRun.{sample_draw, sample_plan, sample_record, sample_seed, sample_story}
 use Rattle.sg_sample.specs.declared.sampling.Sampled.{Sampled}
 use Rattle.sg_sample.specs.declared.sampling.Sampled.TheVariants as sampled
-use Rattle.sg_sample.specs.declared.words.Sample.{Sample}
 
 -- WHAT BECAME OF THE BALLOTS
 
@@ -94,16 +92,3 @@ abbrev pub sample_status : Sampled → ℕ
 sample_status sampled.Done = 0
 sample_status sampled.WriteFault = 4
 sample_status sampled.NoMemory = 9
-
--- THE WORDS THAT ASK FOR ONE
-
--- 1 to 9,000 ballots
-abbrev pub is_sample_size : ℕ → Bool
-is_sample_size ballots = nat_le 1 ballots && nat_le ballots 9000
-
-abbrev pub sample_with : ℕ → ℕ → Option Sample
-sample_with number ballots = (if is_sample_size ballots then Some (record { seed = number; ballots = ballots }) else None)
-
--- the sample that two words ask for: both are numbers, and there are as many ballots as a sample may have
-abbrev pub sample_in : List ℕ → List ℕ → Option Sample
-sample_in number ballots = option_and_then (λ n. option_and_then (sample_with n) (decimal_of ballots)) (decimal_of number)

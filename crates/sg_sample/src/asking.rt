@@ -9,10 +9,10 @@ ghost use Rattle.sg_sample.specs.inside.Voting.{GoesOn, IsTaken, IsVoted, stamp_
 use crate::acts::{ballot_act, sample_draw};
 use crate::election::{SECRET, sample_setup};
 use crate::steady::Steady;
-use crate::words::Sample;
 use sg_keeper::{Act, Ask, Keeper, Reply, Setup, Stamp};
 use sg_office::Office;
 use sg_plan::{BallotIndex, NoMemory};
+use sg_words::Sample;
 use std::alloc::Global;
 
 /// The stamp of the one station's act with this number.

@@ -17,7 +17,6 @@ mod putting;
 mod sampling;
 mod steady;
 mod telling;
-mod words;
 
 pub use sampling::{Sampled, sample, sampled_status};
-pub use words::{Sample, sample_of};
+pub use sg_words::{Sample, sample_of};

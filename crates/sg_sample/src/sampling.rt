@@ -12,12 +12,12 @@ use crate::judging::audited_totals;
 use crate::posting::record_text;
 use crate::putting::put_lines;
 use crate::telling::{add_digits, add_number, add_totals};
-use crate::words::Sample;
 use sg_check::Total;
 use sg_office::Office;
 use sg_outside::{Failed, Sink};
 use sg_plan::{Items, NoMemory, Word};
 use sg_post::{Story, Told};
+use sg_words::Sample;
 use std::alloc::Global;
 
 /// How a sample run ended.

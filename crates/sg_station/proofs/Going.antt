@@ -62,7 +62,7 @@ going-push setup setup' office office' history count tells tells' rows middle af
       calls = g.calls ++ s.call ∷ [];
       next = s.next;
       counted = length-append g.calls (s.call ∷ []) ∙ ap (λ n. n + 1) g.counted;
-      served = served-push setup g.calls s.call history g.next s.next g.served s.ends;
+      served = served-push setup g.calls s.call history g.next s.next g.served s.few s.ends;
       stands = s.stands;
       kept = λ was text is. s.kept (told was) text (g.kept was text is);
       stores = λ low. let next = s.stores low in omega (arith, stores-push g.calls s.call, g.stores (omega (arith, next, low)), next);
@@ -95,7 +95,7 @@ ends-write setup setup' office office' history at count tells tells' rows middle
     record {
       calls = g.calls ++ s.call ∷ [];
       next = s.next;
-      served = served-push setup g.calls s.call history g.next s.next g.served s.ends;
+      served = served-push setup g.calls s.call history g.next s.next g.served s.few s.ends;
       kept = λ was text is. s.kept (told was) text (g.kept was text is);
       stores = λ low. let next = s.stores low in omega (arith, stores-push g.calls s.call, g.stores (omega (arith, next, low)), next);
       failures = λ low. let next = s.failures low in omega (arith, failures-push g.calls s.call, g.failures (omega (arith, next, low)), next);
@@ -116,7 +116,7 @@ ends-memory setup setup' office office' history at count tells tells' rows middl
     record {
       calls = g.calls ++ s.call ∷ [];
       next = s.next;
-      served = served-push setup g.calls s.call history g.next s.next g.served s.ends;
+      served = served-push setup g.calls s.call history g.next s.next g.served s.few s.ends;
       kept = λ was text is. s.kept (told was) text (g.kept was text is);
       stores = λ low. let next = s.stores low in omega (arith, stores-push g.calls s.call, g.stores (omega (arith, next, low)), next);
       failures = λ low. let next = s.failures low in omega (arith, failures-push g.calls s.call, g.failures (omega (arith, next, low)), next);
@@ -139,6 +139,7 @@ stepped_by how way setup office tells rows after history before now mid faults a
     record {
       call = call;
       next = s.next;
+      few = s.few;
       ends = s.ends;
       stands = s.stands;
       kept = s.kept;

@@ -8,16 +8,17 @@ use Rattle.sg_outside.specs.Faults.{Rose}
 use Rattle.sg_links.specs.Board.{Board, Come, Conn, accepts, finishes, first_bytes, gets, on_current, takes}
 use Rattle.sg_keeper.specs.declared.setup.Setup.{Setup}
 use Rattle.sg_histories.specs.Histories.{Entry}
+use Rattle.sg_http.specs.Leads.{TakesFew}
 use Rattle.sg_http.specs.Visits.{Ends, stored}
 use Rattle.sg_http.specs.declared.serving.Served.{Served}
 use Rattle.sg_http.specs.declared.serving.Served.TheVariants as served
 use Rattle.sg_station.specs.Calls.{AreServed, AreTaken, Call, Takes, TakesKnown, conn_of, conns_of, failed, failures_in, line_of, lines_in, stores_in}
 
 pub served-push : (setup : Setup) (calls : List Call) (call : Call) (before middle after : List Entry) → AreServed setup calls before middle
-    → Ends call.how setup call.taken call.is_ended call.sent call.said middle after → AreServed setup (calls ++ call ∷ []) before after
-served-push setup [] call before middle after p q =
-    (after, subst (λ (h : List Entry). Ends call.how setup call.taken call.is_ended call.sent call.said h after) p q, refl)
-served-push setup (c ∷ cs) call before middle after p q = (p.0, p.1, served-push setup cs call p.0 middle after p.2 q)
+    → TakesFew call.taken → Ends call.how setup call.taken call.is_ended call.sent call.said middle after → AreServed setup (calls ++ call ∷ []) before after
+served-push setup [] call before middle after p few q =
+    (after, few, subst (λ (h : List Entry). Ends call.how setup call.taken call.is_ended call.sent call.said h after) p q, refl)
+served-push setup (c ∷ cs) call before middle after p few q = (p.0, p.1, p.2, served-push setup cs call p.0 middle after p.3 few q)
 
 pub stores-push : (calls : List Call) (call : Call) → stores_in (calls ++ call ∷ []) ≡ stores_in calls + stored call.said
 stores-push [] call = omega arith

@@ -1,2 +1,4 @@
+-- The proofs.
 mod Growing
 mod Going
+mod ServeEnds

@@ -4,6 +4,7 @@ use Rattle.sg_links.specs.Board.{Board, Conn, first_bytes}
 use Rattle.sg_keeper.specs.declared.setup.Setup.{Setup}
 use Rattle.sg_talk.specs.declared.answered.Answered.{Answered}
 use Rattle.sg_histories.specs.Histories.{Entry}
+use Rattle.sg_http.specs.Leads.{TakesFew}
 use Rattle.sg_http.specs.Visits.{Ends, stored}
 use Rattle.sg_http.specs.declared.serving.Served.{Served}
 use Rattle.sg_http.specs.declared.serving.Served.TheVariants as served
@@ -21,7 +22,7 @@ pub record Call : Type 0 where
 abbrev pub AreServed : Setup → List Call → List Entry → List Entry → Type 0
 AreServed setup [] before after = after ≡ before
 AreServed setup (call ∷ calls) before after =
-    (middle : List Entry) × Ends call.how setup call.taken call.is_ended call.sent call.said before middle × AreServed setup calls middle after
+    (middle : List Entry) × TakesFew call.taken × Ends call.how setup call.taken call.is_ended call.sent call.said before middle × AreServed setup calls middle after
 
 -- how many answers say that the keeper failed
 abbrev pub stores_in : List Call → ℕ

@@ -1,13 +1,15 @@
 -- How the command `serve` ends (this project's command line).
 use Rattle.std.specs.Prelude.{◌≡◌, ◌⊎◌, ℕ, ◌+◌, ◌-◌, ◌^◌, ◌<◌, ◌≤◌, List, [], ◌∷◌, ◌++◌, length, Option, option_map}
 use Rattle.std.specs.List.{concat}
-use Rattle.std.specs.Io.KnownBytes.{Appends, Keeps}
+use Rattle.std.specs.Io.KnownBytes.{Appends}
 use Rattle.sg_outside.specs.Faults.{Rose}
 use Rattle.sg_links.specs.Board.{Board, listens}
 use Rattle.sg_keeper.specs.declared.rows.Rows.{Rows}
 use Rattle.sg_keeper.specs.declared.setup.Setup.{Setup}
 use Rattle.sg_histories.specs.Histories.{Entry}
 use Rattle.sg_histories.specs.KeptRows.{rows_of}
+use Rattle.sg_histories.specs.Standing.{StandsFor}
+use Rattle.sg_histories.specs.declared.kept.Kept.{Kept}
 use Rattle.sg_station.specs.Calls.{AreServed, Call, TakesKnown, failures_in, lines_in, stores_in}
 use Rattle.sg_station.specs.declared.station.Ending.{Ending}
 use Rattle.sg_station.specs.declared.station.Ending.TheVariants as ending
@@ -67,7 +69,7 @@ pub record StaysShut (how : Ending) (tells : Type 0) (rows after : Rows) (before
   pub cause : ((how ≡ ending.NoMemory) × (now.link_faults ≡ before.link_faults))
       ⊎ ((how ≡ ending.LinkFault) × Rose before.link_faults now.link_faults)
   pub board : now.board ≡ before.board
-  pub written : Keeps before.written now.written
+  pub written : now.written ≡ before.written
   pub rows_are : tells → after ≡ rows
   pub write_faults : now.write_faults ≡ before.write_faults
   pub keep_faults : now.keep_faults ≡ before.keep_faults
@@ -76,10 +78,12 @@ pub record StaysShut (how : Ending) (tells : Type 0) (rows after : Rows) (before
 abbrev pub listening : ℕ → Scene → Scene
 listening port scene = record scene { board = option_map (listens port) scene.board }
 
--- how `serve` ended, from an office on: the port was listened on and connections served, or nothing was done
-abbrev pub ServesPort : Ending → Setup → List Entry → ℕ → ℕ → (tells : Type 0) → Rows → Rows → Scene → Scene → Type 0
-ServesPort how setup history port count tells rows after before now =
-    ServesCalls how setup history count tells rows after (listening port before) now ⊎ StaysShut how tells rows after before now
+-- how `serve` ended, from an office on: the port was listened on, and connections were served by a talk from each history
+-- that the office stands for; or nothing was done
+abbrev pub ServesPort : Ending → Kept → ℕ → ℕ → (tells : Type 0) → Rows → Rows → Scene → Scene → Type 0
+ServesPort how office port count tells rows after before now =
+    ((history : List Entry) → StandsFor office history → ServesCalls how office.setup history count tells rows after (listening port before) now)
+    ⊎ StaysShut how tells rows after before now
 
 -- the status that the program ends with
 abbrev pub ending_status : Ending → ℕ

@@ -1,6 +1,8 @@
 //! The command `serve`: connections are taken and served one after another, and each has its line.
 #![tactic(auto)]
 
+mod serving;
 mod station;
 
+pub use serving::serve;
 pub use station::{Ending, ending_status, serve_calls};

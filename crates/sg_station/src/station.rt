@@ -162,8 +162,7 @@ pub fn serve_calls<L: Links, K: Keeper, O: Sink>(
     out: &mut O,
 ) -> Ending
     requires { L.is_open links.old ≡ false }
-    ensures serves { (history : List Entry) → StandsFor office.old history
-        → ServesPort result office.old.setup history port count (K.tells keeper.old) (K.rows keeper.old) (K.rows keeper.new)
+    ensures serves { ServesPort result office.old port count (K.tells keeper.old) (K.rows keeper.old) (K.rows keeper.new)
         (record { board = L.board links.old; written = O.written out.old; link_faults = L.faults links.old; write_faults = O.faults out.old; keep_faults = K.faults keeper.old })
         (record { board = L.board links.new; written = O.written out.new; link_faults = L.faults links.new; write_faults = O.faults out.new; keep_faults = K.faults keeper.new }) }
     ensures closed { L.is_open links.new ≡ false }

@@ -27,15 +27,19 @@ pub record HasAnswered (setup : Setup) (office : Kept) (tells : Type 0) (rows af
   pub stands : StandsFor office next
   pub kept : tells → (text : List ℕ) → rows ≡ rows_of setup text history → after ≡ rows_of setup text next
 
--- An office was asked for a look after this history, and shows it so, by a turn of the talk. The office then stands for the
--- next history, and the kept rows follow where they are told.
-pub record HasShown (setup : Setup) (office : Kept) (tells : Type 0) (rows after : Rows) (seen : Look) (answer : Answered) (history : List Entry) : Type 0 where
+-- An office was asked this after this history, and replies so, by a turn of the talk. The office then stands for the next
+-- history, and the kept rows follow where they are told.
+pub record HasReplied (setup : Setup) (office : Kept) (tells : Type 0) (rows after : Rows) (asked : Ask) (answer : Answered) (history : List Entry) : Type 0 where
   pub next : List Entry
   pub said : Reply
   pub is : answer ≡ answered.Reply said
-  pub turn : AskTurn setup history (ask.See seen) said next
+  pub turn : AskTurn setup history asked said next
   pub stands : StandsFor office next
   pub kept : tells → (text : List ℕ) → rows ≡ rows_of setup text history → after ≡ rows_of setup text next
+
+-- it was asked for a look
+abbrev pub HasShown : Setup → Kept → (tells : Type 0) → Rows → Rows → Look → Answered → List Entry → Type 0
+HasShown setup office tells rows after seen answer history = HasReplied setup office tells rows after (ask.See seen) answer history
 
 -- where the answer says that the keeper failed, its count of faults rose, unless that stands at its last value
 abbrev pub CountsStore : ℕ → ℕ → Answered → Type 0

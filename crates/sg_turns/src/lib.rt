@@ -4,4 +4,4 @@
 pub mod laws;
 mod turns;
 
-pub use turns::{answer_to, show_to, version_of};
+pub use turns::{answer_to, reply_to, show_to, version_of};

@@ -8,7 +8,7 @@ ghost use Rattle.sg_histories.specs.Standing.{IsAsk, StandsFor};
 ghost use Rattle.sg_keeper.specs.declared.setup.Setup.{Setup as SetupSeen};
 ghost use Rattle.sg_lines.specs.Words.{IsBytes};
 ghost use Rattle.sg_talk.specs.Answers.{IsWritable};
-ghost use Rattle.sg_turns.specs.Turns.{CountsStore, HasAnswered, HasShown};
+ghost use Rattle.sg_turns.specs.Turns.{CountsStore, HasAnswered, HasReplied, HasShown};
 
 use sg_asks::{AskFault, ask_of};
 use sg_keeper::{Act, Ask, Keeper, Look};
@@ -113,6 +113,28 @@ pub fn answer_to<K: Keeper>(
     }
 }
 
+/// Answers an ask that can come: the office's reply to it.
+///
+/// Where memory is wanted, or the keeper fails, the reply says so.
+pub fn reply_to<K: Keeper>(
+    alloc: Global,
+    office: &mut Office,
+    keeper: &mut K,
+    ask: &Ask,
+) -> Answered
+    requires { IsAsk office.old.setup ask.now }
+    ensures told { K.tells keeper.old → K.tells keeper.new }
+    ensures replies { (history : List Entry) → StandsFor office.old history
+        → HasReplied office.old.setup office.new (K.tells keeper.old) (K.rows keeper.old) (K.rows keeper.new) ask.now result history }
+    ensures writable { IsWritable office.old.setup.plan.version result }
+    ensures setup { office.new.setup ≡ office.old.setup }
+    ensures stores { CountsStore (K.faults keeper.old) (K.faults keeper.new) result }
+    ensures later { K.faults keeper.old ≤ K.faults keeper.new }
+{
+    office.office_law();
+    Answered::Reply(office.answer(alloc, keeper, ask))
+}
+
 /// Answers a look: the office's reply to it.
 ///
 /// The office is as before. Where memory is wanted, the reply says so.
@@ -130,6 +152,5 @@ pub fn show_to<K: Keeper>(
     ensures stores { CountsStore (K.faults keeper.old) (K.faults keeper.new) result }
     ensures later { K.faults keeper.old ≤ K.faults keeper.new }
 {
-    office.office_law();
-    Answered::Reply(office.answer(alloc, keeper, &Ask::See(look)))
+    reply_to(alloc, office, keeper, &Ask::See(look))
 }

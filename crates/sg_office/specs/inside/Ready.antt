@@ -1,5 +1,5 @@
 -- What is made ready before an act is kept.
-use Rattle.std.specs.Prelude.{◌≡◌, ℕ, ◌-◌, ◌≤◌, List, [], ◌∷◌, ◌++◌, length, insert, slice_set}
+use Rattle.std.specs.Prelude.{◌≡◌, ℕ, ◌-◌, ◌≤◌, List, [], ◌∷◌, ◌++◌, slice_set}
 use Rattle.sg_plan.specs.Ballots.{ballots_of}
 use Rattle.sg_plan.specs.declared.plan.Fate.TheVariants as fate
 use Rattle.sg_plan.specs.declared.plan.Plan.{Plan}
@@ -35,16 +35,10 @@ part_of slots station (act.Void ballot) = part.Ballot ballot (record { fate = fa
 abbrev pub act_change : ℕ → ℕ → Stamp → Act → Change
 act_change version claims stamp asked = record { row = row_of_act version claims asked; done = done_row version (entry_of stamp asked) }
 
--- the part, the change and its row of what was done
+-- the part and the change
 pub record IsReady (ready : Ready) (changed : Part) (change : Change) : Type 0 where
   pub part_is : ready.part ≡ changed
   pub change_is : ready.change ≡ change
-  pub done_is : ready.done ≡ change.done
-
--- the place at which the row of an act goes among those of others, by its key
-pub record IsPlace (dones : List DoneRow) (place : ℕ) (done : DoneRow) : Type 0 where
-  pub within : place ≤ length dones
-  pub put_is : insert dones place done ≡ put done_before done dones
 
 -- what is kept when a part was changed and an act was done
 abbrev pub with_part : Kept → Part → DoneRow → Kept

@@ -9,6 +9,7 @@ use Rattle.sg_histories.specs.Histories.{Entry}
 use Rattle.sg_histories.specs.KeptRows.{rows_of}
 use Rattle.sg_histories.specs.Standing.{StandsFor}
 use Rattle.sg_histories.specs.declared.kept.Kept.{Kept}
+use Rattle.sg_http.specs.Leads.{TakesFew}
 use Rattle.sg_http.specs.Visits.{Ends, stored}
 use Rattle.sg_station.specs.Calls.{Call, TakesKnown, failed, line_of}
 use Rattle.sg_station.specs.Serves.{Scene}
@@ -26,6 +27,7 @@ WroteLine step.LinkFault line before now faults later = ⊥
 pub record Stepped (how : Step) (setup : Setup) (office : Kept) (tells : Type 0) (rows after : Rows) (history : List Entry) (before now : Scene) : Type 0 where
   pub call : Call
   pub next : List Entry
+  pub few : TakesFew call.taken
   pub ends : Ends call.how setup call.taken call.is_ended call.sent call.said history next
   pub stands : StandsFor office next
   pub kept : tells → (text : List ℕ) → rows ≡ rows_of setup text history → after ≡ rows_of setup text next

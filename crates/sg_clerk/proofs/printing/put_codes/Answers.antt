@@ -3,7 +3,7 @@ use Rattle.std.proofs.Common.{◌+◌, ◌<◌, ◌≤◌, ◌∷◌, ◌++◌, 
 use Rattle.sg_lines.specs.Words.{code_word}
 use Rattle.sg_plan.specs.Ballots.{candidates_of}
 use Rattle.sg_tables.specs.Tables.{codes_of_row}
-use Rattle.sg_clerk.specs.Sheet.{code_words}
+use Rattle.sg_sheet.specs.Sheet.{code_words}
 use Rattle.sg_clerk.proofs.Sheets.{line_end, line_step, row_next, row_over}
 use Rattle.sg_clerk.proofs.printing.put_codes.Goals as goal
 

@@ -1,7 +1,7 @@
 -- The codes so far were put, and those that are left give all.
 use Rattle.std.proofs.Common.{◌≡◌, ◌++◌, drop}
 use Rattle.sg_tables.specs.Tables.{codes_of_row}
-use Rattle.sg_clerk.specs.Sheet.{code_words}
+use Rattle.sg_sheet.specs.Sheet.{code_words}
 use Rattle.sg_clerk.proofs.printing.put_codes.Given as goal
 
 abbrev pub invariant-loop-candidate : goal.invariant-loop-candidate

@@ -24,6 +24,7 @@ loop-at-preserved g c =
     record {
       low = omega arith;
       high = search rules;
+      most = omega (arith, c.in-Ok.ensures.ok.bounds);
       same = search rules;
       front = front_kept _ c.loop-at.buf c.read_more.new.buf _ c.loop-at.at c.loop-at.invariant.low c.in-Ok.ensures.ok.front c.loop-at.invariant.front;
       opened = search rules;

@@ -1,10 +1,7 @@
-use Rattle.std.proofs.Common.{ap, sym, ◌∙◌, subst}
-use Rattle.sg_keeper.specs.Laws.{Rises}
-use Rattle.sg_keeper.specs.Rows.{done_before}
+use Rattle.std.proofs.Common.{ap, sym, ◌∙◌}
 use Rattle.sg_histories.specs.declared.kept.Kept.{Kept}
 use Rattle.sg_histories.specs.Standing.{text_at}
 use Rattle.sg_histories.proofs.OutDones.{true_not_false}
-use Rattle.sg_office.proofs.Halving.{office_rises}
 use Rattle.sg_office.proofs.Repeats.{repeat_fits, repeat_other, repeat_same}
 use Rattle.sg_office.proofs.office.Office.repeat.Goals as goal
 
@@ -13,9 +10,6 @@ body-requires c =
     repeat_fits c.args.self.now c.office_law.ensures.history c.args.stamp.now c.args.act.now c.in-Some.kept.now c.texts_law.ensures c.office_law.ensures.limits c.requires.numbers c.requires.act c.office_law.ensures.stands
     (ap (λ (k : Kept). text_at c.args.stamp.now.station c.args.stamp.now.number k.dones) (sym c.self.view_is) ∙ sym c.in-Some.ensures)
     (c.equals.ensures.0 c.if-equals.true ∙ c.requires.text)
-
-pub text_at-requires : goal.text_at-requires
-text_at-requires c = subst (λ (k : Kept). Rises done_before k.dones) (sym c.self.view_is) (office_rises c.args.self.now c.office_law.ensures)
 
 pub returns-in_ok-body-in-Some : goal.returns-in_ok-body-in-Some
 returns-in_ok-body-in-Some c = λ history stands.

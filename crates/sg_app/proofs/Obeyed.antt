@@ -1,0 +1,31 @@
+-- What is said of the command that was run is said of the one that the words ask for; and what is said where memory for the
+-- words was wanted.
+use Rattle.std.proofs.Common.{◌≡◌, ℕ, Some, inl, inr, refl, subst}
+use Rattle.std.specs.Prelude.{Option}
+use Rattle.sg_outside.proofs.StreamLemmas.{Keeps-refl}
+use Rattle.sg_keeper.specs.declared.rows.Rows.{Rows}
+use Rattle.sg_words.specs.declared.command.Command.{Command}
+use Rattle.sg_words.specs.declared.command.Command.TheVariants as command
+use Rattle.sg_app.specs.Outside.{Outside}
+use Rattle.sg_app.specs.inside.Obeying.{CommandSays}
+use Rattle.sg_app.proofs.Judging.{took_nothing}
+
+-- they are one
+pub asked_is : (here asked : Command) (found : Option Command) → Some here ≡ found → found ≡ Some asked → here ≡ asked
+asked_is here asked found is said = cc
+
+pub says_for : (here asked : Command) (found : Option Command) (status : ℕ) (tells : Type 0) (rows rows' : Rows) (before now : Outside) → Some here ≡ found → found ≡ Some asked
+    → CommandSays here status tells rows rows' before now → CommandSays asked status tells rows rows' before now
+says_for here asked found status tells rows rows' before now is said says =
+    subst (λ (a : Command). CommandSays a status tells rows rows' before now) (asked_is here asked found is said) says
+
+-- where memory was wanted, and nothing was done
+pub memory_says : (asked : Command) (tells : Type 0) (rows : Rows) (now : Outside) → CommandSays asked 9 tells rows rows now now
+memory_says command.Audit tells rows now = inr (inr (inr (inr (refl, record { taken = took_nothing now.left; written = Keeps-refl now.written }))))
+memory_says command.Init tells rows now = inr (inr (inr (inr (inr (refl, record { same = λ _. refl; quiet = refl })))))
+memory_says command.Sheet tells rows now = inr (inr (inr (inr (inr (refl, inl refl)))))
+memory_says command.Do tells rows now = inr (record { unread = refl; no_fault = refl; same = λ _. refl; says = inr (inr (inr (inr (refl, refl)))) })
+memory_says command.Scans tells rows now = inr (record { unread = refl; no_fault = refl; same = λ _. refl; says = inr (inr (inr (inr (refl, refl)))) })
+memory_says (command.Serve asked) tells rows now = inr (inr (record { board = refl; no_fault = refl; same = λ _. refl; says = inr (inr (inr (inr (refl, refl)))) }))
+memory_says command.Record tells rows now = inr (inr (inr (inr (inr (refl, inl refl)))))
+memory_says (command.Sample asked) tells rows now = inr (inr (refl, refl))

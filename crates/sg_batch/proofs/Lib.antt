@@ -1,0 +1,4 @@
+-- The proofs.
+mod ScanEnds
+mod ScanGoes
+mod ScanLists

@@ -1,0 +1,5 @@
+-- The modules of definitions.
+pub mod DoesScans
+pub mod ScansAsked
+pub mod ScansEnds
+pub mod inside

@@ -1,0 +1,82 @@
+//! The input of `scans`: a scanner's file, which is read whole before any scan in it is answered.
+ghost use Rattle.std.specs.Prelude.{◌≡◌, ◌+◌, ◌≤◌, IfOk, Some, length, vec_len};
+ghost use Rattle.sg_outside.specs.Streams.{seen};
+ghost use Rattle.sg_batch.specs.ScansEnds.{longest_file};
+ghost use Rattle.sg_batch.specs.inside.ScanSteps.{IsScanFile, ReadsScans};
+
+use sg_clerk::fill;
+use sg_outside::Source;
+use sg_plan::{Items, NoMemory};
+use sg_scans::{ScanLine, ScansFault, read_scans};
+use std::alloc::Global;
+
+/// The most bytes of a scanner's file.
+const LONGEST_FILE: usize = 16_777_216;
+
+/// Why a scanner's file is refused.
+#[derive(Clone, Copy, Debug, PartialEq, Eq)]
+pub enum ScansRefusal {
+    /// It has more than 16,777,216 bytes.
+    Size,
+    /// Its first record is not `station,secret,ref,ballot,marks`.
+    Header,
+    /// More than 100,000 records stand behind the first one.
+    Count,
+}
+
+/// What an input is.
+#[derive(Debug, Drop)]
+pub enum ScanFile {
+    /// A scanner's file with these records behind its first one.
+    Scans(Items<ScanLine>),
+    /// None, for this cause.
+    Bad(ScansRefusal),
+    /// Not read: a read failed.
+    Fault,
+    /// Not read: memory was wanted and not found.
+    NoMemory,
+}
+
+/// What bytes of the right number are.
+fn scans_in(alloc: Global, bytes: &[u8]) -> ScanFile
+    requires { length bytes.now ≤ longest_file }
+    ensures { IsScanFile result (Some bytes.now) }
+{
+    match read_scans(alloc, bytes) {
+        Ok(lines) => ScanFile::Scans(lines),
+        Err(ScansFault::Header) => ScanFile::Bad(ScansRefusal::Header),
+        Err(ScansFault::Count) => ScanFile::Bad(ScansRefusal::Count),
+        Err(ScansFault::NoMemory) => ScanFile::NoMemory,
+    }
+}
+
+/// So many bytes of 0.
+fn zeros(alloc: Global, count: usize) -> Result<Vec<u8>, NoMemory>
+    ensures { IfOk result (λ room. vec_len room ≡ count) }
+{
+    Ok(vec![in alloc; 0; count]?)
+}
+
+/// Reads a file into a buffer with room for the longest one and a byte more.
+fn read_scans_into<S: Source>(alloc: Global, buf: &mut [u8], input: &mut S) -> ScanFile
+    requires { length buf.old ≡ longest_file + 1 }
+    ensures { ReadsScans result (seen (S.left input.old) (S.faults input.old)) (seen (S.left input.new) (S.faults input.new)) }
+{
+    let Ok(count) = fill(buf, input) else {
+        return ScanFile::Fault;
+    };
+    if count > LONGEST_FILE {
+        return ScanFile::Bad(ScansRefusal::Size);
+    }
+    scans_in(alloc, &buf[..count])
+}
+
+/// Reads a file: at most as many bytes as it may have, and one more to know that there are more.
+pub(crate) fn read_scan_file<S: Source>(alloc: Global, input: &mut S) -> ScanFile
+    ensures { ReadsScans result (seen (S.left input.old) (S.faults input.old)) (seen (S.left input.new) (S.faults input.new)) }
+{
+    let Ok(mut buf) = zeros(alloc, LONGEST_FILE + 1) else {
+        return ScanFile::NoMemory;
+    };
+    read_scans_into(alloc, &mut buf, input)
+}

@@ -1,0 +1,35 @@
+//! `scans`: the records of a scanner's file are asks of the office, and each is answered by a line.
+ghost use Rattle.std.specs.Prelude.{◌≡◌, ◌≤◌};
+ghost use Rattle.sg_batch.specs.ScansAsked.{ScansSay};
+
+use crate::answering::{do_scans, scans_status};
+use sg_clerk::{Opened, Shown, open_kept, show_damage, show_empty, shown_status};
+use sg_keeper::Keeper;
+use sg_outside::{Sink, Source};
+use std::alloc::Global;
+
+/// Opens the office of the keeper's rows and answers the records of the scanner's file that the input is, as [`do_scans`]
+/// does. Where there is no office, nothing is read. Answers the status that the program ends with.
+pub fn answer_scans<S: Source, K: Keeper, O: Sink>(
+    alloc: Global,
+    input: &mut S,
+    keeper: &mut K,
+    out: &mut O,
+) -> u8
+    ensures says { ScansSay result (K.tells keeper.old) (K.rows keeper.old) (K.rows keeper.new)
+        (record { left = S.left input.old; written = O.written out.old; read_faults = S.faults input.old; write_faults = O.faults out.old; keep_faults = K.faults keeper.old })
+        (record { left = S.left input.new; written = O.written out.new; read_faults = S.faults input.new; write_faults = O.faults out.new; keep_faults = K.faults keeper.new }) }
+    ensures told { K.tells keeper.old → K.tells keeper.new }
+{
+    match open_kept(alloc, keeper) {
+        Opened::Office(office) => {
+            office.office_law();
+            let mut office = office;
+            scans_status(do_scans(alloc, &mut office, input, keeper, out))
+        }
+        Opened::LoadFault => shown_status(Shown::LoadFault),
+        Opened::Empty => shown_status(show_empty(out)),
+        Opened::Damaged(table, row) => shown_status(show_damage(alloc, table, row, out)),
+        Opened::NoMemory => shown_status(Shown::NoMemory),
+    }
+}

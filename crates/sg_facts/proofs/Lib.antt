@@ -1,0 +1,6 @@
+-- The proofs of facts.
+pub mod Facts
+pub mod Finding
+pub mod Sections
+pub mod Tabling
+pub mod Totals

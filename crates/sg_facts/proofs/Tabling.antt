@@ -1,0 +1,312 @@
+-- How a table of codes is filled.
+use Rattle.std.proofs.Common.{◌≡◌, ◌≢◌, ℕ, zero, suc, ◌+◌, ◌-◌, ◌<◌, ◌==◌, ◌⊎◌, nat_lt, Bool, true, false, ◌&&◌, cond, inl, inr, List, [], ◌∷◌, ◌++◌, length, replicate, Option, Some, None, refl, sym, subst, ap, ◌∙◌, arith}
+use Rattle.std.specs.Option.{option_and_then, option_map, option_map_or}
+use Rattle.std.specs.Prelude.{IsSome, slice_get, slice_set}
+use Rattle.std.proofs.lemmas.Bool.{and_parts, cases_eq, eq-eqb, eqb-true, lt-ltb, ne_eqb}
+use Rattle.std.proofs.lemmas.Option.{same_Some, slice_get_within}
+use Rattle.std.specs.List.{list_all}
+use Rattle.sg_plan.specs.Ballots.{ballot_has, candidates_of, entries_of, entry_at}
+use Rattle.sg_plan.specs.declared.plan.Plan.{Plan}
+use Rattle.sg_forms.specs.declared.line.CodeLine.{CodeLine}
+use Rattle.sg_grammar.specs.Due.{ballot_codes, code_line, each, race_codes}
+use Rattle.sg_grammar.specs.Walk.{in_order, is_column, is_later}
+use Rattle.sg_grammar.specs.declared.state.Block.{Block}
+use Rattle.sg_grammar.specs.declared.state.Block.TheVariants as block
+use Rattle.sg_grammar.specs.declared.state.Slot.{Slot}
+use Rattle.sg_grammar.specs.declared.state.Slot.TheVariants as slot
+use Rattle.sg_plan.specs.Codes.{is_code}
+use Rattle.sg_record.specs.Formed.{are_blocks, are_due, are_marks, are_overs, is_dispute, is_due, is_fate}
+use Rattle.sg_record.specs.declared.record.BallotBlock.{BallotBlock}
+use Rattle.sg_record.specs.declared.record.BlockFate.TheVariants as fate
+use Rattle.sg_record.specs.declared.record.DisputeBlock.{DisputeBlock}
+use Rattle.sg_check.specs.Facts.{first_given}
+use Rattle.sg_post.proofs.Each.{EachOf, of-numbered}
+use Rattle.sg_facts.specs.Items.{item_in}
+use Rattle.sg_facts.specs.Listed.{code_shown}
+use Rattle.sg_facts.specs.Tables.{HasTable}
+use Rattle.sg_facts.specs.inside.Putting.{AreDisputes, AreFates, AreOwn, IsSized, Puts, or_code, put_at, told, with_first}
+use Rattle.sg_facts.proofs.Finding.{given-append}
+
+-- ONE LIST
+
+-- what stands in a list in which one item was set
+pub set_get : {A : Type 0} (xs : List A) (i j : ℕ) (v : A) → i < length xs → slice_get (slice_set xs i v) j ≡ cond (i == j) (Some v) (slice_get xs j)
+set_get [] i j v less = absurd (omega (arith, less))
+set_get (x ∷ xs) zero zero v less = refl
+set_get {A} (x ∷ xs) zero (suc j) v less = sym (ap (λ (b : Bool). cond b (Some v) (slice_get xs j)) (ne_eqb 0 (suc j) (λ e. omega (arith, e))))
+set_get {A} (x ∷ xs) (suc i) zero v less = sym (ap (λ (b : Bool). cond b (Some v) (Some x)) (ne_eqb (suc i) 0 (λ e. omega (arith, e))))
+set_get (x ∷ xs) (suc i) (suc j) v less = set_get xs i j v (omega (arith, less)) ∙ ap (λ (b : Bool). cond b (Some v) (slice_get xs j)) (same i j)
+  where
+    same : (a b : ℕ) → (a == b) ≡ (suc a == suc b)
+    same a b = elim (cases_eq a b) [
+      | inl e ↦ eq-eqb a b e ∙ sym (eq-eqb (suc a) (suc b) (ap suc e))
+      | inr n ↦ ne_eqb a b n ∙ sym (ne_eqb (suc a) (suc b) (λ e. n (omega (arith, e))))
+    ]
+
+pub push_get : {A : Type 0} (xs : List A) (x : A) (j : ℕ) → j < length xs → slice_get (xs ++ x ∷ []) j ≡ slice_get xs j
+push_get [] x j less = absurd (omega (arith, less))
+push_get (y ∷ xs) x zero less = refl
+push_get (y ∷ xs) x (suc j) less = push_get xs x j (omega (arith, less))
+
+pub push_last : {A : Type 0} (xs : List A) (x : A) (j : ℕ) → j ≡ length xs → slice_get (xs ++ x ∷ []) j ≡ Some x
+push_last [] x zero same = refl
+push_last [] x (suc j) same = absurd (omega (arith, same))
+push_last (y ∷ xs) x zero same = absurd (omega (arith, same))
+push_last (y ∷ xs) x (suc j) same = push_last xs x j (omega (arith, same))
+
+pub fill_get : {A : Type 0} (x : A) (n j : ℕ) → j < n → slice_get (replicate n x) j ≡ Some x
+fill_get x zero j less = absurd (omega (arith, less))
+fill_get x (suc n) zero less = refl
+fill_get x (suc n) (suc j) less = fill_get x n j (omega (arith, less))
+
+pub get_there : {A : Type 0} (xs : List A) (i : ℕ) → i < length xs → (x : A) × (slice_get xs i ≡ Some x)
+get_there [] i less = absurd (omega (arith, less))
+get_there (x ∷ xs) zero less = (x, refl)
+get_there (x ∷ xs) (suc i) less = get_there xs i (omega (arith, less))
+
+-- a code is put, unless one stands there
+pub first_is : (codes : List (Option ℕ)) (entry code : ℕ) (kept : Option ℕ) → slice_get codes entry ≡ Some kept → with_first codes entry code ≡ put_at codes entry code kept
+first_is codes entry code kept is = ap (λ (o : Option (Option ℕ)). put_at codes entry code (option_map_or (λ k. k) o None)) is
+
+first_get : (codes : List (Option ℕ)) (entry code e : ℕ) → entry < length codes → slice_get (with_first codes entry code) e ≡ cond (entry == e) (option_map (or_code code) (slice_get codes e)) (slice_get codes e)
+first_get codes entry code e less =
+    let found = get_there codes entry less in
+    ap (λ (l : List (Option ℕ)). slice_get l e) (first_is codes entry code found.0 found.1) ∙ at_kept found.0 found.1
+  where
+    at_kept : (kept : Option ℕ) → slice_get codes entry ≡ Some kept → slice_get (put_at codes entry code kept) e ≡ cond (entry == e) (option_map (or_code code) (slice_get codes e)) (slice_get codes e)
+    at_kept None is = set_get codes entry e (Some code) less ∙ at_place (entry == e) refl
+      where
+        at_place : (b : Bool) → (entry == e) ≡ b → cond b (Some (Some code)) (slice_get codes e) ≡ cond b (option_map (or_code code) (slice_get codes e)) (slice_get codes e)
+        at_place false d = refl
+        at_place true d = sym (ap (option_map (or_code code)) (ap (slice_get codes) (sym (eqb-true entry e d)) ∙ is))
+    at_kept (Some k) is = at_place (entry == e) refl
+      where
+        at_place : (b : Bool) → (entry == e) ≡ b → slice_get codes e ≡ cond b (option_map (or_code code) (slice_get codes e)) (slice_get codes e)
+        at_place false d = refl
+        at_place true d =
+            let here : slice_get codes e ≡ Some (Some k) = ap (slice_get codes) (sym (eqb-true entry e d)) ∙ is in
+            here ∙ sym (ap (option_map (or_code code)) here)
+
+-- A TABLE
+
+pub some_outer : {A : Type 0} (table : List (List A)) (outer inner : ℕ) → IsSome (item_in table outer inner) → (items : List A) × (slice_get table outer ≡ Some items) × (inner < length items)
+some_outer {A} table outer inner some = at_outer (slice_get table outer) refl
+  where
+    at_outer : (o : Option (List A)) → slice_get table outer ≡ o → (items : List A) × (slice_get table outer ≡ Some items) × (inner < length items)
+    at_outer None e = let no = subst (λ (o : Option (List A)). IsSome (option_and_then (λ items. slice_get items inner) o)) e some in cc
+    at_outer (Some items) e = (items, e, within (slice_get items inner) refl (subst (λ (o : Option (List A)). IsSome (option_and_then (λ items. slice_get items inner) o)) e some))
+      where
+        within : (i : Option A) → slice_get items inner ≡ i → IsSome i → inner < length items
+        within (Some x) d s = slice_get_within items inner x d
+        within None d s = cc
+
+-- the codes of a race are taken out, one is put among them, and they are put back
+pub put_back : (table blank new : List (List (Option ℕ))) (codes codes' : List (Option ℕ)) (race entry code : ℕ) → IsSome (item_in table race entry) → slice_get table race ≡ Some codes
+    → blank ≡ slice_set table race [] → codes' ≡ with_first codes entry code → new ≡ slice_set blank race codes'
+    → (r e : ℕ) → item_in new r e ≡ cond (race == r && entry == e) (option_map (or_code code) (item_in table r e)) (item_in table r e)
+put_back table blank new codes codes' race entry code some is taken put back r e =
+    ap (option_and_then (λ items. slice_get items e)) (ap (λ (t : List (List (Option ℕ))). slice_get t r) back ∙ set_get blank race r codes' (longer blank taken))
+    ∙ at_race (race == r) refl
+  where
+    found : (items : List (Option ℕ)) × (slice_get table race ≡ Some items) × (entry < length items)
+    found = some_outer table race entry some
+
+    within : race < length table
+    within = slice_get_within table race codes is
+
+    set_length : (xs : List (List (Option ℕ))) (i : ℕ) (v : List (Option ℕ)) → length (slice_set xs i v) ≡ length xs
+    set_length [] i v = refl
+    set_length (x ∷ xs) zero v = refl
+    set_length (x ∷ xs) (suc i) v = ap suc (set_length xs i v)
+
+    longer : (b : List (List (Option ℕ))) → b ≡ slice_set table race [] → race < length b
+    longer b t = omega (arith, within, ap length t, set_length table race [])
+
+    short : entry < length codes
+    short = subst (λ (c : List (Option ℕ)). entry < length c) (same_Some found.0 codes (sym found.1 ∙ is)) found.2
+
+    at_race : (b : Bool) → (race == r) ≡ b → option_and_then (λ items. slice_get items e) (cond b (Some codes') (slice_get blank r))
+        ≡ cond (b && entry == e) (option_map (or_code code) (item_in table r e)) (item_in table r e)
+    at_race false d =
+        ap (option_and_then (λ items. slice_get items e))
+        (ap (λ (t : List (List (Option ℕ))). slice_get t r) taken ∙ (set_get table race r [] within ∙ ap (λ (b : Bool). cond b (Some []) (slice_get table r)) d))
+    at_race true d =
+        let here : item_in table r e ≡ slice_get codes e = ap (option_and_then (λ items. slice_get items e)) (ap (slice_get table) (sym (eqb-true race r d)) ∙ is) in
+        ap (λ (l : List (Option ℕ)). slice_get l e) put ∙ (first_get codes entry code e short ∙ ap (λ (x : Option (Option ℕ)). cond (entry == e) (option_map (or_code code) x) x) (sym here))
+
+-- A TABLE IN WHICH NOTHING STANDS
+
+pub record IsBlank (plan : Plan) (table : List (List (Option ℕ))) (races : ℕ) : Type 0 where
+  pub long : length table ≡ races
+  pub none : (race entry : ℕ) → race < races → entry < entries_of plan race → item_in table race entry ≡ Some None
+
+pub blank_more : (plan : Plan) (table table' : List (List (Option ℕ))) (race count : ℕ) → IsBlank plan table race → table' ≡ table ++ replicate count None ∷ [] → count ≡ entries_of plan race → IsBlank plan table' (race + 1)
+blank_more plan table table' race count blank grown many = record {
+  long = ap length grown ∙ omega (arith, blank.long, pushed table (replicate count None));
+  none = λ r e below within. ap (λ (t : List (List (Option ℕ))). item_in t r e) grown ∙ at_place r e (cases_eq r race) below within;
+}
+  where
+    pushed : (xs : List (List (Option ℕ))) (x : List (Option ℕ)) → length (xs ++ x ∷ []) ≡ length xs + 1
+    pushed [] x = refl
+    pushed (y ∷ xs) x = omega (arith, pushed xs x)
+
+    at_place : (r e : ℕ) → (r ≡ race) ⊎ (r ≢ race) → r < race + 1 → e < entries_of plan r → item_in (table ++ replicate count None ∷ []) r e ≡ Some None
+    at_place r e (inl same) below within =
+        ap (option_and_then (λ items. slice_get items e)) (push_last table (replicate count None) r (same ∙ sym blank.long)) ∙ fill_get None count e (omega (arith, within, many, ap (entries_of plan) same))
+    at_place r e (inr other) below within =
+        let less : r < race = omega (arith, below, other) in
+        ap (option_and_then (λ items. slice_get items e)) (push_get table (replicate count None) r (omega (arith, less, blank.long))) ∙ blank.none r e less within
+
+-- WHAT IS TOLD
+
+some_told : (x : Option (Option ℕ)) → IsSome x → x ≡ Some (option_map_or (λ k. k) x None)
+some_told (Some k) s = refl
+some_told None s = cc
+
+then_one : (kept : Option ℕ) (code : ℕ) → or_code code kept ≡ option_map_or Some kept (Some code)
+then_one None code = refl
+then_one (Some k) code = refl
+
+then_none : (kept : Option ℕ) → option_map_or Some kept None ≡ kept
+then_none None = refl
+then_none (Some k) = refl
+
+then_three : (a b c : Option ℕ) → option_map_or Some (option_map_or Some a b) c ≡ option_map_or Some a (option_map_or Some b c)
+then_three None b c = refl
+then_three (Some x) b c = refl
+
+-- one code is put
+pub one_sized : (plan : Plan) (old new : List (List (Option ℕ))) (race entry code : ℕ) → ((r e : ℕ) → item_in new r e ≡ cond (race == r && entry == e) (option_map (or_code code) (item_in old r e)) (item_in old r e))
+    → IsSized plan old → IsSized plan new
+one_sized plan old new race entry code is sized = λ r e within below.
+    subst (λ (x : Option (Option ℕ)). IsSome x) (sym (is r e)) (either (race == r && entry == e) (item_in old r e) (sized r e within below))
+  where
+    either : (b : Bool) (x : Option (Option ℕ)) → IsSome x → IsSome (cond b (option_map (or_code code) x) x)
+    either true (Some k) s = refl
+    either false (Some k) s = s
+    either b None s = cc
+
+pub one_puts : (plan : Plan) (old new : List (List (Option ℕ))) (ballot : ℕ) (code : CodeLine)
+    → ((r e : ℕ) → item_in new r e ≡ cond (code.race == r && entry_at plan code.race ballot code.column == e) (option_map (or_code code.code) (item_in old r e)) (item_in old r e))
+    → IsSized plan old → Puts plan old new (λ race entry. code_shown plan race entry ballot code)
+one_puts plan old new ballot code is sized = λ r e within below.
+    ap (λ (x : Option (Option ℕ)). option_map_or (λ k. k) x None) (is r e)
+    ∙ at_place (code.race == r && entry_at plan code.race ballot code.column == e) (item_in old r e) (sized r e within below)
+  where
+    at_place : (b : Bool) (x : Option (Option ℕ)) → IsSome x → option_map_or (λ k. k) (cond b (option_map (or_code code.code) x) x) None ≡ option_map_or Some (option_map_or (λ k. k) x None) (cond b (Some code.code) None)
+    at_place true (Some k) s = then_one k code.code
+    at_place false (Some k) s = sym (then_none k)
+    at_place b None s = cc
+
+pub none_put : (plan : Plan) (table : List (List (Option ℕ))) → Puts plan table table (λ race entry. None)
+none_put plan table = λ r e within below. sym (then_none (told table r e))
+
+pub puts_same : (plan : Plan) (old new : List (List (Option ℕ))) (f h : ℕ → ℕ → Option ℕ) → ((r e : ℕ) → f r e ≡ h r e) → Puts plan old new f → Puts plan old new h
+puts_same plan old new f h same puts = λ r e within below. puts r e within below ∙ ap (λ (o : Option ℕ). option_map_or Some (told old r e) o) (same r e)
+
+pub puts_both : (plan : Plan) (old mid new : List (List (Option ℕ))) (f h : ℕ → ℕ → Option ℕ) → Puts plan old mid f → Puts plan mid new h → Puts plan old new (λ r e. option_map_or Some (f r e) (h r e))
+puts_both plan old mid new f h one two = λ r e within below.
+    two r e within below ∙ (ap (λ (o : Option ℕ). option_map_or Some o (h r e)) (one r e within below) ∙ then_three (told old r e) (f r e) (h r e))
+
+-- those of one more item
+pub puts_more : {A : Type 0} (plan : Plan) (old mid new : List (List (Option ℕ))) (g : ℕ → ℕ → A → Option ℕ) (items front front' : List A) (x : A) → front' ≡ front ++ x ∷ []
+    → Puts plan old mid (λ r e. first_given (g r e) front) → Puts plan mid new (λ r e. g r e x) → Puts plan old new (λ r e. first_given (g r e) front')
+puts_more plan old mid new g items front front' x grown one two =
+    puts_same plan old new (λ r e. option_map_or Some (first_given (g r e) front) (g r e x)) (λ r e. first_given (g r e) front')
+    (λ r e. sym (ap (first_given (g r e)) grown ∙ (given-append (g r e) front (x ∷ []) ∙ ap (λ (o : Option ℕ). option_map_or Some (first_given (g r e) front) o) (then_none (g r e x)))))
+    (puts_both plan old mid new (λ r e. first_given (g r e) front) (λ r e. g r e x) one two)
+
+pub blank_sized : (plan : Plan) (table : List (List (Option ℕ))) → HasTable plan table (λ race entry. None) → IsSized plan table
+blank_sized plan table blank = λ r e within below. subst (λ (x : Option (Option ℕ)). IsSome x) (sym (blank r e within below)) refl
+
+-- a table in which nothing stood has what was put
+pub put_all : (plan : Plan) (blank table : List (List (Option ℕ))) (f value : ℕ → ℕ → Option ℕ) → HasTable plan blank (λ race entry. None) → IsSized plan table → Puts plan blank table f
+    → ((race entry : ℕ) → race < length plan.races → value race entry ≡ f race entry) → HasTable plan table value
+put_all plan blank table f value none sized puts same = λ r e within below.
+    some_told (item_in table r e) (sized r e within below)
+    ∙ ap (λ (o : Option ℕ). Some o)
+    (puts r e within below ∙ (ap (λ (x : Option (Option ℕ)). option_map_or Some (option_map_or (λ k. k) x None) (f r e)) (none r e within below) ∙ sym (same r e within)))
+
+-- CODES OF A BALLOT
+
+abbrev IsOwn : Plan → ℕ → CodeLine → Type 0
+IsOwn plan ballot code = is_column plan ballot code.race code.column ≡ true
+
+own_at : (plan : Plan) (ballot : ℕ) (codes : List CodeLine) → EachOf (IsOwn plan ballot) codes → AreOwn plan ballot codes
+own_at plan ballot [] all = λ at code is. absurd (omega (arith, slice_get_within [] at code is))
+own_at plan ballot (c ∷ codes) all = λ at code is. at_place (own_at plan ballot codes all.1) at code is
+  where
+    at_place : AreOwn plan ballot codes → (k : ℕ) (code : CodeLine) → slice_get (c ∷ codes) k ≡ Some code → IsOwn plan ballot code
+    at_place rest zero code is = subst (IsOwn plan ballot) (same_Some c code is) all.0
+    at_place rest (suc k) code is = rest k code is
+
+marks_own : (plan : Plan) (ballot race column : ℕ) (codes : List CodeLine) → are_marks plan ballot race column codes ≡ true → EachOf (IsOwn plan ballot) codes
+marks_own plan ballot race column [] e = tt
+marks_own plan ballot race column (code ∷ codes) e =
+    let parts = and_parts ((is_column plan ballot code.race code.column && in_order race column code.race code.column) && is_code plan code.code) (are_marks plan ballot code.race (code.column + 1) codes) e in
+    let first = and_parts (is_column plan ballot code.race code.column && in_order race column code.race code.column) (is_code plan code.code) parts.0 in
+    ((and_parts (is_column plan ballot code.race code.column) (in_order race column code.race code.column) first.0).0, marks_own plan ballot code.race (code.column + 1) codes parts.1)
+
+abbrev IsOwnSlot : Plan → ℕ → Slot → Type 0
+IsOwnSlot plan ballot (slot.Code kind of race column) = is_column plan ballot race column ≡ true
+IsOwnSlot plan ballot due = Unit {0}
+
+due_own : (plan : Plan) (ballot : ℕ) (slots : List Slot) (codes : List CodeLine) → EachOf (IsOwnSlot plan ballot) slots → are_due plan slots codes ≡ true → EachOf (IsOwn plan ballot) codes
+due_own plan ballot [] [] own e = tt
+due_own plan ballot [] (code ∷ codes) own e = cc
+due_own plan ballot (due ∷ slots) [] own e = cc
+due_own plan ballot (due ∷ slots) (code ∷ codes) own e =
+    let parts = and_parts (is_due plan due code) (are_due plan slots codes) e in
+    (of_slot due own.0 parts.0, due_own plan ballot slots codes own.1 parts.1)
+  where
+    of_slot : (s : Slot) → IsOwnSlot plan ballot s → is_due plan s code ≡ true → IsOwn plan ballot code
+    of_slot (slot.Code kind of race column) own d =
+        let is = and_parts (code.race == race) (code.column == column) (and_parts (code.race == race && code.column == column) (is_code plan code.code) d).0 in
+        rw (eqb-true code.race race is.0, eqb-true code.column column is.1) own
+    of_slot s own d = cc
+
+codes_own : (plan : Plan) (kind : Block) (ballot race : ℕ) → ballot_has plan ballot race ≡ true → EachOf (IsOwnSlot plan ballot) (race_codes plan kind ballot race)
+codes_own plan kind ballot race has =
+    of-numbered (IsOwnSlot plan ballot) (code_line kind ballot race) 0 (candidates_of plan race - 0) (λ column a b. (rw (has, lt-ltb column (candidates_of plan race) (omega (arith, b))) refl, tt))
+
+ballot_own : (plan : Plan) (ballot : ℕ) → EachOf (IsOwnSlot plan ballot) (each (ballot_codes plan ballot) 0 (length plan.races))
+ballot_own plan ballot = of-numbered (IsOwnSlot plan ballot) (ballot_codes plan ballot) 0 (length plan.races - 0) (λ race a b. of_race race (ballot_has plan ballot race) refl)
+  where
+    of_race : (race : ℕ) (b : Bool) → ballot_has plan ballot race ≡ b → EachOf (IsOwnSlot plan ballot) (cond b (race_codes plan block.Audited ballot race) [])
+    of_race race true e = codes_own plan block.Audited ballot race e
+    of_race race false e = tt
+
+pub cast_own : (plan : Plan) (ballot : ℕ) (codes : List CodeLine) (overs : List ℕ) → is_fate plan ballot (fate.Cast codes overs) ≡ true → AreOwn plan ballot codes
+cast_own plan ballot codes overs e = own_at plan ballot codes (marks_own plan ballot 0 0 codes (and_parts (are_marks plan ballot 0 0 codes) (are_overs plan ballot 0 overs) e).0)
+
+pub audited_own : (plan : Plan) (ballot : ℕ) (papers : List (List ℕ)) (codes : List CodeLine) → is_fate plan ballot (fate.Audited papers codes) ≡ true → AreOwn plan ballot codes
+audited_own plan ballot papers codes e =
+    own_at plan ballot codes (due_own plan ballot (each (ballot_codes plan ballot) 0 (length plan.races)) codes (ballot_own plan ballot) (and_parts _ (are_due plan (each (ballot_codes plan ballot) 0 (length plan.races)) codes) e).1)
+
+pub dispute_own : (plan : Plan) (one : DisputeBlock) → is_dispute plan one ≡ true → AreOwn plan one.ballot one.codes
+dispute_own plan one e =
+    let parts = and_parts ((nat_lt one.race (length plan.races) && ballot_has plan one.ballot one.race) && is_code plan one.code) (are_due plan (race_codes plan block.Dispute one.ballot one.race) one.codes) e in
+    let first = and_parts (nat_lt one.race (length plan.races) && ballot_has plan one.ballot one.race) (is_code plan one.code) parts.0 in
+    let has = (and_parts (nat_lt one.race (length plan.races)) (ballot_has plan one.ballot one.race) first.0).1 in
+    own_at plan one.ballot one.codes (due_own plan one.ballot (race_codes plan block.Dispute one.ballot one.race) one.codes (codes_own plan block.Dispute one.ballot one.race has) parts.1)
+
+pub blocks_fates : (plan : Plan) (last : ℕ) (blocks : List BallotBlock) → are_blocks plan last blocks ≡ true → AreFates plan blocks
+blocks_fates plan last [] e = λ at one is. absurd (omega (arith, slice_get_within [] at one is))
+blocks_fates plan last (b ∷ blocks) e =
+    let parts = and_parts (is_later plan last b.ballot && is_fate plan b.ballot b.fate) (are_blocks plan b.ballot blocks) e in
+    let here = (and_parts (is_later plan last b.ballot) (is_fate plan b.ballot b.fate) parts.0).1 in
+    λ at one is. at_place here (blocks_fates plan b.ballot blocks parts.1) at one is
+  where
+    at_place : is_fate plan b.ballot b.fate ≡ true → AreFates plan blocks → (k : ℕ) (one : BallotBlock) → slice_get (b ∷ blocks) k ≡ Some one → is_fate plan one.ballot one.fate ≡ true
+    at_place here rest zero one is = subst (λ (x : BallotBlock). is_fate plan x.ballot x.fate ≡ true) (same_Some b one is) here
+    at_place here rest (suc k) one is = rest k one is
+
+pub all_disputes : (plan : Plan) (blocks : List DisputeBlock) → list_all (is_dispute plan) blocks ≡ true → AreDisputes plan blocks
+all_disputes plan [] e = λ at one is. absurd (omega (arith, slice_get_within [] at one is))
+all_disputes plan (b ∷ blocks) e =
+    let parts = and_parts (is_dispute plan b) (list_all (is_dispute plan) blocks) e in
+    λ at one is. at_place parts.0 (all_disputes plan blocks parts.1) at one is
+  where
+    at_place : is_dispute plan b ≡ true → AreDisputes plan blocks → (k : ℕ) (one : DisputeBlock) → slice_get (b ∷ blocks) k ≡ Some one → is_dispute plan one ≡ true
+    at_place here rest zero one is = subst (λ (x : DisputeBlock). is_dispute plan x ≡ true) (same_Some b one is) here
+    at_place here rest (suc k) one is = rest k one is

@@ -1,0 +1,2 @@
+-- How a pass is fed.
+pub mod Feeds

@@ -1,0 +1,52 @@
+//! The verdict on a text in memory, in one pass.
+ghost use Rattle.std.specs.Prelude.{◌≡◌, ◌≤◌, List, IfOk, length, true};
+ghost use Rattle.sg_outside.specs.TextLines.{lines_of};
+ghost use Rattle.sg_check.specs.Verdict.{IsVerdict};
+ghost use Rattle.sg_pass.specs.Pass.{is_ready};
+ghost use Rattle.sg_judge.specs.inside.Feeding.{IsFed};
+
+use sg_check::Judged;
+use sg_outside::line_end;
+use sg_pass::{Pass, Step};
+use sg_plan::NoMemory;
+use std::alloc::Global;
+
+/// The verdict on the bytes of a record, as `sg_check::verdict` has it, in time linear in their number. Only want of
+/// memory is refused.
+pub fn judge(alloc: Global, text: &[u8]) -> Result<Judged, NoMemory>
+    ensures { IfOk result (λ judged. IsVerdict (lines_of text.now) judged) }
+{
+    let mut pass = Pass::new(alloc)?;
+    let mut at = 0;
+    while at < text.len() {
+        let end = line_end(text, at);
+        match pass.header_line(&text[at..end]) {
+            Ok(Step::More) => {}
+            Ok(Step::Ready) => return Ok(judge_behind(pass, text, end)),
+            Ok(Step::Over) => return Ok(pass.end()),
+            Err(NoMemory) => return Err(NoMemory),
+        }
+        at = end;
+    }
+    Ok(pass.end())
+}
+
+/// The verdict, where the lines before `start` were fed to the pass.
+fn judge_behind(pass: Pass, text: &[u8], start: usize) -> Judged
+    requires fed { IsFed pass text.now start }
+    requires ready { is_ready pass ≡ true }
+    ensures { IsVerdict (lines_of text.now) result }
+{
+    let mut pass = pass;
+    let mut at = start;
+    while at < text.len() {
+        let end = line_end(text, at);
+        match pass.line(&text[at..end]) {
+            Step::More => {}
+            Step::Ready => unreachable!(),
+            Step::Over => return pass.end(),
+        }
+        at = end;
+    }
+    pass.end()
+}

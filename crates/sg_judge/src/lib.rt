@@ -1,0 +1,6 @@
+//! The verdict on a public record in memory, in one pass over its bytes.
+#![tactic(auto)]
+
+mod judging;
+
+pub use judging::judge;

@@ -1,0 +1,10 @@
+pub mod Examples
+pub mod Exponent
+pub mod Halving
+pub mod Leading
+pub mod LedLaw
+pub mod Literal
+pub mod OddsLaw
+pub mod Rows
+pub mod Sections
+pub mod Wrong

@@ -1,0 +1,3 @@
+pub mod Coins
+pub mod Odds
+pub mod Opened

@@ -1,0 +1,109 @@
+-- The law of the odds: how many lists of coins a record with wrong totals passes by (this project's rules for the record).
+use Rattle.std.specs.Prelude.{◌≡◌, ℕ, zero, suc, ◌+◌, ◌-◌, ◌*◌, ◌^◌, ◌%◌, ◌<◌, ◌≤◌, ◌==◌, nat_le, min, max, Bool, true, false, ◌&&◌, ◌||◌, List, length, Some}
+use Rattle.std.specs.Option.{option_map_or}
+use Rattle.sg_plan.specs.Ballots.{candidates_of, entries_of}
+use Rattle.sg_plan.specs.declared.plan.Plan.{Plan}
+use Rattle.sg_plan.specs.declared.plan.Side.{Side}
+use Rattle.sg_plan.specs.declared.plan.Side.TheVariants as side
+use Rattle.sg_grammar.specs.Placed.{Placed}
+use Rattle.sg_grammar.specs.Placed.Placed.{TotalAt}
+use Rattle.sg_grammar.specs.Walk.{Walked, is_whole, start, walk}
+use Rattle.sg_check.specs.Facts.{is_marked, points_to}
+use Rattle.sg_grammar.specs.Lines.{placed_of}
+use Rattle.sg_grammar.specs.Lines.{IsAmong}
+use Rattle.sg_check.specs.Completions.{Completion, IsCompletion, any_below, is_row_misprinted}
+use Rattle.sg_check.specs.Printings.{IsPrinting, Printing, count_below, posted_codes}
+use Rattle.sg_facts.specs.Totals.{total_of}
+use Rattle.sg_odds.specs.Opened.{half_of, rows_due, ways}
+
+-- the completion has no pointer at this half, or one of n or more, or one that an earlier row has on this side
+abbrev pub is_half_lacking : Plan → Completion → Side → ℕ → ℕ → ℕ → Bool
+is_half_lacking plan completion on race instance row =
+    option_map_or (λ opening. nat_le (entries_of plan race) opening.value || any_below (λ earlier. points_to opening.value (completion on race instance earlier)) row) (completion on race instance row) true
+
+abbrev pub is_lacking : Plan → Completion → ℕ → ℕ → ℕ → Bool
+is_lacking plan completion race instance row = is_half_lacking plan completion side.Left race instance row || is_half_lacking plan completion side.Right race instance row
+
+-- no row of the instance is lacking: its n pointers of a side are all numbers below n, each once
+abbrev pub IsInstanceFull : Plan → Completion → ℕ → ℕ → Type 0
+IsInstanceFull plan completion race instance = (row : ℕ) → row < entries_of plan race → is_lacking plan completion race instance row ≡ false
+
+-- a completion with an opening at each half and all pointers once
+pub record IsFullCompletion (plan : Plan) (lines : List Placed) (completion : Completion) : Type 0 where
+  pub is_completion : IsCompletion plan lines completion
+  pub full : (race instance : ℕ) → race < length plan.races → instance < plan.instances → IsInstanceFull plan completion race instance
+
+-- the row has the left pointer of a marked entry, and a right pointer to a place of the candidate
+abbrev pub is_led : Plan → List Placed → Completion → ℕ → ℕ → ℕ → ℕ → Bool
+is_led plan lines completion race instance candidate row =
+    is_marked plan race (half_of completion side.Left race instance row).value lines
+    && (half_of completion side.Right race instance row).value % candidates_of plan race == candidate
+
+-- how many marked entries the rows of the instance lead to the candidate: a full completion has each entry on one row
+abbrev pub led : Plan → List Placed → Completion → ℕ → ℕ → ℕ → ℕ
+led plan lines completion race instance candidate = count_below (is_led plan lines completion race instance candidate) (entries_of plan race)
+
+-- how far two numbers are apart
+abbrev pub distance : ℕ → ℕ → ℕ
+distance a b = (a - b) + (b - a)
+
+-- the total of a candidate differs in each instance by at least so much from the marked entries that are led to it
+abbrev pub IsOffBy : Plan → List Placed → Completion → ℕ → ℕ → ℕ → ℕ → Type 0
+IsOffBy plan lines completion race candidate count least =
+    (instance : ℕ) → instance < plan.instances → least ≤ distance count (led plan lines completion race instance candidate)
+
+-- with a full completion, where a total is off by so much in each instance, at most one in two to this power, for each
+-- instance, of all lists of coins opens the record with no rule broken
+abbrev pub OddsBound : Type 0
+OddsBound = (lines : List (List ℕ)) (walked : Walked) → walk start lines ≡ Some walked
+    → (completion : Completion) → IsFullCompletion walked.next.plan (placed_of walked.posted) completion
+    → (race candidate count least : ℕ) → IsAmong (placed_of walked.posted) (TotalAt race candidate count)
+    → IsOffBy walked.next.plan (placed_of walked.posted) completion race candidate count least
+    → ways walked.next.plan (placed_of walked.posted) completion * 2 ^ (least * walked.next.plan.instances) ≤ 2 ^ length (rows_due walked.next.plan)
+
+-- where each marked entry's code is printed beside the candidate that its row leads to, as many are led to a candidate as
+-- codes are posted for it
+abbrev pub LedIsPosted : Type 0
+LedIsPosted = (lines : List (List ℕ)) (walked : Walked) → walk start lines ≡ Some walked
+    → (completion : Completion) → IsFullCompletion walked.next.plan (placed_of walked.posted) completion
+    → (printing : Printing) → IsPrinting walked.next.plan printing
+    → (race instance candidate : ℕ) → race < length walked.next.plan.races → instance < walked.next.plan.instances → candidate < candidates_of walked.next.plan race
+    → ((row : ℕ) → row < entries_of walked.next.plan race → is_row_misprinted walked.next.plan (placed_of walked.posted) completion printing race instance row ≡ false)
+    → led walked.next.plan (placed_of walked.posted) completion race instance candidate ≡ posted_codes walked.next.plan (placed_of walked.posted) printing race candidate
+
+-- THE EXPONENT
+
+-- the least of a number and of these
+abbrev pub least_with : ℕ → (ℕ → ℕ) → ℕ → ℕ
+least_with start value zero = start
+least_with start value (suc count) = min (least_with start value count) (value count)
+
+-- the greatest of these, and 0 where there is none
+abbrev pub greatest_below : (ℕ → ℕ) → ℕ → ℕ
+greatest_below value zero = 0
+greatest_below value (suc count) = max (greatest_below value count) (value count)
+
+-- how far the candidate's total is, in an instance, from the marked entries that are led to it
+abbrev pub gap : Plan → List Placed → Completion → ℕ → ℕ → ℕ → ℕ
+gap plan lines completion race candidate instance = distance (total_of lines race candidate) (led plan lines completion race instance candidate)
+
+-- in the instance where it is nearest
+abbrev pub least_gap : Plan → List Placed → Completion → ℕ → ℕ → ℕ
+least_gap plan lines completion race candidate = least_with (gap plan lines completion race candidate 0) (gap plan lines completion race candidate) plan.instances
+
+-- for each instance, the gap of the candidate that has the greatest
+abbrev pub exponent : Plan → List Placed → Completion → ℕ → ℕ
+exponent plan lines completion race = plan.instances * greatest_below (least_gap plan lines completion race) (candidates_of plan race)
+
+-- with a full completion a record passes by at most one in two to this power of all lists of coins
+abbrev pub ExponentBound : Type 0
+ExponentBound = (lines : List (List ℕ)) (walked : Walked) → walk start lines ≡ Some walked → is_whole walked.next ≡ true
+    → (completion : Completion) → IsFullCompletion walked.next.plan (placed_of walked.posted) completion
+    → (race : ℕ) → race < length walked.next.plan.races
+    → ways walked.next.plan (placed_of walked.posted) completion * 2 ^ exponent walked.next.plan (placed_of walked.posted) completion race ≤ 2 ^ length (rows_due walked.next.plan)
+
+-- all of these laws
+pub record OddsLaw : Type 0 where
+  pub bound : OddsBound
+  pub posted : LedIsPosted
+  pub exponent : ExponentBound

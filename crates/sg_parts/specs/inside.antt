@@ -1,0 +1,5 @@
+-- What only private clauses and proofs cite: no reader of a public contract need believe it.
+pub mod Checks
+pub mod Filling
+pub mod Reading
+pub mod Rows

@@ -1,0 +1,13 @@
+-- One more race is listed.
+use Rattle.std.proofs.Common.{[], ◌∷◌, sym, ◌∙◌}
+use Rattle.sg_record.specs.Places.{places_in}
+use Rattle.sg_parts.specs.Given.{printing_of}
+use Rattle.sg_recount.specs.Findings.{race_sums}
+use Rattle.sg_recount.proofs.Each.{each_none, each_one}
+use Rattle.sg_recount.proofs.sums.all_sums.Goals as goal
+
+pub loop-race-init : goal.loop-race-init
+loop-race-init c = c.new-sums.ensures ∙ sym (each_none (λ n. race_sums c.args.posted.now.plan (places_in c.args.posted.now) (printing_of c.args.lists.now) n ∷ []))
+
+pub loop-race-preserved : goal.loop-race-preserved
+loop-race-preserved c = each_one (λ n. race_sums c.args.posted.now.plan (places_in c.args.posted.now) (printing_of c.args.lists.now) n) c.loop-race.race c.loop-race.sums c.push.new.self c.in_ok-found.found c.loop-race.invariant c.in_ok-found.ensures c.in_ok-push.ensures.ok

@@ -1,0 +1,7 @@
+-- A race has few candidates.
+use Rattle.std.proofs.Common.{arith}
+use Rattle.sg_plan.proofs.PlanLaws.{bounds}
+use Rattle.sg_recount.proofs.sums.is_posted_for.Goals as goal
+
+pub overflow_cast-candidates : goal.overflow_cast-candidates
+overflow_cast-candidates c = omega (arith, (bounds c.args.posted.now.plan c.requires.good).few_candidates c.args.race, c.candidates-candidates.ensures)

@@ -1,0 +1,13 @@
+//! A recount: the altered rows of a record's completion, and the counts of posted codes.
+#![tactic(auto)]
+
+mod altered;
+mod counted;
+mod findings;
+mod looks;
+mod sums;
+
+pub use findings::{Findings, Sum, recount};
+pub use sg_parts::{
+    Completion, Parts, Printing, RecountFault, RowGiven, item_at, posted_half, read_parts, row_at,
+};

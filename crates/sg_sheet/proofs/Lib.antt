@@ -1,0 +1,4 @@
+-- The proofs of sheets.
+pub mod Cutting
+pub mod Listing
+pub mod Styles

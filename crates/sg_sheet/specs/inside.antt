@@ -1,0 +1,3 @@
+-- What only private clauses and proofs cite: no reader of a public contract need believe it.
+pub mod Listed
+pub mod Words

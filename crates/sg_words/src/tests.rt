@@ -1,0 +1,133 @@
+//! Words and the command that the rules of the command line give for them.
+use super::{Command, Sample, Service, command_of};
+use sg_plan::{Items, NoMemory, Word};
+use std::alloc::Global;
+use std::test::Fail;
+
+/// The words of a line, which a space divides. An empty line has none.
+fn words_of(alloc: Global, line: &[u8]) -> Result<Items<Word>, NoMemory> {
+    let mut words = Items::new(alloc);
+    if line.is_empty() {
+        return Ok(words);
+    }
+    for part in line.split(|byte| *byte == b' ') {
+        let mut word = Word::new(alloc);
+        word.extend(part)?;
+        words.push(word)?;
+    }
+    Ok(words)
+}
+
+/// The command of a line's words.
+fn asked(alloc: Global, line: &[u8]) -> Result<Option<Command>, NoMemory> {
+    let words = words_of(alloc, line)?;
+    command_of(alloc, &words)
+}
+
+/// The words of a service.
+fn serve(port: u16, count: u32) -> Option<Command> {
+    Some(Command::Serve(Service { port, count }))
+}
+
+/// The words of a sample.
+fn sample(seed: u32, ballots: u32) -> Option<Command> {
+    Some(Command::Sample(Sample { seed, ballots }))
+}
+
+#[test]
+fn commands_are_found(rt: HostRuntime) -> Result<(), Fail> {
+    for (line, command) in [
+        ("audit", Some(Command::Audit)),
+        ("init", Some(Command::Init)),
+        ("sheet", Some(Command::Sheet)),
+        ("do", Some(Command::Do)),
+        ("record", Some(Command::Record)),
+        ("scans", Some(Command::Scans)),
+        ("serve 1 1", serve(1, 1)),
+        ("serve 8080 20", serve(8_080, 20)),
+        ("serve 65535 1000000", serve(65_535, 1_000_000)),
+        ("sample 0 1", sample(0, 1)),
+        ("sample 7 300", sample(7, 300)),
+        ("sample 4294967295 9000", sample(4_294_967_295, 9_000)),
+    ] {
+        assert_eq!(rt; asked(rt.alloc(), line.as_bytes())?, command, "{line}");
+    }
+    Ok(())
+}
+
+#[test]
+fn other_words_are_none(rt: HostRuntime) -> Result<(), Fail> {
+    for line in [
+        "",
+        " ",
+        "audit ",
+        " audit",
+        "audit now",
+        "init now",
+        "sheet 1",
+        "do do",
+        "record 1 2",
+        "scans now",
+        "Audit",
+        "audits",
+        "aud",
+        "voldkaumi audit",
+        "help",
+        "help audit",
+        "help serve",
+        "--help",
+        "-h",
+        "-V",
+        "--version",
+        "-",
+        "--",
+        "-- audit",
+        "audit --",
+        "audit -h",
+        "audit --help",
+        "serve",
+        "serve 8080",
+        "serve 8080 1 1",
+        "serve 0 1",
+        "serve 08 1",
+        "serve 8080 0",
+        "serve 8080 01",
+        "serve 65536 1",
+        "serve 8080 1000001",
+        "serve +1 1",
+        "serve 1 -1",
+        "serve 1 1.0",
+        "serve 1 one",
+        "serve --port 1",
+        "serve help 1",
+        "serve 4294967297 1",
+        "serve 1 4294967297",
+        "sample",
+        "sample 1",
+        "sample 7 300 1",
+        "sample 07 300",
+        "sample 7 0",
+        "sample 7 9001",
+        "sample 4294967296 1",
+        "sample -7 300",
+        "sample 7 -- 300",
+    ] {
+        assert_eq!(rt; asked(rt.alloc(), line.as_bytes())?, None, "{line}");
+    }
+    Ok(())
+}
+
+#[test]
+fn words_that_are_no_text_are_none(rt: HostRuntime) -> Result<(), Fail> {
+    for line in [
+        b"\xff".as_slice(),
+        b"audit\xff",
+        b"\xc0\x80 audit",
+        b"serve 1 \xed\xa0\x80",
+        b"sample 7 300\x80",
+        b"audit\0",
+    ] {
+        assert_eq!(rt; asked(rt.alloc(), line)?, None);
+    }
+    Ok(())
+}
