@@ -47,6 +47,18 @@ fn no_calls(alloc: Global) -> Result<Calls, Fault>
     Ok(calls)
 }
 
+/// Audits an input, over no rows and no connections, and answers the status.
+fn audited(
+    alloc: Global,
+    words: &Items<Word>,
+    input: &mut Bytes,
+    page: &mut Page,
+) -> Result<u8, Fault> {
+    let mut keeper = keeper_of(alloc);
+    let mut links = no_calls(alloc)?;
+    Ok(run(alloc, words, input, &mut keeper, &mut links, page))
+}
+
 /// Where the line of this number ends, from 1: behind its line feed.
 fn line_end(record: &[u8], line: u32) -> Option<u32> {
     let mut feeds = 0u32;
@@ -75,9 +87,7 @@ fn is_settled(
     let fails = Vec::from_slice(alloc, &[end])?;
     let mut input = Bytes::new(Vec::from_slice(alloc, record)?, 1, fails);
     let mut page = Page::new(alloc, REPORT, Vec::new(alloc), 0)?;
-    let mut keeper = keeper_of(alloc);
-    let mut links = no_calls(alloc)?;
-    let status = run(alloc, words, &mut input, &mut keeper, &mut links, &mut page);
+    let status = audited(alloc, words, &mut input, &mut page)?;
     Ok(status == 1 && page.written() == report)
 }
 
@@ -95,9 +105,7 @@ pub(crate) fn tell<W: Write>(
 ) -> Result<bool, Fault> {
     let mut input = Bytes::new(Vec::from_slice(alloc, record)?, REPORT, Vec::new(alloc));
     let mut page = Page::new(alloc, REPORT, Vec::new(alloc), 0)?;
-    let mut keeper = keeper_of(alloc);
-    let mut links = no_calls(alloc)?;
-    let status = run(alloc, words, &mut input, &mut keeper, &mut links, &mut page);
+    let status = audited(alloc, words, &mut input, &mut page)?;
     out.write_all(name)?;
     out.write_all(if status == 0 { b" 0\n" } else { b" 1\n" })?;
     out.write_all(page.written())?;

@@ -129,6 +129,22 @@ fn bad_files_and_failing_calls_answer_no_scan(rt: HostRuntime) -> Result<(), Fai
 }
 
 #[test]
+fn a_file_has_at_most_16_777_216_bytes(rt: HostRuntime) -> Result<(), Fail> {
+    let alloc = rt.alloc();
+    for (size, status, written) in [(16_777_216, 0, ""), (16_777_217, 7, "refused size\n")] {
+        let mut file = scans_file(alloc, "")?;
+        file.resize(size, b'\n')?;
+        let mut input = Bytes::new(file, 65_536, Vec::new(alloc));
+        let mut keeper = office_of(alloc, None)?;
+        let mut page = Page::new(alloc, 100, Vec::new(alloc), 0)?;
+        let ended = answer_scans(alloc, &mut input, &mut keeper, &mut page);
+        assert_eq!(rt; ended, status, "{size}");
+        assert_eq!(rt; page.written(), written.as_bytes(), "{size}");
+    }
+    Ok(())
+}
+
+#[test]
 fn no_scan_is_answered_without_an_office(rt: HostRuntime) -> Result<(), Fail> {
     let alloc = rt.alloc();
     let mut keeper = keeper_of(alloc, None)?;

@@ -80,6 +80,15 @@ fn files_of_another_program_are_read(rt: HostRuntime) -> Result<(), Fail> {
             "station,secret,ref,ballot,marks\n0,c54365adf49bf3b7891745834fc98117,39,\"0:0,0:1\",0:2\n0,c54365adf49bf3b7891745834fc98117,39,1,0:2 0:1 4294967295:4294967295\n0,c54365adf49bf3b7891745834fc98117,41, 0:0,\n0,c54365adf49bf3b7891745834fc98117,12,0:3\n0,c54365adf4bf3b7891745834fc98117,48,6,0:1 0:3 0:4\nc54365adf49bf3b7891745834fc98117,49,\"1\",0:4 0:3 0:1\n0,c54365adf49bf3b7891745834fc98117,1,0:2 0:4 0:1\n",
             "shape;scan 1 0:2 0:1 4294967295:4294967295;shape;shape;shape;shape;shape",
         ),
+        // A sheet as LibreOffice 7.4 saves it, with each text between quotes, and as it does without being asked to.
+        (
+            "\"station\",\"secret\",\"ref\",\"ballot\",\"marks\"\n\"0\",\"c54365adf49bf3b7891745834fc98117\",\"2\",\"2\",\"0:0 0:1\"\n\"0\",\"c54365adf49bf3b7891745834fc98117\",\"39\",\"1\",\n\"0\",\"c54365adf49bf3b7891745834fc98117\",\"4294967295\",\"4\",\"0:1 1:0 1:4\"\n",
+            "scan 2 0:0 0:1;scan 1;scan 4 0:1 1:0 1:4",
+        ),
+        (
+            "station,secret,ref,ballot,marks\n0,c54365adf49bf3b7891745834fc98117,2,2,0:0 0:1\n0,c54365adf49bf3b7891745834fc98117,39,1,\n0,c54365adf49bf3b7891745834fc98117,4294967295,4,0:1 1:0 1:4\n",
+            "scan 2 0:0 0:1;scan 1;scan 4 0:1 1:0 1:4",
+        ),
     ] {
         let file = file_of(alloc, text)?;
         let told = told(alloc, file.bytes())?;
