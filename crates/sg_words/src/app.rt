@@ -72,6 +72,9 @@ fn program<'a>(alloc: Global) -> Result<Command<'a>, AllocError>
     let command = with_pair(alloc, command, "serve", "port", "count")?;
     let command = with_pair(alloc, command, "sample", "seed", "ballots")?;
     let command = with_word(alloc, command, "scans")?;
+    let command = with_word(alloc, command, "recount")?;
+    let command = with_word(alloc, command, "odds")?;
+    let command = with_word(alloc, command, "county")?;
     Ok(command)
 }
 

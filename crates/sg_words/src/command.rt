@@ -30,6 +30,12 @@ pub enum Command {
     Sample(Sample),
     /// Turns files of scanners into asks.
     Scans,
+    /// Lists the altered rows of a record's completion.
+    Recount,
+    /// Tells how unlikely the totals of a record's completion are.
+    Odds,
+    /// Judges several records as one.
+    County,
 }
 
 /// The command that these texts ask for.

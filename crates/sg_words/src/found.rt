@@ -22,6 +22,9 @@ fn command_by_name(name: &str) -> Option<Command>
         "do" => Some(Command::Do),
         "record" => Some(Command::Record),
         "scans" => Some(Command::Scans),
+        "recount" => Some(Command::Recount),
+        "odds" => Some(Command::Odds),
+        "county" => Some(Command::County),
         _ => None,
     }
 }
