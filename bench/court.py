@@ -34,17 +34,6 @@ class Altered(Office):
     def places(self, race):
         return super().places(race) | self.stuffed.get(race, set())
 
-    def write_results(self, record, table):
-        """As an office does, but that the places are those of this one."""
-        marked = {q for ballot in table.ballots for q in self.marked(ballot, table.number)}
-        places = self.places(table.number)
-        for instance in table.instances:
-            record.bits("flags %d %d" % (table.number, instance), [q in marked for q in table.lefts[instance]])
-        record.bits("places %d" % table.number, [s in places for s in range(table.entries)])
-        for candidate in range(table.candidates):
-            count = sum(s % table.candidates == candidate for s in places)
-            record.line("total %d %d %d" % (table.number, candidate, count))
-
 
 class Case:
     """What is handed in about an election: its record, the codes of the sheet, and the openings of each row."""

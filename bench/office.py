@@ -297,7 +297,7 @@ class Office:
 
     def write_results(self, record, table):
         marked = {q for ballot in table.ballots for q in self.marked(ballot, table.number)}
-        places = {table.path[q] for q in marked}
+        places = self.places(table.number)
         for instance in table.instances:
             record.bits("flags %d %d" % (table.number, instance), [q in marked for q in table.lefts[instance]])
         record.bits("places %d" % table.number, [s in places for s in range(table.entries)])

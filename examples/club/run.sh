@@ -3,17 +3,7 @@
 #
 #     run.sh [PROGRAM]     the built program; without one, voldkaumi on the PATH
 set -eu
-program=$(command -v "${1:-voldkaumi}")
-program=$(realpath "$program")
-club=$(cd "$(dirname "$0")" && pwd)
-folder=$(mktemp -d)
-trap 'rm -rf "$folder"' EXIT
-cd "$folder"
-umask 077
-
-step() { # NAME EXPECTED FILE: the step's output is a file of the example
-    cmp "$2" "$3" && echo "$1: as expected"
-}
+. "$(dirname "$0")/steps.sh"
 
 "$program" init < "$club/election.json" > begun
 step "set up" begun <(echo begun)

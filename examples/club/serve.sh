@@ -4,18 +4,8 @@
 #
 #     serve.sh [PROGRAM [PORT]]     the built program; without one, voldkaumi on the PATH
 set -eu
-program=$(command -v "${1:-voldkaumi}")
-program=$(realpath "$program")
 port=${2:-8642}
-club=$(cd "$(dirname "$0")" && pwd)
-folder=$(mktemp -d)
-trap 'rm -rf "$folder"' EXIT
-cd "$folder"
-umask 077
-
-step() { # NAME EXPECTED FILE: the step's output is a file of the example
-    cmp "$2" "$3" && echo "$1: as expected"
-}
+. "$(dirname "$0")/steps.sh"
 
 fetch() { # PATH CURL-ARGUMENT..: one request; the first waits until the port is listened on
     path=$1
