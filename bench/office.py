@@ -4,6 +4,7 @@
     office.py do ELECTION < ASKS > REPLIES          answers each line
     office.py record ELECTION < ASKS > RECORD       what the office posts behind these asks
     office.py sheet ELECTION > SHEET                what the printer prints
+    office.py openings ELECTION > OPENINGS          the openings of all rows, as a court is given them
     office.py totals ELECTION < ASKS                the votes of the cast ballots' marks, counted from the asks alone
 
 It shares no line with the program: codes, orders, keys and coins are drawn by the ChaCha20 of record.py, digests by
@@ -76,6 +77,12 @@ class Race:
     def code(self, entry):
         return self.codes[entry // self.candidates][self.shown[entry]]
 
+    def left(self, instance, row, entry):
+        return "%s %d" % (self.left_keys[instance].key(row).hex(), entry)
+
+    def right(self, instance, row, entry):
+        return "%s %d" % (self.right_keys[instance].key(row).hex(), self.path[entry])
+
 
 class Election:
     """An election file, and its tables."""
@@ -103,6 +110,12 @@ class Election:
             yield "ballot %d %d" % (ballot, self.style[ballot - 1])
             for race, codes in zip(self.races_of(ballot), self.paper(ballot)):
                 yield "codes %d %s" % (race, " ".join(codes))
+
+    def openings(self):
+        for table in self.tables:
+            for instance in table.instances:
+                for row, entry in enumerate(table.lefts[instance]):
+                    yield "both %s %s" % (table.left(instance, row, entry), table.right(instance, row, entry))
 
 
 def act_text(ask):
@@ -310,8 +323,7 @@ class Office:
             key = hashlib.sha256(b"SC2COIN" + bytes.fromhex(self.draw)).digest()
             to_right = coins(key, table.number, instance, table.entries)
         for row, entry in enumerate(table.lefts[instance]):
-            left = "%s %d" % (table.left_keys[instance].key(row).hex(), entry)
-            right = "%s %d" % (table.right_keys[instance].key(row).hex(), table.path[entry])
+            left, right = table.left(instance, row, entry), table.right(instance, row, entry)
             if self.draw == "full" or self.fate(table.ballots[entry // table.candidates]) == "audited":
                 record.line("both %s %s" % (left, right))
             else:
@@ -449,8 +461,8 @@ def votes(election, asks, replies):
 def main():
     command, election = sys.argv[1], Election(open(sys.argv[2], encoding="utf-8").read())
     office = Office(election)
-    if command == "sheet":
-        print("\n".join(election.sheet()))
+    if command in ("sheet", "openings"):
+        print("\n".join(getattr(election, command)()))
         return
     asks, replies = zip(*(answer_line(office, line) for line in sys.stdin.buffer))
     if command == "do":
