@@ -13,21 +13,6 @@ mkdir -p "$made"
 program=$(built sg_main audit < crates/sg_main/stdin) || exit 1
 zeros=$(printf '0%.0s' {1..64})
 
-# best of five, in seconds
-best() {
-    python3 - "$@" <<'PY'
-import resource, subprocess, sys, time
-record, command = sys.argv[1], sys.argv[2:]
-times = []
-for _ in range(5):
-    with open(record, "rb") as source:
-        start = time.perf_counter()
-        subprocess.run(command, stdin=source, stdout=subprocess.DEVNULL)
-        times.append(time.perf_counter() - start)
-print("%.4f %d" % (min(times), resource.getrusage(resource.RUSAGE_CHILDREN).ru_maxrss))
-PY
-}
-
 # a name, and the script that makes the record, with its words
 measure() {
     name=$1
@@ -35,8 +20,8 @@ measure() {
     record=$made/$name.record
     [ -f "$record" ] || python3 "$@" > "$record" || exit 1
     first=$("$program" audit < "$record" | sed -n 1p)
-    read -r audit_time memory <<< "$(best "$record" "$program" audit)"
-    read -r hash_time _ <<< "$(best "$record" sha256sum)"
+    read -r audit_time memory <<< "$(best_reading "$record" "$program" audit)"
+    read -r hash_time _ <<< "$(best_reading "$record" sha256sum)"
     python3 - "$name" "$(grep -c '^row-commit' "$record")" "$(stat -c %s "$record")" "$audit_time" "$hash_time" "$memory" "$first" <<'PY'
 import sys
 name, rows, size, audit, sha, memory, first = sys.argv[1:]

@@ -24,3 +24,21 @@ best_of_five() {
     done
     echo "$best"
 }
+
+# The least of five times of a command that reads a file, in seconds, and the most memory in KB that it held (at least some
+# 13,000: what starts it has so many of its own).
+#
+#   read -r seconds memory <<< "$(best_reading FILE COMMAND..)"
+best_reading() {
+    python3 - "$@" <<'PY'
+import resource, subprocess, sys, time
+record, command = sys.argv[1], sys.argv[2:]
+times = []
+for _ in range(5):
+    with open(record, "rb") as source:
+        start = time.perf_counter()
+        subprocess.run(command, stdin=source, stdout=subprocess.DEVNULL)
+        times.append(time.perf_counter() - start)
+print("%.4f %d" % (min(times), resource.getrusage(resource.RUSAGE_CHILDREN).ru_maxrss))
+PY
+}

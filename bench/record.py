@@ -2,12 +2,12 @@
 """Writes a whole public record of an election that it makes up.
 
     record.py BALLOTS CANDIDATES[,CANDIDATES..] [--instances M] [--version V] [--draw full|HEX] [--seed N] [--runs N]
-              [--audited A] [--spoiled S] [--disputes D] > FILE
+              [--audited A] [--spoiled S] [--disputes D] [--given] > FILE
 
 There is a race for each number of candidates, one style that has them all, and BALLOTS ballots in so many runs. The
 first A ballots are audited, the next S spoiled, and each other one is cast with one mark in each race. Everything but
 the coins is drawn from the seed with Python's own generator, and hashes are hashlib's, so the file owes nothing to the
-program that it is to time.
+program that it is to time. With --given the sheet and the openings of all rows follow, as `recount` reads them.
 """
 import argparse
 import hashlib
@@ -106,6 +106,11 @@ class Race:
         entry = (ballot - 1) * self.candidates + column
         return "code %d %d %s %s" % (self.number, column, self.keys[entry].hex(), code_word(version, self.codes[entry]))
 
+    def openings(self, instance, row):
+        """The keys and pointers of a row, left and right."""
+        left = "%s %d" % (self.left_keys[instance][row].hex(), self.lefts[instance][row])
+        return left, "%s %d" % (self.right_keys[instance][row].hex(), self.rights[instance][row])
+
     def paper(self, version, ballot):
         """The codes of the ballot's paper, by candidate."""
         first = (ballot - 1) * self.candidates
@@ -186,8 +191,7 @@ def write_rows(record, races, asked):
         for instance in range(asked.instances):
             sides = coins(public, race.number, instance, race.entries) if public else []
             for row, left in enumerate(race.lefts[instance]):
-                left_text = "%s %d" % (race.left_keys[instance][row].hex(), left)
-                right_text = "%s %d" % (race.right_keys[instance][row].hex(), race.rights[instance][row])
+                left_text, right_text = race.openings(instance, row)
                 if public is None or left // race.candidates < asked.audited:
                     record.line("both %s %s" % (left_text, right_text))
                 elif sides[row]:
@@ -207,6 +211,20 @@ def write_disputes(record, races, asked):
             record.line(race.code_line(asked.version, ballot, column))
 
 
+def write_given(record, races, asked):
+    """What a court is handed in: the sheet, and both openings of each row."""
+    record.line("printing")
+    for ballot in range(1, asked.ballots + 1):
+        record.line("ballot %d 0" % ballot)
+        for race in races:
+            record.line("codes %d %s" % (race.number, race.paper(asked.version, ballot)))
+    record.line("completion")
+    for race in races:
+        for instance in range(asked.instances):
+            for row in range(race.entries):
+                record.line("both %s %s" % race.openings(instance, row))
+
+
 def main():
     words = argparse.ArgumentParser()
     words.add_argument("ballots", type=int)
@@ -219,6 +237,7 @@ def main():
     words.add_argument("--audited", type=int, default=0)
     words.add_argument("--spoiled", type=int, default=0)
     words.add_argument("--disputes", type=int, default=0)
+    words.add_argument("--given", action="store_true")
     asked = words.parse_args()
     draw = random.Random(asked.seed)
     codes_there_are = 1000 if asked.version == 1 else 32768
@@ -233,6 +252,8 @@ def main():
     write_results(record, races, asked.instances)
     write_rows(record, races, asked)
     write_disputes(record, races, asked)
+    if asked.given:
+        write_given(record, races, asked)
 
 
 if __name__ == "__main__":
