@@ -5,6 +5,5 @@ mod Forms
 mod Headlines
 mod Judging
 mod Obeyed
-mod Reporting
 mod Samples
 mod Taking

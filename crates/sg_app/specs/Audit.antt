@@ -12,7 +12,7 @@ use Rattle.sg_check.specs.declared.judged.Judged.TheVariants.{Yes, No}
 use Rattle.sg_check.specs.declared.judged.Kind.{Kind}
 use Rattle.sg_check.specs.declared.judged.Total.{Total}
 use Rattle.sg_pass.specs.Pass.{is_behind_plan}
-use Rattle.sg_app.specs.Report.{report_of}
+use Rattle.sg_report.specs.Report.{report_of}
 
 -- where the source tells its bytes, this is the verdict on their lines
 abbrev pub Judges : Option (List ℕ) → Judged → Type 0

@@ -3,7 +3,6 @@ pub mod Audit
 pub mod Complete
 pub mod Headline
 pub mod Outside
-pub mod Report
 pub mod Sampling
 pub mod Touches
 pub mod inside

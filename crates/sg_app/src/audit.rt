@@ -6,11 +6,11 @@ ghost use Rattle.sg_outside.specs.Streams.{Seen};
 ghost use Rattle.sg_app.specs.inside.Ending.{AuditEnds, Hears, Writes, is_quiet, status_in, status_of_verdict};
 ghost use Rattle.sg_app.specs.inside.Feeding.{IsFed, IsFedSome};
 
-use crate::report::write_report;
 use sg_check::Judged;
 use sg_outside::{Got, Lines, Sink, Source};
 use sg_pass::{Pass, Step};
 use sg_plan::limits::LONGEST_LINE;
+use sg_report::write_report;
 use std::alloc::Global;
 
 /// What was heard of a source.

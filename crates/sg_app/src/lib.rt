@@ -3,7 +3,6 @@
 
 mod audit;
 mod program;
-mod report;
 #[cfg(test)]
 mod tests;
 mod work;

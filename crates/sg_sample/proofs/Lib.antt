@@ -6,7 +6,6 @@ mod PapersFit
 mod BallotActs
 mod Asked
 mod Voting
-mod Feeds
 mod Ends
 mod Puts
 mod SampleRuns

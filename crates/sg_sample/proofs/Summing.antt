@@ -14,7 +14,7 @@ use Rattle.sg_keeper.specs.declared.setup.Setup.{Setup}
 use Rattle.sg_accepted.specs.Totals.{told_totals}
 use Rattle.sg_sample.specs.SampleRun.{sample_draw, sample_plan, sample_record, sample_seed, sample_setup, sample_story}
 use Rattle.sg_sample.specs.Summary.{summary_of, summary_text}
-use Rattle.sg_sample.specs.inside.Feeding.{HasTotals}
+use Rattle.sg_sample.specs.inside.Judging.{HasTotals}
 use Rattle.sg_sample.specs.inside.Sealed.{EndsWith}
 use Rattle.sg_sample.proofs.SampleRuns.{record_ends, sample_accepted}
 

@@ -1,6 +1,6 @@
 -- The summary of a sample run, and how its writing ends (this project's sample run).
 use Rattle.std.specs.Io.KnownBytes.{Appends, Keeps}
-use Rattle.std.specs.List.{flat_map, join_with_byte}
+use Rattle.std.specs.List.{join_with_byte}
 use Rattle.std.specs.Prelude.{ℕ, Bool, true, false, List, [], ◌∷◌, ◌++◌, length, count_by, codes}
 use Rattle.sg_outside.specs.Faults.{Rose}
 use Rattle.sg_outside.specs.Streams.{AppendsFront, Seen}
@@ -11,6 +11,7 @@ use Rattle.sg_lines.specs.Words.{decimal, encode_lower}
 use Rattle.sg_post.specs.Posted.{seal_3}
 use Rattle.sg_post.specs.declared.story.Told.{Told}
 use Rattle.sg_check.specs.declared.judged.Total.{Total}
+use Rattle.sg_report.specs.Report.{totals_text}
 use Rattle.sg_accepted.specs.Totals.{told_totals}
 use Rattle.sg_sample.specs.SampleRun.{sample_draw, sample_plan, sample_record, sample_seed, sample_story}
 use Rattle.sg_sample.specs.declared.sampling.Sampled.{Sampled}
@@ -53,10 +54,6 @@ line_of_words words = join_with_byte 32 words ++ 10 ∷ []
 abbrev pub number_line : List ℕ → ℕ → List ℕ
 number_line word number = line_of_words (word ∷ decimal number ∷ [])
 
--- `total RACE CANDIDATE COUNT`
-abbrev pub total_line : Total → List ℕ
-total_line total = line_of_words (codes "total" ∷ decimal total.race ∷ decimal total.candidate ∷ decimal total.count ∷ [])
-
 -- of so many ballots with these fates, of a record with so many lines, these digits on its line `seal 3` and these totals
 unfoldable pub summary_of : ℕ → List Told → ℕ → List ℕ → List Total → List ℕ
 summary_of ballots fates lines digits totals =
@@ -66,7 +63,7 @@ summary_of ballots fates lines digits totals =
     ++ number_line (codes "audited") (count_fates is_audited fates)
     ++ number_line (codes "lines") lines
     ++ line_of_words (codes "seal" ∷ digits ∷ [])
-    ++ flat_map total_line totals
+    ++ totals_text totals
     ++ line_of_words (codes "yes" ∷ [])
 
 -- of the run with this number for its seed and so many ballots

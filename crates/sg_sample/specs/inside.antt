@@ -1,4 +1,4 @@
 -- What only private clauses cite. Nobody need believe it.
-pub mod Feeding
+pub mod Judging
 pub mod Sealed
 pub mod Voting

@@ -4,7 +4,7 @@ ghost use Rattle.sg_commit.specs.declared.Digest.{Digest};
 ghost use Rattle.sg_lines.specs.Words.{encode_lower};
 ghost use Rattle.sg_outside.specs.TextLines.{lines_of};
 ghost use Rattle.sg_sample.specs.Summary.{count_fates, is_audited, is_cast, is_spoiled};
-ghost use Rattle.sg_sample.specs.inside.Feeding.{HasTotals};
+ghost use Rattle.sg_sample.specs.inside.Judging.{HasTotals};
 ghost use Rattle.sg_sample.specs.inside.Sealed.{EndsWith, IsSealed};
 
 use sg_outside::line_end;

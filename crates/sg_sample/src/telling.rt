@@ -1,8 +1,8 @@
 //! The summary of a sample run, made in memory.
 ghost use Rattle.std.specs.Prelude.{◌≡◌, ◌≤◌, ◌++◌, ◌∷◌, [], codes, length, OnOk, IfOk};
-ghost use Rattle.std.specs.List.{flat_map};
 ghost use Rattle.sg_lines.specs.Words.{decimal};
-ghost use Rattle.sg_sample.specs.Summary.{line_of_words, number_line, total_line};
+ghost use Rattle.sg_report.specs.Report.{total_text, totals_text};
+ghost use Rattle.sg_sample.specs.Summary.{line_of_words, number_line};
 
 use sg_check::Total;
 use sg_lines::write_decimal;
@@ -32,7 +32,7 @@ pub(crate) fn add_number(out: &mut Word, word: &[u8], value: u32) -> Result<(), 
 
 /// Adds the line of a total.
 fn add_total(out: &mut Word, total: &Total) -> Result<(), NoMemory>
-    ensures { OnOk result (out.new ≡ out.old ++ total_line total.now) }
+    ensures { OnOk result (out.new ≡ out.old ++ total_text total.now) }
 {
     out.extend(b"total ")?;
     add_decimal(out, total.race)?;
@@ -45,7 +45,7 @@ fn add_total(out: &mut Word, total: &Total) -> Result<(), NoMemory>
 
 /// Adds a line for each total.
 pub(crate) fn add_totals(out: &mut Word, totals: &Items<Total>) -> Result<(), NoMemory>
-    ensures { OnOk result (out.new ≡ out.old ++ flat_map total_line totals.now) }
+    ensures { OnOk result (out.new ≡ out.old ++ totals_text totals.now) }
 {
     for at in 0..totals.len() {
         add_total(out, totals.get(at))?;

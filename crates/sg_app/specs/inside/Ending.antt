@@ -6,7 +6,7 @@ use Rattle.sg_outside.specs.Streams.{AppendsFront, Seen}
 use Rattle.sg_check.specs.declared.judged.Judged.{Judged}
 use Rattle.sg_check.specs.declared.judged.Judged.TheVariants.{Yes, No}
 use Rattle.sg_app.specs.Audit.{HasRead, Judges, TookFine, TookHeader}
-use Rattle.sg_app.specs.Report.{report_of}
+use Rattle.sg_report.specs.Report.{report_of}
 use Rattle.sg_app.specs.declared.audit.Ending.{Ending}
 use Rattle.sg_app.specs.declared.audit.Ending.TheVariants as ending
 use Rattle.sg_app.specs.declared.audit.Heard.{Heard}

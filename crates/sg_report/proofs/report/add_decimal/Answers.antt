@@ -2,7 +2,7 @@
 use Rattle.std.proofs.Common.{arith, ◌<◌, ◌^◌}
 use Rattle.std.proofs.lemmas.Grind.{common_steps}
 use Rattle.sg_lines.proofs.Numbers.{length-decimal}
-use Rattle.sg_app.proofs.report.add_decimal.Goals as goal
+use Rattle.sg_report.proofs.report.add_decimal.Goals as goal
 
 pub write_decimal-count-requires : goal.write_decimal-count-requires
 write_decimal-count-requires c =

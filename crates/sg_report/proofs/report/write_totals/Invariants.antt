@@ -1,7 +1,7 @@
 -- The lines of the totals so far were appended.
 use Rattle.std.proofs.Common.{◌≤◌, drop}
-use Rattle.sg_app.proofs.Reporting.{HasWritten}
-use Rattle.sg_app.proofs.report.write_totals.Given as goal
+use Rattle.sg_report.proofs.Reporting.{HasWritten}
+use Rattle.sg_report.proofs.report.write_totals.Given as goal
 
 abbrev pub invariant-loop-at : goal.invariant-loop-at
 invariant-loop-at g l =

@@ -1,9 +1,9 @@
 -- The totals' lines come behind the first line.
 use Rattle.std.proofs.Common.{codes}
 use Rattle.sg_outside.proofs.StreamLemmas.{AppendsFront-more}
-use Rattle.sg_app.specs.Report.{totals_text}
-use Rattle.sg_app.proofs.Reporting.{PutAppends-after}
-use Rattle.sg_app.proofs.report.write_yes.Goals as goal
+use Rattle.sg_report.specs.Report.{totals_text}
+use Rattle.sg_report.proofs.Reporting.{PutAppends-after}
+use Rattle.sg_report.proofs.report.write_yes.Goals as goal
 
 pub returns-in-Ok-clause-bytes : goal.returns-in-Ok-clause-bytes
 returns-in-Ok-clause-bytes g c =

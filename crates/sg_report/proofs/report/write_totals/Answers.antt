@@ -1,8 +1,8 @@
 -- One more line of the totals was appended, or a front of it.
 use Rattle.std.proofs.Common.{arith, ◌+◌, subst, drop, List}
 use Rattle.sg_check.specs.declared.judged.Total.{Total}
-use Rattle.sg_app.proofs.Reporting.{HasWritten, front_written, one_written}
-use Rattle.sg_app.proofs.report.write_totals.Goals as goal
+use Rattle.sg_report.proofs.Reporting.{HasWritten, front_written, one_written}
+use Rattle.sg_report.proofs.report.write_totals.Goals as goal
 
 pub returns-in-Err-clause-bytes : goal.returns-in-Err-clause-bytes
 returns-in-Err-clause-bytes g c =

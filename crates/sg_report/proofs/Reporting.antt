@@ -5,7 +5,7 @@ use Rattle.std.specs.Io.KnownBytes.{Appends}
 use Rattle.sg_outside.specs.Streams.{AppendsFront, PutAppends}
 use Rattle.sg_outside.proofs.StreamLemmas.{Appends-nil, Appends-trans, AppendsFront-trans, AppendsFront-more}
 use Rattle.sg_check.specs.declared.judged.Total.{Total}
-use Rattle.sg_app.specs.Report.{total_text, totals_text}
+use Rattle.sg_report.specs.Report.{total_text, totals_text}
 
 -- the lines of all totals but those that are left were appended
 pub record HasWritten (before now : Option (List ℕ)) (left all : List Total) : Type 0 where

@@ -2,7 +2,7 @@
 ghost use Rattle.std.specs.Prelude.{◌≡◌, ◌+◌, ◌≤◌, ◌∷◌, ◌++◌, [], length, take, codes, decimal};
 ghost use Rattle.sg_outside.specs.Faults.{HasCause};
 ghost use Rattle.sg_outside.specs.Streams.{PutAppends};
-ghost use Rattle.sg_app.specs.Report.{kind_word, no_text, report_of, total_text, totals_text};
+ghost use Rattle.sg_report.specs.Report.{kind_word, no_text, report_of, total_text, totals_text};
 
 use sg_check::{Judged, Kind, Total};
 use sg_lines::write_decimal;
@@ -13,7 +13,7 @@ use sg_plan::Items;
 const ROOM: usize = 64;
 
 /// Writes the report: `yes` and a line for each total, or `no LINE KIND`. Each line is one put.
-pub(crate) fn write_report<O: Sink>(out: &mut O, judged: &Judged) -> Result<(), Failed>
+pub fn write_report<O: Sink>(out: &mut O, judged: &Judged) -> Result<(), Failed>
     ensures bytes { PutAppends (O.written out.old) (O.written out.new) result (report_of judged.now) }
     ensures cause { HasCause (O.faults out.old) (O.faults out.new) result }
 {
@@ -23,8 +23,8 @@ pub(crate) fn write_report<O: Sink>(out: &mut O, judged: &Judged) -> Result<(), 
     }
 }
 
-/// Writes `yes` and a line for each total.
-fn write_yes<O: Sink>(out: &mut O, totals: &Items<Total>) -> Result<(), Failed>
+/// Writes `yes` and a line for each total. Each line is one put.
+pub fn write_yes<O: Sink>(out: &mut O, totals: &Items<Total>) -> Result<(), Failed>
     ensures bytes { PutAppends (O.written out.old) (O.written out.new) result (codes "yes\n" ++ totals_text totals.now) }
     ensures cause { HasCause (O.faults out.old) (O.faults out.new) result }
 {
@@ -59,8 +59,8 @@ fn write_total<O: Sink>(out: &mut O, total: &Total) -> Result<(), Failed>
     Ok(())
 }
 
-/// Writes `no LINE KIND`.
-fn write_no<O: Sink>(out: &mut O, number: u32, kind: Kind) -> Result<(), Failed>
+/// Writes `no LINE KIND`, in one put.
+pub fn write_no<O: Sink>(out: &mut O, number: u32, kind: Kind) -> Result<(), Failed>
     ensures bytes { PutAppends (O.written out.old) (O.written out.new) result (no_text number kind) }
     ensures cause { HasCause (O.faults out.old) (O.faults out.new) result }
 {
@@ -98,8 +98,8 @@ fn no_line(line: &mut [u8], number: u32, kind: Kind) -> usize
     add(line, at, b"\n")
 }
 
-/// The word for a kind.
-fn word_for(kind: Kind) -> &'static [u8]
+/// The word for a kind of fault: a lower-case word of at most seven letters.
+pub fn word_for(kind: Kind) -> &'static [u8]
     ensures word { result.now ≡ kind_word kind }
     ensures bound { length result.now ≤ 7 }
 {

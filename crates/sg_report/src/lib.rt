@@ -1,0 +1,8 @@
+//! The report of a verdict, as text: `yes` and the totals, or the first bad line and what is wrong there.
+#![tactic(auto)]
+
+mod report;
+#[cfg(test)]
+mod tests;
+
+pub use report::{word_for, write_no, write_report, write_yes};
