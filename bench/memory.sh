@@ -2,9 +2,9 @@
 # Refuses requests for memory one at a time, and counts how the runs ended: each must give its ordinary status, or 9, and
 # keep what its replies say.
 #
-#     [MOST=300] memory.sh PROGRAM     the built program, and how many of a command's requests are tried at most
+#     [MOST=300] [PORT=8643] memory.sh PROGRAM     the built program, and how many of a command's requests are tried at most
 #
-# It wants gcc, python3 and sqlite3, and a program that asks the C library for memory.
+# It wants gcc, curl, python3 and sqlite3, and a program that asks the C library for memory.
 set -eu
 program=$(realpath "$1")
 here=$(cd "$(dirname "$0")" && pwd)
@@ -63,6 +63,11 @@ is_told() { # STATUS KEPT TOLD
     [ "$2" = "$3" ] || { [ "$1" = 9 ] && [ "$2" = $(($3 + 1)) ]; }
 }
 
+# how often each number stands in a list
+tally() {
+    echo "$1" | tr ' ' '\n' | grep . | sort -n | uniq -c | awk '{printf " %sx%s", $1, $2}'
+}
+
 try() { # INPUT WORDS..: the command with each request refused, from the office in start/
     local input=$1 ordinary status refused=1 total step counts="" bad=0
     shift
@@ -85,7 +90,27 @@ try() { # INPUT WORDS..: the command with each request refused, from the office 
         cd ..
         refused=$((refused + step))
     done
-    echo "$*: $total requests, each ${step}th refused; ordinary status $ordinary; refused:$(echo "$counts" | tr ' ' '\n' | grep . | sort -n | uniq -c | awk '{printf " %sx%s", $1, $2}'); kept otherwise than replied: $bad"
+    echo "$*: $total requests, each ${step}th refused; ordinary status $ordinary; refused:$(tally "$counts"); kept otherwise than replied: $bad"
+}
+
+# one ask over a connection with each request refused: the statuses that were sent, and those that the program ended with
+try_serve() {
+    local port=${PORT:-8643} ask refused=1 total step sent="" counts="" status
+    ask='{"ask":"spoil","station":0,"secret":"73746174696f6e2d6e756d6265722d30","ref":900,"ballot":9}'
+    total=0
+    while [ "$refused" = 1 ] || [ "$refused" -le "$total" ]; do
+        rm -rf work && cp -r start work && cd work
+        REFUSED=$([ "$total" = 0 ] && echo 0 || echo "$refused") CALLS="$folder/calls" LD_PRELOAD="$folder/refuse.so" "$program" serve "$port" 1 > ../out 2> ../said &
+        sent="$sent $(curl -s -o ../answer -w '%{http_code}' --retry 9 --retry-connrefused --retry-delay 1 -m 5 --data-binary "$ask" "http://127.0.0.1:$port/ask" || true)"
+        set +e
+        wait $!
+        status=$?
+        set -e
+        counts="$counts $status"
+        cd ..
+        if [ "$total" = 0 ]; then total=$(cat calls); step=$((total / ${MOST:-300} + 1)); sent=""; counts=""; else refused=$((refused + step)); fi
+    done
+    echo "serve: $total requests, each ${step}th refused; sent:$(tally "$sent"); ended:$(tally "$counts")"
 }
 
 cd "$folder"
@@ -96,6 +121,13 @@ try "$club/election.json" init
 cat "$club"/voting.jsonl "$club"/close.jsonl "$club"/draw.jsonl "$club"/claims.jsonl > asks
 try /dev/null sheet
 try "$folder/asks" do
+try "$club/scans.csv" scans
+try_serve
 (cd start && "$program" do < "$folder/asks" > /dev/null)
 try /dev/null record
+(cat "$club/club.record" && echo printing && cat "$club/club.sheet" && echo completion && cat "$club/club.openings") > handed-in
+try "$folder/handed-in" recount
+try "$folder/handed-in" odds
+(cat "$club/club.record" && echo next && cat "$club/north.record") > records
+try "$folder/records" county
 try /dev/null sample 7 10
