@@ -95,13 +95,17 @@ try() { # INPUT WORDS..: the command with each request refused, from the office 
 
 # one ask over a connection with each request refused: the statuses that were sent, and those that the program ended with
 try_serve() {
-    local port=${PORT:-8643} ask refused=1 total step sent="" counts="" status
+    local port=${PORT:-8643} ask refused=1 total step sent="" counts="" status code
     ask='{"ask":"spoil","station":0,"secret":"73746174696f6e2d6e756d6265722d30","ref":900,"ballot":9}'
     total=0
     while [ "$refused" = 1 ] || [ "$refused" -le "$total" ]; do
         rm -rf work && cp -r start work && cd work
         REFUSED=$([ "$total" = 0 ] && echo 0 || echo "$refused") CALLS="$folder/calls" LD_PRELOAD="$folder/refuse.so" "$program" serve "$port" 1 > ../out 2> ../said &
-        sent="$sent $(curl -s -o ../answer -w '%{http_code}' --retry 9 --retry-connrefused --retry-delay 1 -m 5 --data-binary "$ask" "http://127.0.0.1:$port/ask" || true)"
+        code=000
+        while [ "$code" = 000 ] && kill -0 $! 2> /dev/null; do
+            code=$(curl -s -o ../answer -w '%{http_code}' -m 5 --data-binary "$ask" "http://127.0.0.1:$port/ask" || true)
+        done
+        sent="$sent $code"
         set +e
         wait $!
         status=$?
