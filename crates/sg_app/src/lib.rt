@@ -3,8 +3,6 @@
 
 mod audit;
 mod program;
-#[cfg(test)]
-mod tests;
 mod work;
 
 pub use program::run;

@@ -9,8 +9,6 @@ mod notes;
 mod numbering;
 mod openings;
 mod plain;
-#[cfg(test)]
-mod tests;
 
 pub use judged::{Judged, Kind, Total};
 pub use plain::verdict;

@@ -13,8 +13,6 @@ mod printing;
 mod refusal;
 mod shown;
 mod talk;
-#[cfg(test)]
-mod tests;
 
 pub use asking::answer_asks;
 pub use begun::{Begun, begun_status, init};

@@ -24,8 +24,3 @@ pub use memory::MemoryKeeper;
 pub use replies::{Body, CodeSeen, FateWord, Phase, Receipt, Reply};
 pub use rows::{BallotRow, Change, ChangeRow, ClaimRow, DoneRow, Rows, StageRow, VoidRow};
 pub use setup::Setup;
-
-#[cfg(test)]
-mod setup_tests;
-#[cfg(test)]
-mod tests;

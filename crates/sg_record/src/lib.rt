@@ -31,6 +31,3 @@ pub use sg_forms::{CodeLine, Line, RowOpening, write_line};
 pub use sg_grammar::{Expect, Meaning, Spot, meaning_of, read_line};
 pub use typed::{know_types, know_words};
 pub use write::{Wrote, write_plan, write_record};
-
-#[cfg(test)]
-mod tests;

@@ -9,8 +9,6 @@ pub mod laws;
 mod loads;
 mod reads;
 mod tables;
-#[cfg(test)]
-mod tests;
 mod texts;
 mod writes;
 

@@ -1,12 +1,12 @@
 //! Two small records, put together by hand, and their texts.
 
-use crate::{
-    BallotBlock, BlockFate, CodeLine, DisputeBlock, Line, Pen, Record, RowCommit, RowOpening,
-    Wrote, read_record, write_record,
-};
 use sg_commit::{Digest, Key, Opening};
 use sg_outside::Page;
 use sg_plan::{ClaimWord, Draw, Items, NoMemory, Plan, Race, Run, Style, Word};
+use sg_record::{
+    BallotBlock, BlockFate, CodeLine, DisputeBlock, Line, Pen, Record, RowCommit, RowOpening,
+    Wrote, read_record, write_record,
+};
 use std::alloc::{AllocError, Global};
 use std::test::Fail;
 

@@ -1,7 +1,6 @@
 //! The verdict on records that were made by a program of another language.
-use crate::judged::{Judged, Kind, Total};
-use crate::plain::verdict;
 use records::{Case, Change, FIRST, FIRST_CASES, Found, TWO_VOTES, TWO_VOTES_CASES};
+use sg_check::{Judged, Kind, Total, verdict};
 use std::alloc::Global;
 use std::process::Abort;
 use std::test::Fail;

@@ -2,7 +2,7 @@
 //!
 //! A case is a whole record with some of its lines exchanged, the seals among them where it was sealed anew.
 
-use crate::judged::{Kind, Total};
+use sg_check::{Kind, Total};
 
 /// The smallest whole record: one race, one ballot.
 pub const FIRST: &[u8] =

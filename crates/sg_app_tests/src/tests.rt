@@ -1,8 +1,8 @@
 //! The program on whole records, with the report and the status that the rules give.
 ghost use Rattle.std.specs.Prelude.{◌≡◌, IfOk, false, is_some};
 
-use super::run;
 use records::{Case, Change, FIRST, FIRST_CASES, TWO_VOTES, TWO_VOTES_CASES};
+use sg_app::run;
 use sg_keeper::{MemoryKeeper, Rows};
 use sg_links::Calls;
 use sg_outside::{Bytes, Page};

@@ -4,11 +4,11 @@ ghost use Rattle.std.specs.Prelude.{◌≡◌, false, IfOk, IsTrue};
 ghost use Rattle.sqlite_disk.specs.Memory.{memory_is_usable};
 ghost use Rattle.sg_keeper.specs.Rows.{IsAscii, IsAsciiChange, IsAsciiRow};
 
-use crate::SqlKeeper;
 use sg_keeper::{
     BallotRow, Change, ChangeRow, ClaimRow, DoneRow, KeepFault, Keeper, Rows, StageRow, VoidRow,
 };
 use sg_plan::{NoMemory, Word};
+use sg_store::SqlKeeper;
 use sqlite::{Alter, Connection, FileStore, Files, MemStore, Options};
 use sqlite_disk::{Disk, Fuse, Memory};
 use std::alloc::Global;

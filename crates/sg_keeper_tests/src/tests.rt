@@ -2,7 +2,7 @@
 ghost use Rattle.std.specs.Prelude.{IfOk};
 ghost use Rattle.sg_keeper.specs.Rows.{IsAscii, IsAsciiChange, IsAsciiRow};
 
-use crate::{
+use sg_keeper::{
     BallotRow, Change, ChangeRow, ClaimRow, DoneRow, Keeper, MemoryKeeper, Rows, StageRow, VoidRow,
 };
 use sg_plan::{Items, NoMemory, Word};

@@ -1,5 +1,5 @@
 //! What no clause says: that an office is set up, and what is written of each refusal.
-use crate::{begun_status, init};
+use sg_clerk::{begun_status, init};
 use sg_keeper::{Keeper, MemoryKeeper, Rows};
 use sg_outside::{Bytes, Page};
 use sg_plan::{Items, NoMemory, Word};

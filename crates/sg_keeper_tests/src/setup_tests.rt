@@ -1,5 +1,5 @@
 //! The text of a setup, written by hand: what is read from it, that it is written again, and which texts are refused.
-use crate::Setup;
+use sg_keeper::Setup;
 use sg_plan::{NoMemory, Word};
 use std::alloc::Global;
 use std::test::Fail;
