@@ -18,6 +18,3 @@ mod unread;
 pub use asks::{AskFault, ask_of};
 pub use replies::reply_text;
 pub use setups::{SetupFault, setup_of};
-
-#[cfg(test)]
-mod tests;

@@ -16,6 +16,3 @@ pub use papers::paper_matches;
 pub use races::know_race;
 pub use reading::act_of;
 pub use writing::{act_text, draw_text, marks_text, paper_text};
-
-#[cfg(test)]
-mod tests;

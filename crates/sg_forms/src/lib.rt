@@ -21,6 +21,3 @@ pub use line::{CodeLine, Line, RowOpening};
 pub use read::read_form;
 pub use types::{know_bytes, know_digest, know_key, know_line, know_numbers, know_row};
 pub use write::write_line;
-
-#[cfg(test)]
-mod tests;

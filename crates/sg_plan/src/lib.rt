@@ -30,6 +30,3 @@ pub use plan::{ClaimWord, Draw, Fate, Mark, Paper, Plan, Race, Run, Side, Stage,
 pub use same::{same_races, same_words};
 pub use walk::BallotWalk;
 pub use word::Word;
-
-#[cfg(test)]
-mod tests;

@@ -1,7 +1,7 @@
 //! Asks, replies and election files on examples, whose texts and answers were found by hand or by another program.
 ghost use Rattle.sg_asks.specs.Replies.{HasPlainText, HasReplyCodes};
 
-use super::*;
+use sg_asks::{AskFault, SetupFault, ask_of, reply_text, setup_of};
 use sg_keeper::{Act, Ask, Body, CodeSeen, FateWord, Look, Phase, Receipt, Reply};
 use sg_plan::{ClaimWord, Draw, Items, NoMemory, PlanFault, Word};
 use std::alloc::Global;

@@ -1,7 +1,7 @@
 //! Values that another program computed: texts of acts, papers, posted codes and answers to claims.
 ghost use Rattle.std.specs.Prelude.{◌≡◌};
 
-use crate::{
+use sg_desks::{
     act_of, act_text, claim_word, draw_text, marks_text, paper_matches, paper_text, posted_codes,
 };
 use sg_keeper::{Act, CodeSeen};

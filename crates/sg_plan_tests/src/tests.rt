@@ -1,5 +1,5 @@
 //! Plans with each fault, at the edges of each limit, and the numbers of a small plan worked out by hand.
-use crate::{
+use sg_plan::{
     BallotIndex, BallotWalk, Draw, Fate, Items, Mark, NoMemory, Plan, Race, Run, Style, Word,
     codes_of, copy_words, same_races,
 };
