@@ -1,5 +1,5 @@
 -- One more line behind lines that are fine.
-use Rattle.std.proofs.Common.{◌≡◌, ℕ, ◌+◌, ◌≤◌, true, false, inl, List, [], ◌∷◌, ◌++◌, length, Option, Some, None, refl, sym, subst, ap, ◌∙◌, append_assoc, arith}
+use Rattle.std.proofs.Common.{◌≡◌, ℕ, ◌+◌, ◌≤◌, Bool, true, false, inl, List, [], ◌∷◌, ◌++◌, length, Option, Some, None, refl, sym, subst, ap, ◌∙◌, append_assoc, arith}
 use Rattle.std.specs.Prelude.{IsSome}
 use Rattle.std.specs.Option.{is_some, option_map}
 use Rattle.std.proofs.lemmas.List.{append-nil, length_push, map_push, take_all}
@@ -18,7 +18,7 @@ use Rattle.sg_forms.specs.Said.{Said}
 use Rattle.sg_ledger.specs.declared.ledger.Ledger.{Ledger}
 use Rattle.sg_ledger.specs.Tells.{Tells}
 use Rattle.sg_pass.proofs.Placing.{found_refused, found_taken, plan_taken, taken_there}
-use Rattle.sg_pass.specs.inside.Taking.{Advances, IsRefused, IsTaken, Keeps, Stands}
+use Rattle.sg_pass.specs.inside.Taking.{Advances, IsRefused, IsTaken, Keeps, Stands, opened_by}
 use Rattle.sg_plan.specs.declared.plan.Plan.{Plan}
 use Rattle.sg_grammar.proofs.Counting.{most_lines_stand, start-made}
 use Rattle.sg_grammar.proofs.Walking.{take_bytes-not_read, take_bytes-read, take_line-behind, take_line-head, walk-push}
@@ -35,7 +35,7 @@ bytes_of-push : (lines : List Posted) (line : Posted) → bytes_of (lines ++ lin
 bytes_of-push [] line = append-nil line.bytes
 bytes_of-push (x ∷ lines) line = ap (λ (l : List ℕ). x.bytes ++ l) (bytes_of-push lines line) ∙ sym (append_assoc x.bytes (bytes_of lines) line.bytes)
 
-placed_of-push : (lines : List Posted) (line : Posted) → placed_of (lines ++ line ∷ []) ≡ placed_of lines ++ line.line ∷ []
+pub placed_of-push : (lines : List Posted) (line : Posted) → placed_of (lines ++ line ∷ []) ≡ placed_of lines ++ line.line ∷ []
 placed_of-push lines line = map_push (λ (l : Posted). l.line) lines line
 
 -- THE FIRST BAD LINE
@@ -150,6 +150,22 @@ pub opened_advances : (expect new : Next) (sealer sealer' : Sealer) (plan : Plan
     → ((lines : List (List ℕ)) → Stands expect sealer (Some ledger) lines → Advances found new sealer' (Some ledger') lines bytes)
     → (lines : List (List ℕ)) → Stands expect sealer None lines → Advances found new sealer' (Some ledger') lines bytes
 opened_advances expect new sealer sealer' plan ledger ledger' bytes found same tells goes_on lines stands = goes_on lines (opened_stands expect sealer plan ledger same tells lines stands)
+
+-- and where the ledger is kept if it was found good, and else none
+pub kept_advances : (found : Option Kind) (new : Next) (sealer : Sealer) (opened : Ledger) (before kept : Option Ledger) (lines : List (List ℕ)) (bytes : List ℕ) → kept ≡ opened_by found opened before
+    → Advances found new sealer (Some opened) lines bytes → Advances found new sealer kept lines bytes
+kept_advances None new sealer opened before kept lines bytes e stands = subst (λ (o : Option Ledger). Stands new sealer o (lines ++ bytes ∷ [])) (sym e) stands
+kept_advances (Some k) new sealer opened before kept lines bytes e bad = bad
+
+-- then there is a ledger
+pub kept_opens : (found : Option Kind) (opened : Ledger) (before kept : Option Ledger) (behind : Bool) → kept ≡ opened_by found opened before → behind ≡ true → found ≡ None → is_some kept ≡ behind
+kept_opens None opened before kept behind e whole good = ap is_some e ∙ sym whole
+kept_opens (Some k) opened before kept behind e whole good = let none : ⊥ = cc in absurd none
+
+-- and behind a bad line there is none, as before
+pub kept_closed : (found : Option Kind) (opened : Ledger) (before kept : Option Ledger) → kept ≡ opened_by found opened before → before ≡ None → IsSome found → kept ≡ None
+kept_closed None opened before kept e closed bad = let none : ⊥ = cc in absurd none
+kept_closed (Some k) opened before kept e closed bad = e ∙ closed
 
 -- HOW MANY LINES
 

@@ -1,16 +1,24 @@
 -- What a pass stands for, and what it says of the lines so far.
 use Rattle.std.specs.Prelude.{◌≡◌, ℕ, Bool, true, false, List, length, Option, Some, None, IsSome, is_none, is_some}
-use Rattle.std.specs.Option.{option_map_or}
+use Rattle.std.specs.Option.{option_map, option_map_or}
+use Rattle.sg_plan.specs.declared.plan.Plan.{Plan}
 use Rattle.sg_check.specs.Verdict.{AreFine, IsFirstBad, least_broken}
 use Rattle.sg_check.specs.declared.judged.Kind.{Kind}
 use Rattle.sg_commit.specs.declared.Sealer.{Sealer}
 use Rattle.sg_ledger.specs.declared.ledger.Ledger.{Ledger}
+use Rattle.sg_pass.specs.FirstSeal.{first_seal}
 use Rattle.sg_pass.specs.inside.Taking.{Stands, is_behind}
 use Rattle.sg_pass.specs.declared.pass.Pass.{Pass}
 use Rattle.sg_pass.specs.declared.pass.Step.{Step}
 use Rattle.sg_pass.specs.declared.pass.Step.TheVariants.{More, Over, Ready}
 use Rattle.sg_grammar.specs.Left.{lines_left}
 use Rattle.sg_grammar.specs.Walk.{Next, start, walk}
+
+-- WHAT THE LINES SAY
+
+-- the plan that the lines give
+abbrev pub plan_of : List (List ℕ) → Option Plan
+plan_of lines = option_map (λ walked. walked.next.plan) (walk start lines)
 
 -- WHAT A PASS STANDS FOR
 
@@ -28,6 +36,7 @@ Judges (Some broken) expect sealer ledger number lines = IsFirstBad lines number
 -- the pass has gone over these lines
 pub record StandsFor (pass : Pass) (lines : List (List ℕ)) : Type 0 where
   pub judges : Judges pass.broken pass.expect pass.sealer pass.ledger pass.number lines
+  pub sealed : pass.broken ≡ None → pass.seal ≡ first_seal lines
 
 abbrev pub StandsForSome : Pass → Type 0
 StandsForSome pass = (lines : List (List ℕ)) × StandsFor pass lines

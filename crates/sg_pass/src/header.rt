@@ -1,11 +1,12 @@
 //! A line of the plan, or the first behind it, taken behind lines that are fine.
 ghost use Rattle.std.specs.Prelude.{◌≡◌, ℕ, ◌<◌, is_some, List, IfOk, IsSome, OnErr, None};
-ghost use Rattle.sg_pass.specs.inside.Taking.{Advances, Stands, StandsSome, is_behind};
+ghost use Rattle.sg_pass.specs.inside.Taking.{Advances, IsNoPlanLine, Stands, StandsSome, is_behind, next_seal, opened_by, or_seal};
+ghost use Rattle.sg_plan.specs.Limits.{fault_of};
 ghost use Rattle.sg_grammar.specs.Left.{lines_left};
 
 use crate::taking::advance;
 use sg_check::Kind;
-use sg_commit::Sealer;
+use sg_commit::{Digest, Sealer};
 use sg_grammar::{Expect, read_line};
 use sg_ledger::Ledger;
 use sg_plan::NoMemory;
@@ -20,15 +21,17 @@ pub(crate) fn advance_header(
     expect: &mut Expect,
     sealer: &mut Sealer,
     ledger: &mut Option<Ledger>,
+    seal: &mut Option<Digest>,
     bytes: &[u8],
 ) -> Result<Option<Kind>, NoMemory>
     requires stands { StandsSome expect.old sealer.old None }
     requires closed { ledger.old ≡ None }
     ensures goes_on { IfOk result (λ broken. (lines : List (List ℕ)) → Stands expect.old sealer.old None lines → Advances broken expect.new sealer.new ledger.new lines bytes.now) }
+    ensures seal { IfOk result (λ broken. broken ≡ None → seal.new ≡ or_seal seal.old (next_seal expect.old bytes.now)) }
     ensures opens { IfOk result (λ broken. broken ≡ None → is_some ledger.new ≡ is_behind expect.new.head) }
     ensures bad { IfOk result (λ broken. IsSome broken → ledger.new ≡ None) }
     ensures falls { IfOk result (λ broken. broken ≡ None → lines_left expect.new < lines_left expect.old) }
-    ensures err { OnErr result ((expect.new ≡ expect.old) × (sealer.new ≡ sealer.old) × (ledger.new ≡ ledger.old)) }
+    ensures err { OnErr result ((expect.new ≡ expect.old) × (sealer.new ≡ sealer.old) × (ledger.new ≡ ledger.old) × (seal.new ≡ seal.old)) }
 {
     let Some(line) = read_line(expect, bytes) else {
         return Ok(Some(Kind::Form));
@@ -38,12 +41,40 @@ pub(crate) fn advance_header(
         sealer.add(bytes);
         return Ok(None);
     }
+    advance_behind(alloc, expect, sealer, ledger, seal, bytes)
+}
+
+/// Takes the first line behind those of the plan: where it is fine, it opens the ledger.
+fn advance_behind(
+    alloc: Global,
+    expect: &mut Expect,
+    sealer: &mut Sealer,
+    ledger: &mut Option<Ledger>,
+    seal: &mut Option<Digest>,
+    bytes: &[u8],
+) -> Result<Option<Kind>, NoMemory>
+    requires stands { StandsSome expect.old sealer.old None }
+    requires closed { ledger.old ≡ None }
+    requires good { fault_of expect.old.plan ≡ None }
+    requires behind { IsNoPlanLine expect.old bytes.now }
+    ensures goes_on { IfOk result (λ broken. (lines : List (List ℕ)) → Stands expect.old sealer.old None lines → Advances broken expect.new sealer.new ledger.new lines bytes.now) }
+    ensures seal { IfOk result (λ broken. broken ≡ None → seal.new ≡ or_seal seal.old (next_seal expect.old bytes.now)) }
+    ensures opens { IfOk result (λ broken. broken ≡ None → is_some ledger.new ≡ is_behind expect.new.head) }
+    ensures bad { IfOk result (λ broken. IsSome broken → ledger.new ≡ None) }
+    ensures falls { IfOk result (λ broken. broken ≡ None → lines_left expect.new < lines_left expect.old) }
+    ensures err { OnErr result ((expect.new ≡ expect.old) × (sealer.new ≡ sealer.old) × (ledger.new ≡ ledger.old) × (seal.new ≡ seal.old)) }
+{
     let mut opened = Ledger::make(alloc, expect.plan())?;
-    match advance(expect, sealer, &mut opened, bytes) {
-        Some(kind) => Ok(Some(kind)),
-        None => {
-            *ledger = Some(opened);
-            Ok(None)
-        }
+    let broken = advance(expect, sealer, &mut opened, seal, bytes);
+    keep_opened(ledger, opened, broken);
+    Ok(broken)
+}
+
+/// Keeps the ledger, where the line that opened it is bad in nothing.
+fn keep_opened(ledger: &mut Option<Ledger>, opened: Ledger, broken: Option<Kind>)
+    ensures { ledger.new ≡ opened_by broken opened ledger.old }
+{
+    if broken.is_none() {
+        *ledger = Some(opened);
     }
 }

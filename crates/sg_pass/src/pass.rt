@@ -3,7 +3,8 @@ ghost use Rattle.std.specs.Prelude.{◌≡◌, ◌<◌, ℕ, List, [], ◌∷◌
 ghost use Rattle.sg_check.specs.Verdict.{IsNo, IsVerdict};
 ghost use Rattle.sg_forms.specs.Reading.{line_of};
 ghost use Rattle.sg_ledger.specs.Tells.{totals_placed};
-ghost use Rattle.sg_pass.specs.Pass.{Says, SaysBehind, StandsFor, StandsForSome, is_behind_plan, is_fine, is_open, is_ready, left_in, says_ready, step_of};
+ghost use Rattle.sg_pass.specs.FirstSeal.{first_seal};
+ghost use Rattle.sg_pass.specs.Pass.{Says, SaysBehind, StandsFor, StandsForSome, is_behind_plan, is_fine, is_open, is_ready, left_in, plan_of, says_ready, step_of};
 ghost use Rattle.sg_pass.specs.inside.Taking.{Keeps};
 ghost use Rattle.sg_plan.specs.declared.plan.Plan.{Plan as PlanSeen};
 ghost use Rattle.sg_grammar.specs.Placed.{Placed};
@@ -11,10 +12,10 @@ ghost use Rattle.sg_grammar.specs.Placed.{Placed};
 use crate::header::advance_header;
 use crate::taking::advance;
 use sg_check::{Judged, Kind, Total};
-use sg_commit::Sealer;
+use sg_commit::{Digest, Sealer};
 use sg_grammar::Expect;
 use sg_ledger::Ledger;
-use sg_plan::{Items, NoMemory};
+use sg_plan::{Items, NoMemory, Plan};
 use std::alloc::Global;
 
 /// What a pass says of the lines so far.
@@ -41,12 +42,14 @@ pub struct Pass {
     ledger: Option<Ledger>,
     /// How many lines were taken: up to the first bad one.
     number: u32,
+    /// The digest of the line `seal 1`.
+    seal: Option<Digest>,
     broken: Option<Kind>,
 }
 
 impl Pass {
     /// A pass over no lines yet. It takes no memory, and so never answers `NoMemory`.
-    #[tactic(auto, using(crate::proofs::Ending::ends))]
+    #[tactic(auto, using(crate::proofs::Ending::ends, crate::proofs::FirstSeal::first_seal_empty))]
     pub fn new(alloc: Global) -> Result<Pass, NoMemory>
         ensures ok { IsOk result }
         ensures stands { IfOk result (λ pass. StandsFor pass []) }
@@ -59,6 +62,7 @@ impl Pass {
             sealer: Sealer::new(),
             ledger: None,
             number: 0,
+            seal: None,
             broken: None,
         })
     }
@@ -86,6 +90,7 @@ impl Pass {
             &mut self.expect,
             &mut self.sealer,
             &mut self.ledger,
+            &mut self.seal,
             line,
         )?;
         self.broken = broken;
@@ -99,6 +104,21 @@ impl Pass {
         ensures says { is_open self.now ≡ true → (lines : List (List ℕ)) → StandsFor self.now lines → result ≡ is_behind_plan lines }
     {
         self.ledger.is_some()
+    }
+
+    /// The plan, where all of its lines were taken.
+    pub fn plan(&self) -> &Plan
+        requires ready { is_ready self.now ≡ true }
+        ensures is { is_open self.now ≡ true → (lines : List (List ℕ)) → StandsFor self.now lines → plan_of lines ≡ Some result.now }
+    {
+        self.expect.plan()
+    }
+
+    /// The digest of the line `seal 1`, where it was taken.
+    pub fn first_seal(&self) -> Option<Digest>
+        ensures is { is_open self.now ≡ true → (lines : List (List ℕ)) → StandsFor self.now lines → result ≡ first_seal lines }
+    {
+        self.seal
     }
 
     /// Takes the next line, with its line feed, where `is_ready` is true. It takes no memory, and answers `More` or
@@ -119,7 +139,13 @@ impl Pass {
         let Some(ledger) = &mut self.ledger else {
             unreachable!()
         };
-        let broken = advance(&mut self.expect, &mut self.sealer, ledger, line);
+        let broken = advance(
+            &mut self.expect,
+            &mut self.sealer,
+            ledger,
+            &mut self.seal,
+            line,
+        );
         self.broken = broken;
         self.number += 1;
         answer(broken, false)

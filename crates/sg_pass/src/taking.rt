@@ -4,15 +4,15 @@ ghost use Rattle.sg_check.specs.Kinds.{first_bad};
 ghost use Rattle.sg_check.specs.Verdict.{total_on};
 ghost use Rattle.sg_forms.specs.Said.{said};
 ghost use Rattle.sg_ledger.specs.Tells.{HasDigits, Tells, TellsSome, totals_kept};
-ghost use Rattle.sg_pass.specs.inside.Taking.{Advances, IsNoPlanLine, Stands, StandsSome, is_behind};
+ghost use Rattle.sg_pass.specs.inside.Taking.{Advances, IsNoPlanLine, Stands, StandsSome, is_behind, next_seal, or_seal};
 ghost use Rattle.sg_plan.specs.Limits.{fault_of};
 ghost use Rattle.sg_grammar.specs.Left.{lines_left};
 ghost use Rattle.sg_grammar.specs.Placed.{Placed};
 ghost use Rattle.sg_grammar.specs.Spots.{IsPlacedIn, placed_at};
 
-use crate::seals::is_bad_seal;
+use crate::seals::{is_bad_seal, note_seal};
 use sg_check::Kind;
-use sg_commit::Sealer;
+use sg_commit::{Digest, Sealer};
 use sg_grammar::{Expect, Line, Spot, read_behind};
 use sg_ledger::Ledger;
 use sg_plan::Plan;
@@ -23,11 +23,13 @@ pub(crate) fn advance(
     expect: &mut Expect,
     sealer: &mut Sealer,
     ledger: &mut Ledger,
+    seal: &mut Option<Digest>,
     bytes: &[u8],
 ) -> Option<Kind>
     requires stands { StandsSome expect.old sealer.old (Some ledger.old) }
     requires behind { IsNoPlanLine expect.old bytes.now }
     ensures goes_on { (lines : List (List ℕ)) → Stands expect.old sealer.old (Some ledger.old) lines → Advances result expect.new sealer.new (Some ledger.new) lines bytes.now }
+    ensures seal { result ≡ None → seal.new ≡ or_seal seal.old (next_seal expect.old bytes.now) }
     ensures whole { result ≡ None → is_behind expect.new.head ≡ true }
     ensures falls { result ≡ None → lines_left expect.new < lines_left expect.old }
 {
@@ -41,6 +43,7 @@ pub(crate) fn advance(
     match judge_and_keep(ledger, expect.plan(), at, &read.line) {
         Some(kind) => Some(kind),
         None => {
+            note_seal(seal, at, &read.line);
             expect.go_on(read.standing);
             sealer.add(bytes);
             None

@@ -1,19 +1,22 @@
 -- One line, taken behind lines that are fine.
 use Rattle.std.specs.Prelude.{◌≡◌, ℕ, ◌+◌, ◌⊎◌, Bool, true, false, List, [], ◌∷◌, ◌++◌, length, Option, Some, None}
+use Rattle.std.specs.Option.{option_map_or}
 use Rattle.sg_grammar.specs.Lines.{placed_of}
 use Rattle.sg_check.specs.Judging.{AreOfPlan}
 use Rattle.sg_check.specs.Kinds.{bytes_of, first_bad}
 use Rattle.sg_check.specs.Verdict.{AreFine, IsFirstBad}
 use Rattle.sg_check.specs.declared.judged.Kind.{Kind}
 use Rattle.sg_commit.specs.Seals.{StandsFor as HasTaken}
+use Rattle.sg_commit.specs.declared.Digest.{Digest}
 use Rattle.sg_commit.specs.declared.Sealer.{Sealer}
 use Rattle.sg_forms.specs.Said.{Said}
 use Rattle.sg_ledger.specs.Tells.{Tells}
 use Rattle.sg_ledger.specs.declared.ledger.Ledger.{Ledger}
+use Rattle.sg_pass.specs.FirstSeal.{first_seal_on}
 use Rattle.sg_plan.specs.declared.plan.Plan.{Plan}
 use Rattle.sg_grammar.specs.Head.{head_line}
 use Rattle.sg_grammar.specs.Placed.{Placed}
-use Rattle.sg_grammar.specs.Walk.{Next, Posted, read_next, start, take_line, took, walk}
+use Rattle.sg_grammar.specs.Walk.{Next, Posted, read_next, start, take_bytes, take_line, took, walk}
 use Rattle.sg_grammar.specs.declared.state.Head.{Head}
 use Rattle.sg_grammar.specs.declared.state.Head.TheVariants as head
 
@@ -48,6 +51,24 @@ pub record IsRefused (old : Next) (said : Said) (placed : Placed) (lines : List 
   pub takes : take_line old said ≡ Some (took placed next)
   pub plan_stays : next.plan ≡ old.plan
   pub bad : first_bad old.plan lines placed ≡ Some broken
+
+-- THE FIRST SEAL
+
+-- the digest that was kept, or else the new line's
+abbrev pub or_seal : Option Digest → Option Digest → Option Digest
+or_seal (Some digest) new = Some digest
+or_seal None new = new
+
+-- that of the next line, where it may stand
+abbrev pub next_seal : Next → List ℕ → Option Digest
+next_seal expect bytes = option_map_or (λ taken. first_seal_on taken.placed) (take_bytes expect bytes) None
+
+-- THE LEDGER
+
+-- the ledger that a line opened is kept, where that line is bad in nothing; else what was kept stays
+abbrev pub opened_by : Option Kind → Ledger → Option Ledger → Option Ledger
+opened_by None opened before = Some opened
+opened_by (Some broken) opened before = before
 
 -- FINE LINES
 

@@ -1,13 +1,12 @@
-use Rattle.std.proofs.Common.{◌++◌, ◌∷◌, [], Option, Some, None, sym, subst, ap, ◌∙◌}
+use Rattle.std.proofs.Common.{◌++◌, ◌∷◌, [], Option, None, sym, subst, ap, ◌∙◌}
 use Rattle.std.specs.Option.{is_some}
-use Rattle.sg_check.specs.declared.judged.Kind.{Kind}
 use Rattle.sg_forms.specs.Said.{said}
 use Rattle.sg_ledger.specs.declared.ledger.Ledger.{Ledger}
-use Rattle.sg_pass.proofs.Advancing.{form_stops, made_stands, opened_advances, opened_stands, plan_advances}
+use Rattle.sg_pass.proofs.Advancing.{form_stops, made_stands, plan_advances}
+use Rattle.sg_pass.proofs.FirstSeal.{next_seal-plan}
 use Rattle.sg_pass.proofs.Placing.{good_plan, plan_step-before, step-falls}
 use Rattle.sg_pass.proofs.header.advance_header.Goals as goal
-use Rattle.sg_pass.specs.inside.Taking.{Advances, Stands}
-use Rattle.sg_plan.specs.Limits.{fault_of}
+use Rattle.sg_pass.specs.inside.Taking.{Stands}
 use Rattle.sg_grammar.proofs.Walking.{none_there, some_there}
 use Rattle.sg_grammar.specs.Head.{head_line}
 use Rattle.sg_grammar.specs.Walk.{take_line}
@@ -31,29 +30,12 @@ pub returns-then-is_of_plan-clause-falls : goal.returns-then-is_of_plan-clause-f
 returns-then-is_of_plan-clause-falls c = λ good.
     step-falls c.args.expect.now c.plan_step.new.self (said c.in-Some.line) (made_stands c.args.expect.now c.args.sealer.now None c.requires.stands.0 c.requires.stands.1) c.in_ok-plan_step.ensures.ok
 
-pub make-requires : goal.make-requires
-make-requires c =
+pub returns-then-is_of_plan-clause-seal : goal.returns-then-is_of_plan-clause-seal
+returns-then-is_of_plan-clause-seal c = λ good.
+    next_seal-plan c.args.expect.now c.args.bytes.now (said c.in-Some.line) c.args.seal.now (sym c.in-Some.ensures.exact) (sym c.is_of_plan.ensures ∙ c.if-is_of_plan.true)
+
+pub advance_behind-requires-clause-good : goal.advance_behind-requires-clause-good
+advance_behind-requires-clause-good c =
     let there = some_there (take_line c.args.expect.now (said c.in-Some.line)) c.in-Some.ensures.found.2 in
-    record {
-      good = ap fault_of c.plan.ensures.is
-          ∙ good_plan c.args.expect.now (said c.in-Some.line) there.0 c.plan.ensures.made
-          (none_there (head_line c.args.expect.now.plan c.args.expect.now.head (said c.in-Some.line)) (sym c.is_of_plan.ensures ∙ c.if-is_of_plan.false)) there.1;
-    }
-
-pub advance-requires-clause-stands : goal.advance-requires-clause-stands
-advance-requires-clause-stands c = (
-  c.requires.stands.0,
-  opened_stands c.args.expect.now c.args.sealer.now c.plan.result.now c.in_ok-opened.opened c.plan.ensures.is c.in_ok-opened.ensures c.requires.stands.0 c.requires.stands.1,
-)
-
-pub returns-in-Some-advance-clause-goes_on : goal.returns-in-Some-advance-clause-goes_on
-returns-in-Some-advance-clause-goes_on c = λ lines stands.
-    subst (λ (b : Option Kind). Advances b c.advance.new.expect c.advance.new.sealer (Some c.advance.new.ledger) lines c.args.bytes.now) c.in-Some-advance.is
-    (opened_advances c.args.expect.now c.advance.new.expect c.args.sealer.now c.advance.new.sealer c.plan.result.now c.in_ok-opened.opened c.advance.new.ledger c.args.bytes.now c.advance.result
-    c.plan.ensures.is c.in_ok-opened.ensures c.advance.ensures.goes_on lines stands)
-
-pub returns-in-None-clause-goes_on : goal.returns-in-None-clause-goes_on
-returns-in-None-clause-goes_on c = λ lines stands.
-    subst (λ (b : Option Kind). Advances b c.advance.new.expect c.advance.new.sealer (Some c.advance.new.ledger) lines c.args.bytes.now) c.in-None.is
-    (opened_advances c.args.expect.now c.advance.new.expect c.args.sealer.now c.advance.new.sealer c.plan.result.now c.in_ok-opened.opened c.advance.new.ledger c.args.bytes.now c.advance.result
-    c.plan.ensures.is c.in_ok-opened.ensures c.advance.ensures.goes_on lines stands)
+    good_plan c.args.expect.now (said c.in-Some.line) there.0 (made_stands c.args.expect.now c.args.sealer.now None c.requires.stands.0 c.requires.stands.1)
+    (none_there (head_line c.args.expect.now.plan c.args.expect.now.head (said c.in-Some.line)) (sym c.is_of_plan.ensures ∙ c.if-is_of_plan.false)) there.1

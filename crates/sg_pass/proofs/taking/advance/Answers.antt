@@ -2,8 +2,10 @@ use Rattle.std.proofs.Common.{Some, sym, ap, ◌∙◌}
 use Rattle.sg_forms.specs.Said.{said}
 use Rattle.sg_pass.proofs.Advancing.{form_stops, kind_advances, line_advances, made_stands, seal_advances}
 use Rattle.sg_pass.proofs.Placing.{good_plan, place_of, step_of, step-behind, step-falls, taken_there}
+use Rattle.sg_pass.proofs.FirstSeal.{next_seal-at}
 use Rattle.sg_pass.proofs.Reading.{room_left}
 use Rattle.sg_pass.proofs.taking.advance.Goals as goal
+use Rattle.sg_pass.specs.inside.Taking.{or_seal}
 use Rattle.sg_plan.specs.Limits.{fault_of}
 use Rattle.sg_grammar.specs.Spots.{placed_at}
 
@@ -49,3 +51,9 @@ pub returns-in-None-clause-falls : goal.returns-in-None-clause-falls
 returns-in-None-clause-falls c = λ good.
     step-falls c.args.expect.now c.go_on.new.self (said c.in-Some.read.line)
     (made_stands c.args.expect.now c.args.sealer.now (Some c.args.ledger.now) c.requires.stands.0 c.requires.stands.1) (step_of c.args.expect.now c.go_on.new.self (said c.in-Some.read.line) c.in-Some.read.standing c.in-Some.ensures.taken c.go_on.ensures)
+
+pub returns-in-None-clause-seal : goal.returns-in-None-clause-seal
+returns-in-None-clause-seal c = λ good.
+    c.note_seal.ensures
+    ∙ ap (or_seal c.args.seal.now) (sym (next_seal-at c.args.expect.now c.args.bytes.now (said c.in-Some.read.line) (placed_at c.in-Some.read.standing.spot (said c.in-Some.read.line)) (sym c.in-Some.ensures.exact)
+    (place_of c.args.expect.now (said c.in-Some.read.line) c.in-Some.read.standing c.in-Some.ensures.taken)))
