@@ -1,7 +1,7 @@
 //! Lines on examples, whose values were found by hand or by another program.
 ghost use Rattle.std.specs.Prelude.{◌≡◌, ◌⊎◌};
 
-use sg_forms::{Line, read_form, write_line};
+use sg_forms::{Line, draw_bytes, read_form, write_line};
 
 /// Lines of records that another program wrote: each form without a code.
 const LINES: [&str; 24] = [
