@@ -1,3 +1,4 @@
+pub mod Answers
 pub mod Coins
 pub mod Odds
 pub mod Opened
