@@ -2,3 +2,4 @@ pub mod Answers
 pub mod Coins
 pub mod Odds
 pub mod Opened
+pub mod inside

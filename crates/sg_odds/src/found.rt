@@ -1,8 +1,11 @@
-//! What the odds of a race are.
+//! What is found of a race.
 ghost use Rattle.std.specs.Prelude.{◌<◌, IfOk, length};
 ghost use Rattle.sg_odds.specs.Answers.{IsBound, IsFound};
 
-use sg_plan::NoMemory;
+use crate::full::first_of_race;
+use crate::gaps::race_exponent;
+use sg_facts::marked_codes;
+use sg_plan::{BallotIndex, NoMemory};
 use sg_recount::Parts;
 use std::alloc::Global;
 
@@ -22,11 +25,32 @@ pub enum OddsFound {
     },
 }
 
+/// The exponent of a race that is full, or the race's first row that isn't.
+fn find(alloc: Global, parts: &Parts, race: u32) -> Result<OddsFound, NoMemory>
+    requires { race < length parts.now.posted.plan.races }
+    ensures { IfOk result (λ found. IsFound parts.now race found) }
+{
+    let posted = parts.posted();
+    let rows = &parts.completion().rows;
+    if let Some(at) = first_of_race(alloc, &posted.plan, rows, race)? {
+        return Ok(OddsFound::NotFull {
+            instance: at.instance,
+            row: at.row,
+        });
+    }
+    let index = BallotIndex::make(alloc, &posted.plan)?;
+    let marked = marked_codes(alloc, posted, &index)?;
+    let power = race_exponent(alloc, posted, rows, &marked, race)?;
+    Ok(OddsFound::Exponent(power))
+}
+
 /// The exponent of a race's odds, or the first row whose pointers aren't full. Only want of memory is refused.
-pub fn odds(_alloc: Global, parts: &Parts, race: u32) -> Result<OddsFound, NoMemory>
+pub fn odds(alloc: Global, parts: &Parts, race: u32) -> Result<OddsFound, NoMemory>
     requires race { race < length parts.now.posted.plan.races }
     ensures found { IfOk result (λ found. IsFound parts.now race found) }
     ensures bound { IfOk result (λ found. IsBound parts.now found) }
 {
-    Err(NoMemory)
+    let _ = parts.posted();
+    let found = find(alloc, parts, race)?;
+    Ok(found)
 }

@@ -2,6 +2,9 @@
 #![tactic(auto)]
 
 mod found;
+mod full;
+mod gaps;
 pub mod laws;
+mod led;
 
 pub use found::{OddsFound, odds};

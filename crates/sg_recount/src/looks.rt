@@ -22,7 +22,7 @@ fn half_given(on: Side, row: &RowGiven) -> Option<Opening>
 }
 
 /// The opening of a half, or none.
-pub(crate) fn given_half(
+pub fn given_half(
     rows: &Items<Items<Items<RowGiven>>>,
     on: Side,
     race: u32,
@@ -51,7 +51,7 @@ pub(crate) fn posted_of(
 }
 
 /// The code of an entry that is marked.
-pub(crate) fn marked_code(marked: &Items<Items<Option<u16>>>, race: u32, entry: u32) -> Option<u16>
+pub fn marked_code(marked: &Items<Items<Option<u16>>>, race: u32, entry: u32) -> Option<u16>
     ensures { result ≡ option_map_or (λ code. code) (item_in marked.now race entry) None }
 {
     match item_at(marked, race, entry) {
@@ -96,7 +96,7 @@ pub(crate) fn place_at(posted: &Record, race: u32, place: u32) -> bool
 }
 
 /// The total of a candidate.
-pub(crate) fn total_at(posted: &Record, race: u32, candidate: u32) -> u32
+pub fn total_at(posted: &Record, race: u32, candidate: u32) -> u32
     ensures { result ≡ option_map_or (λ total. total) (item_in posted.now.totals race candidate) 0 }
 {
     match item_at(&posted.totals, race, candidate) {

@@ -1,0 +1,4 @@
+-- What only private clauses and proofs cite: no reader of a public contract need believe it.
+pub mod Gaps
+pub mod Lacking
+pub mod Values
