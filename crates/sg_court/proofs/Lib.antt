@@ -1,0 +1,9 @@
+-- The proofs.
+pub mod Ending
+pub mod Putting
+pub mod Given
+pub mod Heard
+pub mod Lines
+pub mod Longer
+pub mod Told
+pub mod Verdicts

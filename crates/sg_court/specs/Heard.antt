@@ -1,0 +1,34 @@
+-- How far the input of a recount is read (this project's rules for a recount).
+use Rattle.std.specs.Prelude.{◌≡◌, ℕ, ◌+◌, ◌<◌, ◌⊎◌, List, [], ◌++◌, length, Option}
+use Rattle.std.specs.List.{concat}
+use Rattle.std.specs.Io.KnownBytes.{Consumes, IsAtEnd}
+use Rattle.sg_outside.specs.TextLines.{AreLines, HasNoFeed}
+
+-- the most lines that a record, its printing and its completion have: 1,200,000 of the record, the line `printing` and 660,000
+-- of the sheet, the line `completion` and 200,000 of the rows
+abbrev pub most_lines : ℕ
+most_lines = 2060002
+
+-- the text is whole lines, and one of them is too many
+pub record HasOneMore (text : List ℕ) : Type 0 where
+  pub all : List (List ℕ)
+  pub are_lines : AreLines all
+  pub text_is : text ≡ concat all
+  pub many : length all ≡ most_lines + 1
+
+-- the text is whole lines, and then as many bytes of one more as a line has at most, with no line feed among them
+pub record EndsLong (text : List ℕ) : Type 0 where
+  pub before : List (List ℕ)
+  pub rest : List ℕ
+  pub are_lines : AreLines before
+  pub text_is : text ≡ concat before ++ rest
+  pub unended : HasNoFeed rest
+  pub long : length rest ≡ 16384
+
+-- The input was read so far: to its end, or until no text that goes on so has all parts. Fewer than 16,384 bytes behind it
+-- were taken.
+pub record IsRead (before now : Option (List ℕ)) (text : List ℕ) : Type 0 where
+  pub ahead : List ℕ
+  pub few : length ahead < 16384
+  pub taken : Consumes before now (text ++ ahead)
+  pub stops : ((ahead ≡ []) × IsAtEnd now) ⊎ HasOneMore text ⊎ EndsLong text

@@ -1,0 +1,4 @@
+-- How the code goes. Only clauses of private functions and proofs cite this.
+pub mod Finding
+pub mod Hearing
+pub mod Telling
