@@ -1,5 +1,5 @@
 -- The least and the greatest of values, number by number.
-use Rattle.std.proofs.Common.{◌≡◌, ℕ, zero, suc, ◌+◌, ◌<◌, ◌≤◌, min, max, refl, sym, ap, ◌∙◌, arith}
+use Rattle.std.proofs.Common.{◌≡◌, ℕ, zero, suc, ◌+◌, ◌<◌, ◌≤◌, min, max, refl, ap, ◌∙◌, arith}
 use Rattle.sg_odds.specs.Odds.{greatest_below, least_with}
 
 -- the first of the values is the least of itself

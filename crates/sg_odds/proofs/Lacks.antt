@@ -1,5 +1,5 @@
 -- What is noted of the pointers of an instance, row by row.
-use Rattle.std.proofs.Common.{◌≡◌, ℕ, zero, suc, ◌+◌, ◌<◌, ◌≤◌, nat_le, Bool, true, false, ◌||◌, inl, inr, List, length, replicate, Option, Some, None, refl, sym, ap, ◌∙◌, arith}
+use Rattle.std.proofs.Common.{◌≡◌, ℕ, zero, suc, ◌+◌, ◌<◌, nat_le, Bool, true, false, ◌||◌, inl, inr, List, length, replicate, Option, Some, None, refl, sym, ap, ◌∙◌, arith}
 use Rattle.std.specs.Option.{option_map_or}
 use Rattle.std.specs.Prelude.{slice_get}
 use Rattle.std.proofs.lemmas.Bool.{cases_eq, cases_lt, le-leb}
@@ -8,7 +8,7 @@ use Rattle.sg_plan.specs.Ballots.{entries_of}
 use Rattle.sg_plan.specs.declared.plan.Plan.{Plan}
 use Rattle.sg_plan.specs.declared.plan.Side.{Side}
 use Rattle.sg_plan.specs.declared.plan.Side.TheVariants as side
-use Rattle.sg_check.specs.Completions.{Completion, any_below}
+use Rattle.sg_check.specs.Completions.{Completion}
 use Rattle.sg_check.specs.Facts.{points_to}
 use Rattle.sg_odds.specs.Odds.{is_half_lacking, is_lacking}
 use Rattle.sg_odds.specs.inside.Lacking.{IsFullBefore, is_earlier, lacks_in}

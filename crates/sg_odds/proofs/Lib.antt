@@ -1,8 +1,8 @@
 -- The proofs of the law of the odds, and of what is found of a race.
+pub mod Bounding
 pub mod Examples
 pub mod Exponent
 pub mod Few
-pub mod Found
 pub mod Gapping
 pub mod Halving
 pub mod Lacks

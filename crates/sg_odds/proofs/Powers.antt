@@ -1,5 +1,5 @@
 -- The exponent that is told from the totals of an accepted record and the table of what is led: it is the law's, and small.
-use Rattle.std.proofs.Common.{◌≡◌, ℕ, ◌+◌, ◌*◌, ◌<◌, ◌≤◌, List, length, Option, Some, sym, ap, ◌∙◌, arith}
+use Rattle.std.proofs.Common.{◌≡◌, ℕ, ◌*◌, ◌<◌, ◌≤◌, List, length, Option, sym, ap, ◌∙◌, arith}
 use Rattle.std.proofs.lemmas.Nat.{mul-le}
 use Rattle.std.specs.Option.{option_map_or}
 use Rattle.sg_plan.proofs.PlanLaws.{bounds}
@@ -9,7 +9,6 @@ use Rattle.sg_record.specs.Places.{places_in}
 use Rattle.sg_record.specs.declared.record.Record.{Record}
 use Rattle.sg_parts.specs.Given.{IsAccepted, completion_of}
 use Rattle.sg_parts.specs.declared.parts.RowGiven.{RowGiven}
-use Rattle.sg_facts.specs.Items.{item_in}
 use Rattle.sg_facts.specs.Totals.{total_of}
 use Rattle.sg_recount.proofs.Counting.{count_most}
 use Rattle.sg_recount.proofs.Facing.{total_is}

@@ -9,7 +9,6 @@ use Rattle.sg_record.specs.Places.{places_in}
 use Rattle.sg_facts.specs.Items.{item_in}
 use Rattle.sg_parts.specs.Given.{completion_of}
 use Rattle.sg_recount.proofs.Facing.{mark_is}
-use Rattle.sg_odds.proofs.Lacks.{values_filled}
 use Rattle.sg_odds.proofs.Leading.{pointers_once}
 use Rattle.sg_odds.proofs.Leads.{leads_few, leads_more, leads_start}
 use Rattle.sg_odds.specs.Opened.{half_of}

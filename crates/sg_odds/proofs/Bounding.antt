@@ -1,5 +1,5 @@
 -- Where a race is full, its exponent is one of the law of the odds.
-use Rattle.std.proofs.Common.{◌≡◌, ℕ, ◌*◌, ◌^◌, ◌<◌, ◌≤◌, false, List, length, Option, sym, subst, ap, ◌∙◌}
+use Rattle.std.proofs.Common.{ℕ, ◌*◌, ◌^◌, ◌<◌, ◌≤◌, false, List, length, Option, sym, subst, ap, ◌∙◌}
 use Rattle.std.specs.Option.{option_map_or}
 use Rattle.sg_grammar.specs.Lines.{placed_of}
 use Rattle.sg_grammar.specs.Placed.{Placed}
