@@ -1,4 +1,7 @@
 //! Rows as lines of words, each line with the name of its table, numbers in decimal and texts in hexadecimal digits.
+ghost use Rattle.std.specs.Prelude.{◌≡◌};
+ghost use Rattle.sg_keeper.specs.Rows.{no_rows as nothing_kept};
+
 use crate::fault::Fault;
 use sg_keeper::{BallotRow, ClaimRow, DoneRow, Rows, StageRow, VoidRow};
 use sg_lines::hex_bytes;
@@ -7,7 +10,9 @@ use std::alloc::Global;
 use std::io::Write;
 
 /// No rows.
-pub(crate) fn no_rows(alloc: Global) -> Rows {
+pub fn no_rows(alloc: Global) -> Rows
+    ensures { result ≡ nothing_kept }
+{
     Rows {
         setup: None,
         ballots: Items::new(alloc),
@@ -80,7 +85,7 @@ fn add_row(alloc: Global, line: &[u8], rows: &mut Rows) -> Result<(), Fault> {
 }
 
 /// The rows of these lines.
-pub(crate) fn rows_of(alloc: Global, text: &[u8]) -> Result<Rows, Fault> {
+pub fn rows_of(alloc: Global, text: &[u8]) -> Result<Rows, Fault> {
     let mut rows = no_rows(alloc);
     for line in text.split(|byte| *byte == b'\n') {
         if !line.is_empty() {
