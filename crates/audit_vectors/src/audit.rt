@@ -1,16 +1,15 @@
 //! The audit of one record, and what must hold of it besides.
-ghost use Rattle.std.specs.Prelude.{◌≡◌, IfOk, false, is_some};
+ghost use Rattle.std.specs.Prelude.{◌<◌};
 
 use crate::fault::Fault;
 use crate::read_back::{ReadBack, read_back, tell_breaches};
 use crate::report::is_report_of;
-use sg_app::run;
 use sg_check::{Judged, verdict};
-use sg_keeper::{MemoryKeeper, Rows};
-use sg_links::Calls;
+use sg_keeper::MemoryKeeper;
 use sg_outside::{Bytes, Page};
 use sg_plan::limits::LONGEST_LINE;
 use sg_plan::{Items, NoMemory, Word};
+use sg_steps::{no_rows, status_over, words_of};
 use std::alloc::Global;
 use std::io::Write;
 
@@ -19,44 +18,33 @@ const REPORT: usize = LONGEST_LINE;
 
 /// The word `audit`, as the program is given it.
 pub(crate) fn audit_word(alloc: Global) -> Result<Items<Word>, NoMemory> {
-    let mut words = Items::new(alloc);
-    let mut word = Word::new(alloc);
-    word.extend(b"audit".as_slice())?;
-    words.push(word)?;
-    Ok(words)
+    words_of(alloc, b"audit", b' ')
 }
 
-/// A keeper without rows.
-fn keeper_of(alloc: Global) -> MemoryKeeper {
-    let rows = Rows {
-        setup: None,
-        ballots: Items::new(alloc),
-        stages: Items::new(alloc),
-        claims: Items::new(alloc),
-        voids: Items::new(alloc),
-        dones: Items::new(alloc),
-    };
-    MemoryKeeper::new(alloc, rows, Items::new(alloc))
-}
-
-/// Links without connections.
-fn no_calls(alloc: Global) -> Result<Calls, Fault>
-    ensures { IfOk result (λ calls. is_some calls.board.current ≡ false) }
-{
-    let calls = Calls::new(alloc, Vec::new(alloc), 0, 0, Vec::new(alloc))?;
-    Ok(calls)
-}
-
-/// Audits an input, over no rows and no connections, and answers the status.
+/// Audits an input over no rows, and answers the status.
 fn audited(
     alloc: Global,
     words: &Items<Word>,
     input: &mut Bytes,
     page: &mut Page,
 ) -> Result<u8, Fault> {
-    let mut keeper = keeper_of(alloc);
-    let mut links = no_calls(alloc)?;
-    Ok(run(alloc, words, input, &mut keeper, &mut links, page))
+    let mut keeper = MemoryKeeper::new(alloc, no_rows(alloc), Items::new(alloc));
+    Ok(status_over(alloc, words, input, &mut keeper, page)?)
+}
+
+/// Audits a record that is read in pieces of this many bytes, where these reads fail, and answers the status.
+fn audited_in_pieces(
+    alloc: Global,
+    words: &Items<Word>,
+    record: &[u8],
+    piece: usize,
+    fails: Vec<u32>,
+    page: &mut Page,
+) -> Result<u8, Fault>
+    requires { 0 < piece }
+{
+    let mut input = Bytes::new(Vec::from_slice(alloc, record)?, piece, fails);
+    audited(alloc, words, &mut input, page)
 }
 
 /// Where the line of this number ends, from 1: behind its line feed.
@@ -85,10 +73,39 @@ fn is_settled(
         return Ok(true);
     };
     let fails = Vec::from_slice(alloc, &[end])?;
-    let mut input = Bytes::new(Vec::from_slice(alloc, record)?, 1, fails);
     let mut page = Page::new(alloc, REPORT, Vec::new(alloc), 0)?;
-    let status = audited(alloc, words, &mut input, &mut page)?;
+    let status = audited_in_pieces(alloc, words, record, 1, fails, &mut page)?;
     Ok(status == 1 && page.written() == report)
+}
+
+/// The plain verdict of a record.
+fn judged(alloc: Global, record: &[u8]) -> Result<Judged, NoMemory> {
+    verdict(alloc, record)
+}
+
+/// Writes a line where the plain verdict is another than the report, where a fault behind the bad line changes the report,
+/// or where reading and writing the record goes wrong.
+///
+/// Answers whether the record was read, and written back as the same bytes.
+fn tell_checks<W: Write>(
+    alloc: Global,
+    words: &Items<Word>,
+    record: &[u8],
+    report: &[u8],
+    out: &mut W,
+) -> Result<bool, Fault> {
+    let judged = judged(alloc, record)?;
+    if !is_report_of(&judged, report) {
+        out.write_all(b"the plain verdict is another\n")?;
+    }
+    if let Judged::No { line, .. } = &judged {
+        if !is_settled(alloc, words, record, *line, report)? {
+            out.write_all(b"a fault behind the bad line changes the report\n")?;
+        }
+    }
+    let read = read_back(alloc, record)?;
+    tell_breaches(&judged, read, out)?;
+    Ok(read == ReadBack::Same)
 }
 
 /// Audits one record, and writes its name, the status and the report. Behind these a line says so where the plain
@@ -103,24 +120,12 @@ pub(crate) fn tell<W: Write>(
     record: &[u8],
     out: &mut W,
 ) -> Result<bool, Fault> {
-    let mut input = Bytes::new(Vec::from_slice(alloc, record)?, REPORT, Vec::new(alloc));
     let mut page = Page::new(alloc, REPORT, Vec::new(alloc), 0)?;
-    let status = audited(alloc, words, &mut input, &mut page)?;
+    let status = audited_in_pieces(alloc, words, record, REPORT, Vec::new(alloc), &mut page)?;
     out.write_all(name)?;
     out.write_all(if status == 0 { b" 0\n" } else { b" 1\n" })?;
     out.write_all(page.written())?;
-    let judged = verdict(alloc, record)?;
-    if !is_report_of(&judged, page.written()) {
-        out.write_all(b"the plain verdict is another\n")?;
-    }
-    if let Judged::No { line, .. } = &judged {
-        if !is_settled(alloc, words, record, *line, page.written())? {
-            out.write_all(b"a fault behind the bad line changes the report\n")?;
-        }
-    }
-    let read = read_back(alloc, record)?;
-    tell_breaches(&judged, read, out)?;
-    Ok(read == ReadBack::Same)
+    tell_checks(alloc, words, record, page.written(), out)
 }
 
 /// Writes how many records were read, and written back as the same bytes.

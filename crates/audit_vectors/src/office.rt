@@ -5,7 +5,6 @@
 //! the coins are: no ballot is audited, so no row is opened on both sides. Where it does so in one instance alone, the
 //! flag of an altered row agrees with the entry on its left, but not with the place on its right, and the audit finds
 //! the first of the two rows whose coin opens the right side.
-#[cfg(test)]
 mod altered;
 mod election;
 mod posting;
@@ -14,6 +13,7 @@ mod tables;
 
 use crate::audit::{tell, tell_count};
 use crate::fault::Fault;
+use altered::tell_altered;
 use posting::record_of;
 use sealing::sealed_page;
 use sg_plan::{Items, Word};
@@ -83,7 +83,8 @@ const OFFICES: [Office; 6] = [
     },
 ];
 
-/// Audits the records of all offices, and writes how many of them were read and written back.
+/// Audits the records of all offices, and writes how many of them were read and written back, and how many rows such
+/// offices altered.
 pub(crate) fn tell_offices<W: Write>(
     alloc: Global,
     words: &Items<Word>,
@@ -96,5 +97,6 @@ pub(crate) fn tell_offices<W: Write>(
             same = same.saturating_add(1);
         }
     }
-    tell_count(same, out)
+    tell_count(same, out)?;
+    tell_altered(alloc, out)
 }

@@ -2,11 +2,11 @@
 use super::posting::record_of;
 use super::tables::{CANDIDATES, ENTRIES, INSTANCES, code_of, entry_of, left_pointer, place_of};
 use super::{Exchange, FIRST_DRAW, Office, SECOND_DRAW, THIRD_DRAW};
+use crate::fault::Fault;
 use sg_plan::{Items, NoMemory, Side};
 use sg_record::{BallotBlock, BlockFate, Record, RowOpening};
 use std::alloc::Global;
-use std::process::Abort;
-use std::test::Fail;
+use std::io::Write;
 
 /// What stands behind the halves of rows: what the office committed to, or only what its record posts.
 #[derive(Clone, Copy, Debug)]
@@ -242,51 +242,49 @@ fn altered_rows(
     }))
 }
 
-/// Expects so many altered rows in each instance.
-fn expect_altered(
-    rt: &impl Abort,
+/// Writes how many rows of each instance are altered in the completion.
+fn put_counts<W: Write>(
     alloc: Global,
     record: &Record,
     completion: Completion,
-    expected: u32,
-) -> Result<(), Fail> {
+    out: &mut W,
+) -> Result<(), Fault> {
     for instance in 0..INSTANCES {
-        let found = altered_rows(alloc, record, completion, instance)?;
-        assert!(rt; found == expected, "instance {instance}: {found}");
+        let count = altered_rows(alloc, record, completion, instance)?;
+        write!(out, " {count}")?;
     }
     Ok(())
 }
 
-/// Expects so many altered rows in each instance of what the office committed to. Where nothing is known but what its
-/// record posts, all rows are altered, as each is opened on one side alone.
-fn expect_office(
-    rt: &impl Abort,
-    alloc: Global,
-    office: &Office,
-    expected: u32,
-) -> Result<(), Fail> {
+/// Writes how many rows of each instance an office altered in what it committed to, and how many are altered where
+/// nothing is known but what its record posts: all, as each row is opened on one side alone.
+fn tell_office<W: Write>(alloc: Global, office: &Office, out: &mut W) -> Result<(), Fault> {
     let record = record_of(alloc, office)?;
-    let committed = Completion::Committed(office.exchange);
-    expect_altered(rt, alloc, &record, committed, expected)?;
-    expect_altered(rt, alloc, &record, Completion::Posted, ENTRIES)
+    out.write_all(office.name)?;
+    out.write_all(b" committed")?;
+    put_counts(alloc, &record, Completion::Committed(office.exchange), out)?;
+    out.write_all(b" posted")?;
+    put_counts(alloc, &record, Completion::Posted, out)?;
+    out.write_all(b"\n")?;
+    Ok(())
 }
 
-/// The office whose exchange of places is this, and whose draw has these public bytes.
-fn office(exchange: Exchange, public: [u8; 4]) -> Office {
-    Office {
-        name: b"office",
-        exchange,
-        public,
-    }
-}
-
-/// An office that moves a vote in all instances has altered one row in each, whatever the draw was, and an honest one none.
-#[test]
-fn one_row_is_altered_in_each_instance(rt: HostRuntime) -> Result<(), Fail> {
-    let alloc = rt.alloc();
+/// Writes what offices altered, under each draw: an honest one no row, and one that moves a vote in all instances one row
+/// in each.
+pub(super) fn tell_altered<W: Write>(alloc: Global, out: &mut W) -> Result<(), Fault> {
     for public in [FIRST_DRAW, SECOND_DRAW, THIRD_DRAW] {
-        expect_office(&rt, alloc, &office(Exchange::Nowhere, public), 0)?;
-        expect_office(&rt, alloc, &office(Exchange::Everywhere, public), 1)?;
+        let honest = Office {
+            name: b"altered-by-honest",
+            exchange: Exchange::Nowhere,
+            public,
+        };
+        let moving = Office {
+            name: b"altered-by-moves-vote",
+            exchange: Exchange::Everywhere,
+            public,
+        };
+        tell_office(alloc, &honest, out)?;
+        tell_office(alloc, &moving, out)?;
     }
     Ok(())
 }
