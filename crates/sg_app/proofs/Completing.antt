@@ -25,6 +25,9 @@ use Rattle.sg_station.specs.Serves.{Scene, ServesCalls, ending_status as serving
 use Rattle.sg_station.specs.declared.station.Ending.{Ending as Serving}
 use Rattle.sg_station.specs.declared.station.Ending.TheVariants as serving
 use Rattle.sg_words.specs.declared.sample.Sample.{Sample}
+use Rattle.sg_court.specs.Odds.{OddsDue}
+use Rattle.sg_court.specs.Recounts.{RecountDue}
+use Rattle.sg_court.specs.Says.{Says, Shows}
 use Rattle.sg_app.specs.Audit.{AuditSays}
 use Rattle.sg_app.specs.Complete.{DoesAll, IsComplete, KeepsScanning, KeepsServing, KeepsTalking, NothingFailed, ShowsOffice}
 use Rattle.sg_app.specs.Outside.{Outside, input_at, moment_of, output_at, scene_of}
@@ -60,6 +63,15 @@ pub sample_complete : (asked : Sample) (status : ℕ) (tells : Type 0) (rows row
 sample_complete asked status tells rows rows' before now (inl says) none = inr says
 sample_complete asked status tells rows rows' before now (inr (inl says)) none = absurd (none.writes says.1.cause)
 sample_complete asked status tells rows rows' before now (inr (inr says)) none = inl says.0
+
+-- `recount` and `odds`
+court_complete : (Due : List (List ℕ) → ℕ → List ℕ → Type 0) (status : ℕ) (before now : Outside)
+    → Says Due status (input_at before) (input_at now) (output_at before) (output_at now) → NothingFailed before now
+    → (status ≡ 9) ⊎ Shows Due status (input_at before) (input_at now) (output_at before) (output_at now)
+court_complete Due status before now (inl says) none = inr says
+court_complete Due status before now (inr (inl says)) none = absurd (none.reads says.1.cause)
+court_complete Due status before now (inr (inr (inl says))) none = absurd (none.writes says.1.cause)
+court_complete Due status before now (inr (inr (inr says))) none = inl says.0
 
 -- what shows the kept rows
 shows_complete : (shown : Setup → List Entry → List ℕ) (status : ℕ) (tells : Type 0) (rows : Rows) (before now : Outside)
@@ -211,3 +223,5 @@ says_complete command.Scans status tells rows rows' before now says = scans_comp
 says_complete (command.Serve asked) status tells rows rows' before now says = serve_complete asked status tells rows rows' before now says
 says_complete command.Record status tells rows rows' before now says = record_complete status tells rows rows' before now says
 says_complete (command.Sample asked) status tells rows rows' before now says = sample_complete asked status tells rows rows' before now says
+says_complete command.Recount status tells rows rows' before now says = λ none. court_complete RecountDue status before now says none
+says_complete command.Odds status tells rows rows' before now says = λ none. court_complete OddsDue status before now says none

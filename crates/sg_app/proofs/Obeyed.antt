@@ -29,3 +29,5 @@ memory_says command.Scans tells rows now = inr (record { unread = refl; no_fault
 memory_says (command.Serve asked) tells rows now = inr (inr (record { board = refl; no_fault = refl; same = λ _. refl; says = inr (inr (inr (inr (refl, refl)))) }))
 memory_says command.Record tells rows now = inr (inr (inr (inr (inr (refl, inl refl)))))
 memory_says (command.Sample asked) tells rows now = inr (inr (refl, refl))
+memory_says command.Recount tells rows now = inr (inr (inr (refl, refl)))
+memory_says command.Odds tells rows now = inr (inr (inr (refl, refl)))

@@ -15,6 +15,9 @@ use Rattle.sg_batch.specs.ScansAsked.{TalksOfScans}
 use Rattle.sg_sample.specs.Summary.{summary_text}
 use Rattle.sg_station.specs.Calls.{failures_in, stores_in as stores_among}
 use Rattle.sg_station.specs.Says.{HasServed}
+use Rattle.sg_court.specs.Odds.{OddsDue}
+use Rattle.sg_court.specs.Recounts.{RecountDue}
+use Rattle.sg_court.specs.Says.{Shows}
 use Rattle.sg_app.specs.Audit.{SaysNo, SaysYes}
 use Rattle.sg_app.specs.Outside.{Outside, input_at, moment_of, output_at, scene_of}
 use Rattle.sg_words.specs.declared.service.Service.{Service}
@@ -63,7 +66,8 @@ pub record KeepsServing (status : ℕ) (asked : Service) (tells : Type 0) (rows 
 -- `sheet` and `record` show what is kept; `do` answers all lines (0), or all before one that is refused (7), and no answer
 -- says that the keeper failed; nor does one of `scans`, which answers all records of the file (0), or refuses it (7), or of
 -- `serve`, which serves as many connections as were asked for, and none fails. These five say else that no setup is kept (7),
--- or which row is damaged (8). `sample` writes the summary of its run.
+-- or which row is damaged (8). `sample` writes the summary of its run. `recount` and `odds` write what is due of the input, with its
+-- status (0, 1 or 7).
 abbrev pub DoesAll : Command → ℕ → (tells : Type 0) → Rows → Rows → Outside → Outside → Type 0
 DoesAll command.Audit status tells rows rows' before now =
     ((status ≡ 0) × SaysYes (input_at before) (input_at now) (output_at before) (output_at now))
@@ -88,6 +92,8 @@ DoesAll (command.Serve asked) status tells rows rows' before now =
     ⊎ SaysDamaged status tells rows before now
 DoesAll command.Record status tells rows rows' before now = ShowsOffice posted_of status tells rows before now
 DoesAll (command.Sample asked) status tells rows rows' before now = (status ≡ 0) × Appends before.written now.written (summary_text asked.seed asked.ballots)
+DoesAll command.Recount status tells rows rows' before now = Shows RecountDue status (input_at before) (input_at now) (output_at before) (output_at now)
+DoesAll command.Odds status tells rows rows' before now = Shows OddsDue status (input_at before) (input_at now) (output_at before) (output_at now)
 
 -- where nothing failed, a command does all its work, but for want of memory
 abbrev pub IsComplete : Command → ℕ → (tells : Type 0) → Rows → Rows → Outside → Outside → Type 0

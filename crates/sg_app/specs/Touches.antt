@@ -13,6 +13,8 @@ reads_input command.Scans = true
 reads_input (command.Serve asked) = false
 reads_input command.Record = false
 reads_input (command.Sample asked) = false
+reads_input command.Recount = true
+reads_input command.Odds = true
 
 -- whether it asks the keeper
 abbrev pub asks_keeper : Command → Bool
@@ -24,6 +26,8 @@ asks_keeper command.Scans = true
 asks_keeper (command.Serve asked) = true
 asks_keeper command.Record = true
 asks_keeper (command.Sample asked) = false
+asks_keeper command.Recount = false
+asks_keeper command.Odds = false
 
 -- whether it takes connections
 abbrev pub takes_links : Command → Bool
@@ -35,3 +39,18 @@ takes_links command.Scans = false
 takes_links (command.Serve asked) = true
 takes_links command.Record = false
 takes_links (command.Sample asked) = false
+takes_links command.Recount = false
+takes_links command.Odds = false
+
+-- whether it reports on what it reads: then it writes nothing before all of that is read
+abbrev pub is_report : Command → Bool
+is_report command.Audit = true
+is_report command.Init = false
+is_report command.Sheet = false
+is_report command.Do = false
+is_report command.Scans = false
+is_report (command.Serve asked) = false
+is_report command.Record = false
+is_report (command.Sample asked) = false
+is_report command.Recount = true
+is_report command.Odds = true

@@ -1,5 +1,5 @@
 //! The program over any source, keeper, links and sink: its words, and the status that it ends with.
-ghost use Rattle.std.specs.Prelude.{◌≡◌, ◌⊎◌, false, None, Some, IfSome};
+ghost use Rattle.std.specs.Prelude.{◌≡◌, ◌⊎◌, false, true, None, Some, IfSome};
 ghost use Rattle.sg_outside.specs.Streams.{seen};
 ghost use Rattle.sg_outside.specs.TextLines.{lines_of};
 ghost use Rattle.sg_clerk.specs.Asked.{DoSays};
@@ -8,12 +8,13 @@ ghost use Rattle.sg_clerk.specs.Sheet.{sheet_of};
 ghost use Rattle.sg_clerk.specs.Shown.{ShowSays, posted_of};
 ghost use Rattle.sg_batch.specs.ScansAsked.{ScansSay};
 ghost use Rattle.sg_station.specs.Says.{ServeSays};
+ghost use Rattle.sg_court.specs.Says.{OddsSays, RecountSays};
 ghost use Rattle.sg_app.specs.Audit.{AuditSays};
 ghost use Rattle.sg_words.specs.Command.{command_in};
 ghost use Rattle.sg_app.specs.Complete.{IsComplete};
 ghost use Rattle.sg_app.specs.Headline.{Headline};
 ghost use Rattle.sg_app.specs.Sampling.{SampleSays};
-ghost use Rattle.sg_app.specs.Touches.{asks_keeper, reads_input, takes_links};
+ghost use Rattle.sg_app.specs.Touches.{asks_keeper, is_report, reads_input, takes_links};
 ghost use Rattle.sg_words.specs.declared.command.Command.{Command as CommandSeen};
 ghost use Rattle.sg_words.specs.declared.service.Service.{Service as ServiceSeen};
 ghost use Rattle.sg_words.specs.declared.sample.Sample.{Sample as SampleSeen};
@@ -43,8 +44,8 @@ pub fn run<S: Source, K: Keeper, L: Links, O: Sink>(
     ensures form { result ≡ 2 → command_in words.now ≡ None }
     ensures refused { command_in words.now ≡ None → (result ≡ 2) ⊎ (result ≡ 9) }
     ensures untouched { command_in words.now ≡ None → (input.new ≡ input.old) × (keeper.new ≡ keeper.old) × (links.new ≡ links.old) × (out.new ≡ out.old) }
-    // Only `audit`, `init`, `do` and `scans` read the input, all but `audit` and `sample` ask the keeper, and only `serve` takes
-    // connections.
+    // Only `audit`, `init`, `do`, `scans`, `recount` and `odds` read the input; only `init`, `sheet`, `do`, `scans`, `serve` and
+    // `record` ask the keeper; and only `serve` takes connections.
     ensures unread { (command : CommandSeen) → command_in words.now ≡ Some command → reads_input command ≡ false → input.new ≡ input.old }
     ensures unkept { (command : CommandSeen) → command_in words.now ≡ Some command → asks_keeper command ≡ false → keeper.new ≡ keeper.old }
     ensures unlinked { (command : CommandSeen) → command_in words.now ≡ Some command → takes_links command ≡ false → links.new ≡ links.old }
@@ -55,10 +56,16 @@ pub fn run<S: Source, K: Keeper, L: Links, O: Sink>(
     // opens no commitment twice, each R instance has at least as many rows altered in their unopened halves as any posted
     // total of its race differs from the count of posted codes; every unaltered office run gets yes.
     ensures headline { command_in words.now ≡ Some Command.Audit → IfSome (S.left input.old) (λ bytes. Headline (lines_of bytes) result) }
-    // With `audit` the status says how it ended. After a read that failed, and where memory was wanted, the output is as it was.
+    // With `audit` the status says how it ended.
     ensures audit { command_in words.now ≡ Some Command.Audit → AuditSays result (seen (S.left input.old) (S.faults input.old)) (seen (S.left input.new) (S.faults input.new))
         (seen (O.written out.old) (O.faults out.old)) (seen (O.written out.new) (O.faults out.new)) }
-    ensures unwritten { command_in words.now ≡ Some Command.Audit → (result ≡ 3) ⊎ (result ≡ 9) → out.new ≡ out.old }
+    // With `recount` and `odds` it says what follows of the record, the sheet and the openings that were read, or why nothing does.
+    ensures recount { command_in words.now ≡ Some Command.Recount → RecountSays result (seen (S.left input.old) (S.faults input.old)) (seen (S.left input.new) (S.faults input.new))
+        (seen (O.written out.old) (O.faults out.old)) (seen (O.written out.new) (O.faults out.new)) }
+    ensures odds { command_in words.now ≡ Some Command.Odds → OddsSays result (seen (S.left input.old) (S.faults input.old)) (seen (S.left input.new) (S.faults input.new))
+        (seen (O.written out.old) (O.faults out.old)) (seen (O.written out.new) (O.faults out.new)) }
+    // After a read that failed, and where memory was wanted, `audit`, `recount` and `odds` leave the output as it was.
+    ensures unwritten { (command : CommandSeen) → command_in words.now ≡ Some command → is_report command ≡ true → (result ≡ 3) ⊎ (result ≡ 9) → out.new ≡ out.old }
     // With `init` it says whether an office was set up, and from which election file.
     ensures init { command_in words.now ≡ Some Command.Init → InitSays result (seen (S.left input.old) (S.faults input.old)) (seen (S.left input.new) (S.faults input.new))
         (K.tells keeper.old) (K.rows keeper.old) (K.rows keeper.new) (K.faults keeper.old) (K.faults keeper.new)

@@ -1,7 +1,7 @@
 //! The work of each command.
-ghost use Rattle.std.specs.Prelude.{◌≡◌, ◌≢◌, ◌⊎◌, false};
-ghost use Rattle.sg_app.specs.Touches.{asks_keeper, reads_input, takes_links};
-ghost use Rattle.sg_words.specs.declared.command.Command.TheVariants.{Audit, Serve};
+ghost use Rattle.std.specs.Prelude.{◌≡◌, ◌≢◌, ◌⊎◌, false, true};
+ghost use Rattle.sg_app.specs.Touches.{asks_keeper, is_report, reads_input, takes_links};
+ghost use Rattle.sg_words.specs.declared.command.Command.TheVariants.{Serve};
 ghost use Rattle.sg_words.specs.declared.service.Service.{Service as ServiceSeen};
 ghost use Rattle.sg_app.specs.inside.Obeying.{CommandSays, ShowsRows};
 ghost use Rattle.sg_words.specs.Command.{IsSized};
@@ -9,6 +9,7 @@ ghost use Rattle.sg_words.specs.Command.{IsSized};
 use crate::audit::{audit, status_of};
 use sg_batch::answer_scans;
 use sg_clerk::{answer_asks, begun_status, init, record, sheet, shown_status};
+use sg_court::{answer_odds, answer_recount};
 use sg_keeper::Keeper;
 use sg_links::Links;
 use sg_outside::{Sink, Source};
@@ -38,7 +39,7 @@ pub(crate) fn obey<S: Source, K: Keeper, L: Links, O: Sink>(
     ensures unread { reads_input command ≡ false → input.new ≡ input.old }
     ensures unkept { asks_keeper command ≡ false → keeper.new ≡ keeper.old }
     ensures unlinked { takes_links command ≡ false → links.new ≡ links.old }
-    ensures unwritten { command ≡ Audit → (result ≡ 3) ⊎ (result ≡ 9) → out.new ≡ out.old }
+    ensures unwritten { is_report command ≡ true → (result ≡ 3) ⊎ (result ≡ 9) → out.new ≡ out.old }
     ensures unopened { (asked : ServiceSeen) → command ≡ Serve asked → (result ≡ 5) ⊎ (result ≡ 7) ⊎ (result ≡ 8) → links.new ≡ links.old }
     ensures same { ShowsRows command → K.tells keeper.old → K.rows keeper.new ≡ K.rows keeper.old }
 {
@@ -51,5 +52,7 @@ pub(crate) fn obey<S: Source, K: Keeper, L: Links, O: Sink>(
         Command::Serve(asked) => serve(alloc, asked.port, asked.count, links, keeper, out),
         Command::Record => shown_status(record(alloc, keeper, out)),
         Command::Sample(asked) => sampled_status(sample(alloc, asked, out)),
+        Command::Recount => answer_recount(alloc, input, out),
+        Command::Odds => answer_odds(alloc, input, out),
     }
 }

@@ -53,3 +53,9 @@ returns-in-Sample-clause-says g c =
     (rw c.sampled_status.ensures
     (sample_says c.in-Sample.asked c.sample.result (seen (g.O.Sink.written c.args.out.now) (g.O.Sink.faults c.args.out.now)) (seen (g.O.Sink.written c.sample.new.out) (g.O.Sink.faults c.sample.new.out))
     c.sample.ensures.ends (λ e. ap (λ o. seen (g.O.Sink.written o) (g.O.Sink.faults o)) (c.sample.ensures.quiet e))))
+
+pub returns-in-Recount-clause-says : goal.returns-in-Recount-clause-says
+returns-in-Recount-clause-says g c = rw c.in-Recount.is c.answer_recount.ensures.says
+
+pub returns-in-Odds-clause-says : goal.returns-in-Odds-clause-says
+returns-in-Odds-clause-says g c = rw c.in-Odds.is c.answer_odds.ensures.says
