@@ -11,6 +11,7 @@ cd "$copy/repository"
 [ $# -gt 0 ] || set -- $(ls bench/edits)
 for crate in "$@"; do
     rm -f "crates/$crate/must-fail/"*.edit
+    mkdir -p "crates/$crate/must-fail"
     cp "bench/edits/$crate/"*.edit "crates/$crate/must-fail/"
 done
 rt must-fail "$@"
