@@ -3,41 +3,20 @@
 //! kept row differs from what that program says, a line says so.
 #![tactic(auto)]
 
-use sg_keeper::MemoryKeeper;
+use sg_keeper::{MemoryKeeper, Rows};
 use sg_plan::Items;
-use sg_steps::{Fault, read_all, rows_at_front, tell_until_rows};
+use sg_steps::{Fault, Keepers, read_all, tell_elections};
 use std::alloc::Global;
-use std::io::Write;
 use std::process::ExitCode;
 
-/// How many elections a stream may have.
-const MOST_ELECTIONS: u32 = 1_000;
+/// Keepers in memory, of which no call fails.
+struct InMemory;
 
-/// Takes the steps of the first election, over a keeper in memory of the rows that it begins with, and answers the
-/// stream behind them.
-fn tell_election<'a, W: Write>(
-    alloc: Global,
-    stream: &'a [u8],
-    out: &mut W,
-) -> Result<&'a [u8], Fault> {
-    let (rows, behind) = rows_at_front(alloc, stream)?;
-    let mut keeper = MemoryKeeper::new(alloc, rows, Items::new(alloc));
-    tell_until_rows(alloc, behind, &mut keeper, out)
-}
+impl Keepers for InMemory {
+    type Made = MemoryKeeper;
 
-/// Takes the steps of all elections, at most 1,000.
-fn tell_elections<W: Write>(alloc: Global, stream: &[u8], out: &mut W) -> Result<(), Fault> {
-    let mut stream = stream;
-    for _election in 0..MOST_ELECTIONS {
-        if stream.is_empty() {
-            return Ok(());
-        }
-        stream = tell_election(alloc, stream, out)?;
-    }
-    if stream.is_empty() {
-        Ok(())
-    } else {
-        Err(Fault::Stream)
+    fn with_rows(&self, alloc: Global, rows: Rows) -> Result<MemoryKeeper, Fault> {
+        Ok(MemoryKeeper::new(alloc, rows, Items::new(alloc)))
     }
 }
 
@@ -45,7 +24,7 @@ fn main(rt: HostRuntime) -> ExitCode {
     let Ok(stream) = read_all(rt.alloc(), &mut rt.stdin()) else {
         return ExitCode::from(3);
     };
-    match tell_elections(rt.alloc(), &stream, &mut rt.stdout()) {
+    match tell_elections(rt.alloc(), &InMemory, &stream, &mut rt.stdout()) {
         Ok(()) => ExitCode::from(0),
         Err(fault) => ExitCode::from(fault.status()),
     }

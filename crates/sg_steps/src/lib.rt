@@ -4,12 +4,14 @@
 //! No call here promises what the program answers: it writes what came, and a line where something else must come.
 #![tactic(auto)]
 
+mod elections;
 mod fault;
 mod programs;
 mod rows;
 mod steps;
 mod stream;
 
+pub use crate::elections::{Keepers, tell_elections};
 pub use crate::fault::Fault;
 pub use crate::programs::{status_over, words_of};
 pub use crate::rows::{no_rows, rows_of};
