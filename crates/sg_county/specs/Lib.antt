@@ -1,0 +1,5 @@
+pub mod Bound
+pub mod County
+pub mod Laws
+pub mod Tally
+pub mod inside
