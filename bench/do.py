@@ -3,6 +3,7 @@ statements, write-ahead log and full sync, in ./office.db.
 
     do.py election BALLOTS          writes an election file of so many ballots: 20,000 have 200,000 rows
     do.py asks BALLOTS              writes a scan of each ballot, one a line
+    do.py file BALLOTS              writes the same scans as a scanner's file
     do.py do ELECTION < ASKS        sets an office.db up and answers the asks
 """
 import json
@@ -28,6 +29,13 @@ def asks(ballots):
         marks = [[0, ballot % 3], [1, ballot % 7], [1, (ballot + 1) % 7]]
         station = ballot % 2
         yield {"ask": "scan", "station": station, "secret": SECRETS[station], "ref": ballot, "ballot": ballot, "marks": marks}
+
+
+def records(ballots):
+    yield "station,secret,ref,ballot,marks"
+    for ask in asks(ballots):
+        marks = " ".join("%d:%d" % tuple(mark) for mark in ask["marks"])
+        yield "%(station)d,%(secret)s,%(ref)d,%(ballot)d," % ask + marks
 
 
 def answer(file, kept, connection, ask):
@@ -69,6 +77,8 @@ def main(task, given):
     elif task == "asks":
         for ask in asks(int(given)):
             print(json.dumps(ask, separators=(",", ":")))
+    elif task == "file":
+        print("\n".join(records(int(given))))
     else:
         do(json.load(open(given, encoding="utf-8")))
 
