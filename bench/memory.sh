@@ -132,4 +132,6 @@ try /dev/null record
 (cat "$club/club.record" && echo printing && cat "$club/club.sheet" && echo completion && cat "$club/club.openings") > handed-in
 try "$folder/handed-in" recount
 try "$folder/handed-in" odds
+(cat "$club/club.record" && echo next && cat "$club/north.record") > records
+try "$folder/records" county
 try /dev/null sample 7 10

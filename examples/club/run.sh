@@ -25,6 +25,8 @@ for front in posted-1 posted-2 posted-draw; do
     cmp -n "$(stat -c %s "$front")" "$front" posted-claims && echo "$front: a front of the record"
 done
 "$program" audit < posted-claims
+(cat posted-claims && echo next && cat "$club/north.record") | "$program" county > county
+step "both branches" county "$club/club.county"
 (cat posted-claims && echo printing && cat sheet && echo completion && cat "$club/club.openings") > handed-in
 for word in recount odds; do
     "$program" "$word" < handed-in > "$word"

@@ -28,6 +28,7 @@ use Rattle.sg_words.specs.declared.sample.Sample.{Sample}
 use Rattle.sg_court.specs.Odds.{OddsDue}
 use Rattle.sg_court.specs.Recounts.{RecountDue}
 use Rattle.sg_court.specs.Says.{Says, Shows}
+use Rattle.sg_towns.specs.Counts.{CountySays}
 use Rattle.sg_app.specs.Audit.{AuditSays}
 use Rattle.sg_app.specs.Complete.{DoesAll, IsComplete, KeepsScanning, KeepsServing, KeepsTalking, NothingFailed, ShowsOffice}
 use Rattle.sg_app.specs.Outside.{Outside, input_at, moment_of, output_at, scene_of}
@@ -72,6 +73,16 @@ court_complete Due status before now (inl says) none = inr says
 court_complete Due status before now (inr (inl says)) none = absurd (none.reads says.1.cause)
 court_complete Due status before now (inr (inr (inl says))) none = absurd (none.writes says.1.cause)
 court_complete Due status before now (inr (inr (inr says))) none = inl says.0
+
+-- `county`
+pub county_complete : (status : ℕ) (tells : Type 0) (rows rows' : Rows) (before now : Outside)
+    → CountySays status (input_at before) (input_at now) (output_at before) (output_at now) → IsComplete command.County status tells rows rows' before now
+county_complete status tells rows rows' before now (inl says) none = inr (inl says)
+county_complete status tells rows rows' before now (inr (inl says)) none = inr (inr (inl says))
+county_complete status tells rows rows' before now (inr (inr (inl says))) none = absurd (none.reads says.1.cause)
+county_complete status tells rows rows' before now (inr (inr (inr (inl says)))) none = absurd (none.writes says.1.cause)
+county_complete status tells rows rows' before now (inr (inr (inr (inr (inl says))))) none = inr (inr (inr says))
+county_complete status tells rows rows' before now (inr (inr (inr (inr (inr says))))) none = inl says.0
 
 -- what shows the kept rows
 shows_complete : (shown : Setup → List Entry → List ℕ) (status : ℕ) (tells : Type 0) (rows : Rows) (before now : Outside)
@@ -225,3 +236,4 @@ says_complete command.Record status tells rows rows' before now says = record_co
 says_complete (command.Sample asked) status tells rows rows' before now says = sample_complete asked status tells rows rows' before now says
 says_complete command.Recount status tells rows rows' before now says = λ none. court_complete RecountDue status before now says none
 says_complete command.Odds status tells rows rows' before now says = λ none. court_complete OddsDue status before now says none
+says_complete command.County status tells rows rows' before now says = county_complete status tells rows rows' before now says

@@ -4,6 +4,7 @@ use Rattle.std.proofs.Common.{◌≡◌, ℕ, Some, inl, inr, refl, subst}
 use Rattle.std.specs.Prelude.{Option}
 use Rattle.sg_outside.proofs.StreamLemmas.{Keeps-refl}
 use Rattle.sg_keeper.specs.declared.rows.Rows.{Rows}
+use Rattle.sg_towns.proofs.Answering.{took_nothing as took_no_lines}
 use Rattle.sg_words.specs.declared.command.Command.{Command}
 use Rattle.sg_words.specs.declared.command.Command.TheVariants as command
 use Rattle.sg_app.specs.Outside.{Outside}
@@ -31,3 +32,4 @@ memory_says command.Record tells rows now = inr (inr (inr (inr (inr (refl, inl r
 memory_says (command.Sample asked) tells rows now = inr (inr (refl, refl))
 memory_says command.Recount tells rows now = inr (inr (inr (refl, refl)))
 memory_says command.Odds tells rows now = inr (inr (inr (refl, refl)))
+memory_says command.County tells rows now = inr (inr (inr (inr (inr (refl, record { taken = took_no_lines now.left; written = Keeps-refl now.written })))))

@@ -18,6 +18,7 @@ use Rattle.sg_station.specs.Says.{HasServed}
 use Rattle.sg_court.specs.Odds.{OddsDue}
 use Rattle.sg_court.specs.Recounts.{RecountDue}
 use Rattle.sg_court.specs.Says.{Shows}
+use Rattle.sg_towns.specs.Counts.{SaysBad, SaysMany, SaysYes as SaysSums}
 use Rattle.sg_app.specs.Audit.{SaysNo, SaysYes}
 use Rattle.sg_app.specs.Outside.{Outside, input_at, moment_of, output_at, scene_of}
 use Rattle.sg_words.specs.declared.service.Service.{Service}
@@ -67,7 +68,7 @@ pub record KeepsServing (status : ℕ) (asked : Service) (tells : Type 0) (rows 
 -- says that the keeper failed; nor does one of `scans`, which answers all records of the file (0), or refuses it (7), or of
 -- `serve`, which serves as many connections as were asked for, and none fails. These five say else that no setup is kept (7),
 -- or which row is damaged (8). `sample` writes the summary of its run. `recount` and `odds` write what is due of the input, with its
--- status (0, 1 or 7).
+-- status (0, 1 or 7), and `county` the answer on its records (0, 1 or 7).
 abbrev pub DoesAll : Command → ℕ → (tells : Type 0) → Rows → Rows → Outside → Outside → Type 0
 DoesAll command.Audit status tells rows rows' before now =
     ((status ≡ 0) × SaysYes (input_at before) (input_at now) (output_at before) (output_at now))
@@ -94,6 +95,10 @@ DoesAll command.Record status tells rows rows' before now = ShowsOffice posted_o
 DoesAll (command.Sample asked) status tells rows rows' before now = (status ≡ 0) × Appends before.written now.written (summary_text asked.seed asked.ballots)
 DoesAll command.Recount status tells rows rows' before now = Shows RecountDue status (input_at before) (input_at now) (output_at before) (output_at now)
 DoesAll command.Odds status tells rows rows' before now = Shows OddsDue status (input_at before) (input_at now) (output_at before) (output_at now)
+DoesAll command.County status tells rows rows' before now =
+    ((status ≡ 0) × SaysSums (input_at before) (input_at now) (output_at before) (output_at now))
+    ⊎ ((status ≡ 1) × SaysBad (input_at before) (input_at now) (output_at before) (output_at now))
+    ⊎ ((status ≡ 7) × SaysMany (input_at before) (input_at now) (output_at before) (output_at now))
 
 -- where nothing failed, a command does all its work, but for want of memory
 abbrev pub IsComplete : Command → ℕ → (tells : Type 0) → Rows → Rows → Outside → Outside → Type 0

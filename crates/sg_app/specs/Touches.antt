@@ -15,6 +15,7 @@ reads_input command.Record = false
 reads_input (command.Sample asked) = false
 reads_input command.Recount = true
 reads_input command.Odds = true
+reads_input command.County = true
 
 -- whether it asks the keeper
 abbrev pub asks_keeper : Command → Bool
@@ -28,6 +29,7 @@ asks_keeper command.Record = true
 asks_keeper (command.Sample asked) = false
 asks_keeper command.Recount = false
 asks_keeper command.Odds = false
+asks_keeper command.County = false
 
 -- whether it takes connections
 abbrev pub takes_links : Command → Bool
@@ -41,6 +43,7 @@ takes_links command.Record = false
 takes_links (command.Sample asked) = false
 takes_links command.Recount = false
 takes_links command.Odds = false
+takes_links command.County = false
 
 -- whether it reports on what it reads: then it writes nothing before all of that is read
 abbrev pub is_report : Command → Bool
@@ -54,3 +57,4 @@ is_report command.Record = false
 is_report (command.Sample asked) = false
 is_report command.Recount = true
 is_report command.Odds = true
+is_report command.County = true

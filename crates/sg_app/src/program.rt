@@ -9,6 +9,7 @@ ghost use Rattle.sg_clerk.specs.Shown.{ShowSays, posted_of};
 ghost use Rattle.sg_batch.specs.ScansAsked.{ScansSay};
 ghost use Rattle.sg_station.specs.Says.{ServeSays};
 ghost use Rattle.sg_court.specs.Says.{OddsSays, RecountSays};
+ghost use Rattle.sg_towns.specs.Counts.{CountySays};
 ghost use Rattle.sg_app.specs.Audit.{AuditSays};
 ghost use Rattle.sg_words.specs.Command.{command_in};
 ghost use Rattle.sg_app.specs.Complete.{IsComplete};
@@ -44,8 +45,8 @@ pub fn run<S: Source, K: Keeper, L: Links, O: Sink>(
     ensures form { result ≡ 2 → command_in words.now ≡ None }
     ensures refused { command_in words.now ≡ None → (result ≡ 2) ⊎ (result ≡ 9) }
     ensures untouched { command_in words.now ≡ None → (input.new ≡ input.old) × (keeper.new ≡ keeper.old) × (links.new ≡ links.old) × (out.new ≡ out.old) }
-    // Only `audit`, `init`, `do`, `scans`, `recount` and `odds` read the input; only `init`, `sheet`, `do`, `scans`, `serve` and
-    // `record` ask the keeper; and only `serve` takes connections.
+    // Only `audit`, `init`, `do`, `scans`, `recount`, `odds` and `county` read the input; only `init`, `sheet`, `do`, `scans`,
+    // `serve` and `record` ask the keeper; and only `serve` takes connections.
     ensures unread { (command : CommandSeen) → command_in words.now ≡ Some command → reads_input command ≡ false → input.new ≡ input.old }
     ensures unkept { (command : CommandSeen) → command_in words.now ≡ Some command → asks_keeper command ≡ false → keeper.new ≡ keeper.old }
     ensures unlinked { (command : CommandSeen) → command_in words.now ≡ Some command → takes_links command ≡ false → links.new ≡ links.old }
@@ -64,7 +65,10 @@ pub fn run<S: Source, K: Keeper, L: Links, O: Sink>(
         (seen (O.written out.old) (O.faults out.old)) (seen (O.written out.new) (O.faults out.new)) }
     ensures odds { command_in words.now ≡ Some Command.Odds → OddsSays result (seen (S.left input.old) (S.faults input.old)) (seen (S.left input.new) (S.faults input.new))
         (seen (O.written out.old) (O.faults out.old)) (seen (O.written out.new) (O.faults out.new)) }
-    // After a read that failed, and where memory was wanted, `audit`, `recount` and `odds` leave the output as it was.
+    // With `county` it says what the records that were read give together.
+    ensures county { command_in words.now ≡ Some Command.County → CountySays result (seen (S.left input.old) (S.faults input.old)) (seen (S.left input.new) (S.faults input.new))
+        (seen (O.written out.old) (O.faults out.old)) (seen (O.written out.new) (O.faults out.new)) }
+    // After a read that failed, and where memory was wanted, `audit`, `recount`, `odds` and `county` leave the output as it was.
     ensures unwritten { (command : CommandSeen) → command_in words.now ≡ Some command → is_report command ≡ true → (result ≡ 3) ⊎ (result ≡ 9) → out.new ≡ out.old }
     // With `init` it says whether an office was set up, and from which election file.
     ensures init { command_in words.now ≡ Some Command.Init → InitSays result (seen (S.left input.old) (S.faults input.old)) (seen (S.left input.new) (S.faults input.new))

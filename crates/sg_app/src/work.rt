@@ -15,6 +15,7 @@ use sg_links::Links;
 use sg_outside::{Sink, Source};
 use sg_sample::{sample, sampled_status};
 use sg_station::serve;
+use sg_towns::count_county;
 use sg_words::Command;
 use std::alloc::Global;
 
@@ -54,5 +55,6 @@ pub(crate) fn obey<S: Source, K: Keeper, L: Links, O: Sink>(
         Command::Sample(asked) => sampled_status(sample(alloc, asked, out)),
         Command::Recount => answer_recount(alloc, input, out),
         Command::Odds => answer_odds(alloc, input, out),
+        Command::County => count_county(alloc, input, out),
     }
 }

@@ -72,7 +72,8 @@ words_are_fine word =
     (named IsFine (codes "scans") word _ _ (λ _. ((refl, refl), literal (codes "scans") refl (λ minus. cc minus)))
     (named IsFine (codes "recount") word _ _ (λ _. ((refl, refl), literal (codes "recount") refl (λ minus. cc minus)))
     (named IsFine (codes "odds") word _ _ (λ _. ((refl, refl), literal (codes "odds") refl (λ minus. cc minus)))
-    (λ none. cc none))))))))
+    (named IsFine (codes "county") word _ _ (λ _. ((refl, refl), literal (codes "county") refl (λ minus. cc minus)))
+    (λ none. cc none)))))))))
 
 -- a name and two values
 

@@ -3,7 +3,7 @@ use Rattle.std.specs.Option.{option_map}
 use Rattle.std.specs.Prelude.{ℕ, ◌≤◌, List, [], ◌∷◌, if◌then◌else◌, bytes_eq, codes, Option, Some, None}
 use Rattle.sg_words.specs.Numbers.{IsService, sample_in, service_in}
 use Rattle.sg_words.specs.declared.command.Command.{Command}
-use Rattle.sg_words.specs.declared.command.Command.TheVariants.{Audit, Do, Init, Odds, Record, Recount, Sample, Scans, Serve, Sheet}
+use Rattle.sg_words.specs.declared.command.Command.TheVariants.{Audit, County, Do, Init, Odds, Record, Recount, Sample, Scans, Serve, Sheet}
 
 -- the command of one word
 unfoldable pub command_named : List ℕ → Option Command
@@ -16,7 +16,8 @@ command_named word =
     else (if bytes_eq word (codes "scans") then Some Scans
     else (if bytes_eq word (codes "recount") then Some Recount
     else (if bytes_eq word (codes "odds") then Some Odds
-    else None))))))))
+    else (if bytes_eq word (codes "county") then Some County
+    else None)))))))))
 
 -- the command of three words: the first is `serve` or `sample`, and the others are those that it is asked for with
 unfoldable pub pair_named : List ℕ → List ℕ → List ℕ → Option Command
@@ -45,3 +46,4 @@ IsSized Record = Unit {0}
 IsSized Scans = Unit {0}
 IsSized Recount = Unit {0}
 IsSized Odds = Unit {0}
+IsSized County = Unit {0}

@@ -74,6 +74,7 @@ fn program<'a>(alloc: Global) -> Result<Command<'a>, AllocError>
     let command = with_word(alloc, command, "scans")?;
     let command = with_word(alloc, command, "recount")?;
     let command = with_word(alloc, command, "odds")?;
+    let command = with_word(alloc, command, "county")?;
     Ok(command)
 }
 

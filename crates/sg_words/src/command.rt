@@ -34,6 +34,8 @@ pub enum Command {
     Recount,
     /// Tells how unlikely the totals of a record's completion are.
     Odds,
+    /// Judges several records as one.
+    County,
 }
 
 /// The command that these texts ask for.

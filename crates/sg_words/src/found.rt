@@ -24,6 +24,7 @@ fn command_by_name(name: &str) -> Option<Command>
         "scans" => Some(Command::Scans),
         "recount" => Some(Command::Recount),
         "odds" => Some(Command::Odds),
+        "county" => Some(Command::County),
         _ => None,
     }
 }

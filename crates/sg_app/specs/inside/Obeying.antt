@@ -8,6 +8,7 @@ use Rattle.sg_clerk.specs.Shown.{ShowSays, posted_of}
 use Rattle.sg_batch.specs.ScansAsked.{ScansSay}
 use Rattle.sg_station.specs.Says.{ServeSays}
 use Rattle.sg_court.specs.Says.{OddsSays, RecountSays}
+use Rattle.sg_towns.specs.Counts.{CountySays}
 use Rattle.sg_app.specs.Audit.{AuditSays}
 use Rattle.sg_app.specs.Outside.{Outside, input_at, moment_of, output_at, scene_of}
 use Rattle.sg_app.specs.Sampling.{SampleSays}
@@ -29,6 +30,7 @@ CommandSays command.Record status tells rows rows' before now =
 CommandSays (command.Sample asked) status tells rows rows' before now = SampleSays asked status (output_at before) (output_at now)
 CommandSays command.Recount status tells rows rows' before now = RecountSays status (input_at before) (input_at now) (output_at before) (output_at now)
 CommandSays command.Odds status tells rows rows' before now = OddsSays status (input_at before) (input_at now) (output_at before) (output_at now)
+CommandSays command.County status tells rows rows' before now = CountySays status (input_at before) (input_at now) (output_at before) (output_at now)
 
 -- the commands that only show the rows
 abbrev pub ShowsRows : Command → Type 0

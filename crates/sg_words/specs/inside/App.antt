@@ -29,7 +29,8 @@ no_words = no_name (new_app (codes "voldkaumi"))
 
 unfoldable pub app : App
 app =
-    with_word (codes "odds")
+    with_word (codes "county")
+    (with_word (codes "odds")
     (with_word (codes "recount")
     (with_word (codes "scans")
     (with_pair (codes "sample") (codes "seed") (codes "ballots")
@@ -38,4 +39,4 @@ app =
     (with_word (codes "do")
     (with_word (codes "sheet")
     (with_word (codes "init")
-    (with_word (codes "audit") no_words)))))))))
+    (with_word (codes "audit") no_words))))))))))

@@ -75,3 +75,16 @@ returns-in-Err-clause-audit g c =
       keep_faults = g.K.Keeper.faults c.args.keeper.now;
     } in
     λ asked. memory_says command.Audit (g.K.Keeper.tells c.args.keeper.now) (g.K.Keeper.rows c.args.keeper.now) now
+
+pub returns-in-Err-clause-county : goal.returns-in-Err-clause-county
+returns-in-Err-clause-county g c =
+    let now : Outside = record {
+      left = g.S.Source.left c.args.input.now;
+      board = g.L.Links.board c.args.links.now;
+      written = g.O.Sink.written c.args.out.now;
+      read_faults = g.S.Source.faults c.args.input.now;
+      link_faults = g.L.Links.faults c.args.links.now;
+      write_faults = g.O.Sink.faults c.args.out.now;
+      keep_faults = g.K.Keeper.faults c.args.keeper.now;
+    } in
+    λ asked. memory_says command.County (g.K.Keeper.tells c.args.keeper.now) (g.K.Keeper.rows c.args.keeper.now) now

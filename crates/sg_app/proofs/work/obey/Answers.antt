@@ -59,3 +59,6 @@ returns-in-Recount-clause-says g c = rw c.in-Recount.is c.answer_recount.ensures
 
 pub returns-in-Odds-clause-says : goal.returns-in-Odds-clause-says
 returns-in-Odds-clause-says g c = rw c.in-Odds.is c.answer_odds.ensures.says
+
+pub returns-in-County-clause-says : goal.returns-in-County-clause-says
+returns-in-County-clause-says g c = rw c.in-County.is c.count_county.ensures.says

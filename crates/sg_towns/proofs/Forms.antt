@@ -1,0 +1,64 @@
+-- Bytes that are no line of a record, in the words of the line cutter.
+use Rattle.std.proofs.Common.{◌≡◌, ℕ, zero, suc, ◌-◌, ◌<◌, ◌==◌, List, [], ◌∷◌, ◌++◌, length, length-append, None, refl, subst, ap, ◌∙◌, arith, get_or}
+use Rattle.std.specs.Prelude.{Bool, true, false, ◌&&◌, ◌||◌, nat_lt, codes}
+use Rattle.std.specs.List.{list_any}
+use Rattle.std.specs.Io.BufRead.{ends_with_byte}
+use Rattle.std.proofs.lemmas.Bool.{ne_eqb}
+use Rattle.std.proofs.lemmas.Slice.Eq.{bytes_eq-Decides}
+use Rattle.sg_outside.specs.TextLines.{HasNoFeed}
+use Rattle.sg_county.specs.County.{is_next}
+use Rattle.sg_forms.specs.Reading.{line_of}
+use Rattle.sg_forms.proofs.LineLaws.{cut_lines, open_lines}
+
+-- no byte is a line feed, as a test
+pub no_feed : (text : List ℕ) → HasNoFeed text → list_any (λ byte. byte == 10) text ≡ false
+no_feed [] p = refl
+no_feed (x ∷ xs) p = ap (λ b. b || list_any (λ byte. byte == 10) xs) (ne_eqb x 10 p.0) ∙ no_feed xs p.1
+
+and-false : (b : Bool) → (b && false) ≡ false
+and-false true = refl
+and-false false = refl
+
+-- no byte of them is a line feed, wherever it stands
+no_feed-at : (text : List ℕ) (at : ℕ) → HasNoFeed text → at < length text → get_or text at 0 ≡ 10 → ⊥
+no_feed-at [] at p inside feed = absurd (omega arith)
+no_feed-at (x ∷ xs) zero p inside feed = p.0 feed
+no_feed-at (x ∷ xs) (suc at) p inside feed = no_feed-at xs at p.1 (omega arith) feed
+
+-- the last byte is no line feed
+pub open_end : (text : List ℕ) → HasNoFeed text → ends_with_byte 10 text ≡ false
+open_end [] p = refl
+open_end (x ∷ xs) p =
+    let last = length (x ∷ xs) - 1 in
+    let other = ne_eqb (get_or (x ∷ xs) last 0) 10 (no_feed-at (x ∷ xs) last p (omega arith)) in
+    ap (λ b. nat_lt 0 (length (x ∷ xs)) && b) other ∙ and-false (nat_lt 0 (length (x ∷ xs)))
+
+-- bytes without a line feed have no form
+pub part-has_no_form : (text : List ℕ) → HasNoFeed text → (version : ℕ) → line_of version text ≡ None
+part-has_no_form text p version = open_lines version text (open_end text p)
+
+-- nor has a line that begins with more bytes without a line feed than a line has
+pub long-has_no_form : (text : List ℕ) → HasNoFeed text → length text ≡ 16384 → (more : List ℕ) (version : ℕ) → line_of version (text ++ more) ≡ None
+long-has_no_form text p e more version = cut_lines version text more e (no_feed text p)
+
+-- bytes without a line feed are no line `next`
+pub part-is_inner : (text : List ℕ) → HasNoFeed text → is_next text ≡ false
+part-is_inner text p = at_test (is_next text) refl
+  where
+    at_test : (b : Bool) → is_next text ≡ b → b ≡ false
+    at_test false e = refl
+    at_test true e =
+        let same : text ≡ codes "next\n" = (bytes_eq-Decides text (codes "next\n")).0 e in
+        let none : HasNoFeed (codes "next\n") = subst HasNoFeed same p in
+        absurd (none.1.1.1.1.0 refl)
+
+-- nor is a line that begins with so many bytes
+pub long-is_inner : (text : List ℕ) → length text ≡ 16384 → (more : List ℕ) → is_next (text ++ more) ≡ false
+long-is_inner text e more = at_test (is_next (text ++ more)) refl
+  where
+    at_test : (b : Bool) → is_next (text ++ more) ≡ b → b ≡ false
+    at_test false e = refl
+    at_test true is =
+        let same : text ++ more ≡ codes "next\n" = (bytes_eq-Decides (text ++ more) (codes "next\n")).0 is in
+        let five : length (codes "next\n") ≡ 5 = refl in
+        absurd (omega (arith, e, five, ap length same, length-append text more))

@@ -1,0 +1,4 @@
+pub mod Answering
+mod Endings
+pub mod Forms
+pub mod Told
