@@ -170,6 +170,20 @@ fn other_inputs_are_answered(rt: HostRuntime) -> Result<(), Fail> {
     Ok(())
 }
 
+/// The read behind the one that brings the bad line would fail.
+#[test]
+fn faults_behind_an_answer_change_nothing(rt: HostRuntime) -> Result<(), Fail> {
+    let bytes = county_of(rt.alloc(), Some(&BAD_TOTAL))?;
+    let mut page = Page::new(rt.alloc(), 100, Vec::new(rt.alloc()), 0)?;
+    let fails = Vec::from_slice(rt.alloc(), &[3])?;
+    assert_eq!(rt;
+        count(bytes.as_slice(), 700, fails, &mut page, rt.alloc())?,
+        1
+    );
+    assert_eq!(rt; page.written(), b"no 2 18 total\n".as_slice());
+    Ok(())
+}
+
 /// Each read in turn fails, and then each write.
 #[test]
 fn faults_have_their_status(rt: HostRuntime) -> Result<(), Fail> {
