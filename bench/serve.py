@@ -2,8 +2,6 @@
 and the same statements and commits.
 
     serve.py server ELECTION PORT     sets an office.db up and answers the asks that are posted to the port, until it is ended
-    serve.py ask PORT COUNT < ASKS    posts each line on a connection of its own, from so many clients at once, and writes how many
-                                      got status 200
     serve.py look PORT COUNT          asks for the totals on so many connections, and writes how many were answered
     serve.py silent PORT | slow PORT | endless PORT | long PORT | early PORT | half PORT
                                       one client that is no good, and how long it was kept: it sends nothing; a byte a second; a
@@ -15,7 +13,6 @@ import socket
 import sys
 import time
 from http.server import BaseHTTPRequestHandler, HTTPServer
-from multiprocessing import Pool
 
 from do import answer
 from store import opened
@@ -83,17 +80,6 @@ def status_of(answered):
     return answered.split(b" ")[1].decode() if answered.startswith(b"HTTP/1.") else "no answer"
 
 
-def asked(given):
-    port, requests = given
-    return sum(status_of(told(port, request)) == "200" for request in requests)
-
-
-def ask(port, clients):
-    requests = [post(line.rstrip(b"\n")) for line in sys.stdin.buffer]
-    with Pool(clients) as pool:
-        print(sum(pool.map(asked, [(port, requests[at::clients]) for at in range(clients)], 1)))
-
-
 def look(port, count):
     print(sum(status_of(told(port, LOOK)) != "no answer" for _ in range(count)))
 
@@ -152,8 +138,6 @@ def main(words):
     task = words[0]
     if task == "server":
         server(words[1], int(words[2]))
-    elif task == "ask":
-        ask(int(words[1]), int(words[2]))
     elif task == "look":
         look(int(words[1]), int(words[2]))
     else:

@@ -1,7 +1,8 @@
 #!/usr/bin/env bash
 # Tries `serve` with the built program over a real office.db: each route and each refusal by curl, clients that are no good, a
-# keeper that fails; then times 10,000 asks on connections of their own, beside `do` and beside Python's http.server, json and
-# sqlite3 doing the same rows with the same commits; and watches the memory over 100,000 connections.
+# keeper that fails; then times 10,000 asks by `wrk` (Debian's package of that name), each on a connection of its own, beside
+# `do` and beside Python's http.server, json and sqlite3 doing the same rows with the same commits; and watches the memory
+# over 100,000 connections.
 #
 #   bench/serve.sh [FOLDER]       (at the top of the repository; the files lie in FOLDER, on the disk to be timed)
 set -u
@@ -11,19 +12,21 @@ program=$(built sg_main audit < examples/first/first.record) || exit 1
 program=$PWD/$program
 python="python3 $PWD/bench/serve.py"
 asker="python3 $PWD/bench/do.py"
+lua=$PWD/bench/serve.lua
 club=$PWD/examples/club
 folder=$(mktemp -d -p "${1:-/tmp}") || exit 1
 server=
 trap 'kill "$server" 2> /dev/null; rm -rf "$folder"' EXIT
 cd "$folder" || exit 1
 port=8642
+at=$port
 url=http://127.0.0.1:$port
 
 # Starts a command that listens on the port, in the background, and waits until it does.
 start() {
     "$@" > served 2> causes &
     server=$!
-    until grep -q "0100007F:$(printf %04X "$port") 00000000:0000 0A" /proc/net/tcp; do
+    until grep -q "0100007F:$(printf %04X "$at") 00000000:0000 0A" /proc/net/tcp; do
         kill -0 "$server" 2> /dev/null || { cat causes; exit 1; }
         sleep 0.02
     done
@@ -106,34 +109,46 @@ stop
 expect "asked again, of another" "200 200 200 200 200 409 200 200 200 200 200 409 " "$(tr '\n' ' ' < served)"
 
 asks=10000
-clients=3
+clients=4
 $asker election $asks > election.json
 $asker asks $asks > asks
 
-# How many asks of all a second, by the time that a command takes.
-rate() {
+# The seconds that a command takes.
+seconds() {
     start=$(date +%s%N)
     "$@" > got || exit 1
-    echo $((asks * 1000000000 / ($(date +%s%N) - start)))
+    awk -v spent=$(($(date +%s%N) - start)) 'BEGIN { print spent / 1e9 }'
+}
+
+# How many asks a second the server at the port answers, and whether it accepts them all. One client's ports are too few for
+# two rounds at one port of the server, as each stays with it for a minute.
+asked() { # SECONDS that are enough
+    wrk -t 1 -c $clients -d "$1s" -s "$lua" "http://127.0.0.1:$at" -- asks | tail -1 > got
+    awk -v asks=$asks '$1 == asks { print int($1 / ($3 - $2)) } $1 != asks { print "not all accepted" }' got
 }
 
 echo "$asks asks a second, $clients clients at once"
 for round in 1 2 3; do
     begin election.json
-    do_rate=$(rate "$program" do < asks)
+    opening=$(seconds "$program" do < /dev/null)
     begin election.json
-    start "$program" serve $port $asks
-    ours=$(rate $python ask $port $clients < asks)
-    expect "all done" $asks "$(cat got)" > /dev/null
-    wait "$server"
+    doing=$(seconds "$program" do < asks)
+    do_rate=$(awk -v asks=$asks -v a="$doing" -v b="$opening" 'BEGIN { print int(asks / (a - b)) }')
+    begin election.json
+    at=$((port + 2 * round))
+    start "$program" serve $at 1000000
+    ours=$(asked 4)
+    stop
     rm -f office.db office.db-wal office.db-shm
-    start $python server election.json $port
-    theirs=$(rate $python ask $port $clients < asks)
+    at=$((at + 1))
+    start $python server election.json $at
+    theirs=$(asked 12)
     stop
     echo "round $round: serve $ours, do $do_rate, Python's server $theirs: $((ours * 100 / do_rate))% and $((ours * 100 / theirs))%"
 done
 
 echo "Memory over connections"
+at=$port
 begin "$club/election.json"
 start "$program" serve $port 120000
 for count in 100 9900 100000; do

@@ -13,6 +13,9 @@ use std::alloc::Global;
 /// How many ballots the office has.
 const BALLOTS: u32 = 20_000;
 
+/// The ballot before the first that is asked about in time: kept acts are on ballots up to this one.
+const LAST_KEPT: u32 = BALLOTS / 2;
+
 /// The setup of this text.
 fn setup_of(alloc: Global, text: &str) -> Result<Setup, Stop>
     ensures { IfOk result IsSetup }
@@ -86,16 +89,22 @@ fn void_all(alloc: Global, office: &mut Office, station: u32, last: u32) -> Resu
 }
 
 /// Asks so many scans behind so many kept acts, by the first station or by the second. How many of all these asks are
-/// accepted.
+/// accepted. The scans are of the same ballots however many acts are kept, so that the asks are the same.
 pub(crate) fn answers(alloc: Global, kept: u32, asks: u32, station: u32) -> Result<u32, Stop> {
     let mut office = office_of(alloc)?;
-    let last = kept / 2;
+    let last = LAST_KEPT.min(kept / 2);
     let other = match station {
         0 => 1,
         _ => 0,
     };
     let scans = scan_all(alloc, &mut office, station, 0, last)?;
     let voids = void_all(alloc, &mut office, other, last)?;
-    let asked = scan_all(alloc, &mut office, station, last, last.saturating_add(asks))?;
+    let asked = scan_all(
+        alloc,
+        &mut office,
+        station,
+        LAST_KEPT,
+        LAST_KEPT.saturating_add(asks),
+    )?;
     Ok(scans.saturating_add(voids).saturating_add(asked))
 }

@@ -7,10 +7,11 @@ ghost use Rattle.sg_post.specs.inside.Lines.{code_commits, entry_commit, instanc
 ghost use Rattle.sg_post.specs.inside.Walks.{AreAt};
 
 use crate::counts::{count_entries, count_instances, count_races};
+use crate::walks::RowOpenings;
 use sg_commit::{CommitKind, Digest, commit};
 use sg_outside::{Failed, Sink};
 use sg_record::{Pen, RowCommit, put_code_commit, put_plan, put_row_commit};
-use sg_tables::{LeftOpenings, QOpenings, RightOpenings, Tables};
+use sg_tables::{QOpenings, Tables};
 
 /// The commitment to the code of the entry that the walk has come to. The walk then goes on by one.
 #[tactic(auto, unfolding(crate::specs::Posted::code_commit_of))]
@@ -72,13 +73,6 @@ fn put_code_commits<O: Sink>(pen: &mut Pen, tables: &Tables, out: &mut O) -> Res
     Ok(())
 }
 
-/// Walks over the openings of both pointers of an instance's rows.
-#[derive(Debug, Drop)]
-struct RowOpenings<'a> {
-    lefts: LeftOpenings<'a>,
-    rights: RightOpenings<'a>,
-}
-
 /// The commitments to the pointers of the row that the walks have come to. The walks then go on by one.
 #[tactic(auto, unfolding(crate::specs::Posted::row_commit_of))]
 fn row_commits(
@@ -137,10 +131,7 @@ fn put_instance<O: Sink>(
     requires instance { instance < tables.now.plan.instances }
     ensures { Writes O.written O.faults pen.old out.old pen.new out.new result (instance_row_commits tables.now.plan tables.now.seed race instance) }
 {
-    let mut walks = RowOpenings {
-        lefts: tables.left_openings(race, instance, 0),
-        rights: tables.right_openings(race, instance, 0),
-    };
+    let mut walks = RowOpenings::at(tables, race, instance);
     for row in 0..count_entries(tables, race) {
         put_row(pen, tables, &mut walks, race, instance, row, out)?;
     }

@@ -13,6 +13,7 @@ mod openings;
 mod posting;
 mod results;
 mod story;
+mod walks;
 mod write;
 
 pub use posting::Posting;

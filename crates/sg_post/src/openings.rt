@@ -1,21 +1,23 @@
 //! Section 3 of what is posted: the draw and the openings.
-ghost use Rattle.std.specs.Prelude.{◌≡◌, ◌<◌, true, length};
+ghost use Rattle.std.specs.Prelude.{◌≡◌, ◌<◌, ◌+◌, true, length};
 ghost use Rattle.sg_plan.specs.Ballots.{entries_of};
 ghost use Rattle.sg_grammar.specs.Due.{each};
 ghost use Rattle.sg_record.specs.Formed.{is_draw};
 ghost use Rattle.sg_record.specs.Pens.{Writes};
 ghost use Rattle.sg_post.specs.Marks.{is_audited};
-ghost use Rattle.sg_post.specs.Posted.{both_sides, one_side, opened_row};
+ghost use Rattle.sg_post.specs.Posted.{opened_row};
 ghost use Rattle.sg_post.specs.Posting.{IsPosting};
 ghost use Rattle.sg_post.specs.inside.Lines.{IsCoinKey, instance_openings, race_openings, row_opening};
+ghost use Rattle.sg_post.specs.inside.Walks.{AreDrawn};
 
 use crate::counts::{count_entries, count_instances, count_races};
 use crate::posting::Posting;
 use crate::story::Story;
+use crate::walks::RowOpenings;
 use sg_outside::{Failed, Sink};
-use sg_plan::{Draw, Side};
+use sg_plan::Draw;
 use sg_record::{Pen, RowOpening, put_row};
-use sg_streams::{Seed, coin, coin_key};
+use sg_streams::{Coins, Seed, coin_key};
 use sg_tables::Tables;
 
 /// The seed of the coins: of no use, where each row is opened whole.
@@ -42,33 +44,15 @@ fn is_audited(tables: &Tables, posting: &Posting, story: &Story, race: u32, entr
     *posting.audited.get(ballot as usize)
 }
 
-/// The side of a row.
-fn open_side(tables: &Tables, race: u32, instance: u32, row: u32, side: Side) -> RowOpening
-    requires race { race < length tables.now.plan.races }
-    requires instance { instance < tables.now.plan.instances }
-    requires row { row < entries_of tables.now.plan race }
-    ensures { result ≡ one_side tables.now.plan tables.now.seed race instance row side }
-{
-    match side {
-        Side::Left => RowOpening::Left(tables.left_opening(race, instance, row)),
-        Side::Right => RowOpening::Right(tables.right_opening(race, instance, row)),
-    }
+/// Walks over the openings of an instance's rows, and over the coins that say which side is opened.
+#[derive(Debug, Drop)]
+struct DrawnRows<'a> {
+    openings: RowOpenings<'a>,
+    coins: Coins,
 }
 
-/// Both sides of a row.
-fn open_both(tables: &Tables, race: u32, instance: u32, row: u32) -> RowOpening
-    requires race { race < length tables.now.plan.races }
-    requires instance { instance < tables.now.plan.instances }
-    requires row { row < entries_of tables.now.plan race }
-    ensures { result ≡ both_sides tables.now.plan tables.now.seed race instance row }
-{
-    let left = tables.left_opening(race, instance, row);
-    let right = tables.right_opening(race, instance, row);
-    RowOpening::Both(left, right)
-}
-
-/// What is opened of a row: both sides where each row is opened whole or its entry is of an audited ballot, else the
-/// coin's side.
+/// What is opened of the row that the walks have come to: both sides where each row is opened whole or its entry is of
+/// an audited ballot, else the coin's side. The walks then go on by one.
 #[tactic(auto, unfolding(crate::specs::Posted::opened_row))]
 fn open_row(
     tables: &Tables,
@@ -76,6 +60,7 @@ fn open_row(
     story: &Story,
     draw: &Draw,
     key: &Seed,
+    walks: &mut DrawnRows<'_>,
     race: u32,
     instance: u32,
     row: u32,
@@ -85,21 +70,24 @@ fn open_row(
     requires race { race < length tables.now.plan.races }
     requires instance { instance < tables.now.plan.instances }
     requires row { row < entries_of tables.now.plan race }
-    ensures { result ≡ opened_row tables.now.plan tables.now.seed story.now.fates draw.now race instance row }
+    requires walks { AreDrawn tables.now key.now.0 race instance row walks.old.openings.lefts walks.old.openings.rights walks.old.coins }
+    ensures opening { result ≡ opened_row tables.now.plan tables.now.seed story.now.fates draw.now race instance row }
+    ensures walks { AreDrawn tables.now key.now.0 race instance (row + 1) walks.new.openings.lefts walks.new.openings.rights walks.new.coins }
 {
+    let side = walks.coins.next();
     match draw {
-        Draw::Full => open_both(tables, race, instance, row),
+        Draw::Full => walks.openings.next_both(),
         Draw::Public(_) => {
             let (entry, _) = tables.r_row(race, instance, row);
             if is_audited(tables, posting, story, race, entry) {
-                return open_both(tables, race, instance, row);
+                return walks.openings.next_both();
             }
-            open_side(tables, race, instance, row, coin(key, race, instance, row))
+            walks.openings.next_side(side)
         }
     }
 }
 
-/// Writes what is opened of a row.
+/// Writes what is opened of the row that the walks have come to. The walks then go on by one.
 fn put_opening<O: Sink>(
     pen: &mut Pen,
     tables: &Tables,
@@ -107,6 +95,7 @@ fn put_opening<O: Sink>(
     story: &Story,
     draw: &Draw,
     key: &Seed,
+    walks: &mut DrawnRows<'_>,
     race: u32,
     instance: u32,
     row: u32,
@@ -117,9 +106,13 @@ fn put_opening<O: Sink>(
     requires race { race < length tables.now.plan.races }
     requires instance { instance < tables.now.plan.instances }
     requires row { row < entries_of tables.now.plan race }
-    ensures { Writes O.written O.faults pen.old out.old pen.new out.new result (row_opening tables.now.plan tables.now.seed story.now.fates draw.now race instance row) }
+    requires walks { AreDrawn tables.now key.now.0 race instance row walks.old.openings.lefts walks.old.openings.rights walks.old.coins }
+    ensures writes { Writes O.written O.faults pen.old out.old pen.new out.new result (row_opening tables.now.plan tables.now.seed story.now.fates draw.now race instance row) }
+    ensures walks { AreDrawn tables.now key.now.0 race instance (row + 1) walks.new.openings.lefts walks.new.openings.rights walks.new.coins }
 {
-    let opening = open_row(tables, posting, story, draw, key, race, instance, row);
+    let opening = open_row(
+        tables, posting, story, draw, key, walks, race, instance, row,
+    );
     put_row(pen, &opening, out)
 }
 
@@ -141,9 +134,13 @@ fn put_instance<O: Sink>(
     requires instance { instance < tables.now.plan.instances }
     ensures { Writes O.written O.faults pen.old out.old pen.new out.new result (instance_openings tables.now.plan tables.now.seed story.now.fates draw.now race instance) }
 {
+    let mut walks = DrawnRows {
+        openings: RowOpenings::at(tables, race, instance),
+        coins: Coins::at(key, race, instance, 0),
+    };
     for row in 0..count_entries(tables, race) {
         put_opening(
-            pen, tables, posting, story, draw, key, race, instance, row, out,
+            pen, tables, posting, story, draw, key, &mut walks, race, instance, row, out,
         )?;
     }
     Ok(())

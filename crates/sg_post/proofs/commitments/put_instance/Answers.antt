@@ -6,7 +6,7 @@ use Rattle.sg_post.specs.inside.Lines.{row_commit}
 use Rattle.sg_post.proofs.commitments.put_instance.Goals as goal
 
 pub loop-row-init : goal.loop-row-init
-loop-row-init g c = record { walks = (c.left_openings.ensures, c.right_openings.ensures); written = left_all _ _ }
+loop-row-init g c = record { walks = c.at-walks.ensures; written = left_all _ _ }
 
 pub returns-in_err-put_row : goal.returns-in_err-put_row
 returns-in_err-put_row g c =
