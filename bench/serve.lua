@@ -27,13 +27,14 @@ function init(words)
   look = wrk.format("GET", "/totals")
 end
 
--- Behind the last ask a client looks at the totals, until the last answer has come.
+-- `wrk` takes one request before it begins, to see how many each makes. Behind the last ask a client looks at the totals,
+-- until the last answer has come.
 function request()
   asked = asked + 1
-  if asked == 1 then
+  if asked == 2 then
     began = now()
   end
-  return asks[asked] or look
+  return asks[math.max(asked - 1, 1)] or look
 end
 
 function response(status)
