@@ -2,7 +2,7 @@
 use Rattle.std.proofs.Common.{◌≡◌, ℕ, zero, suc, ◌+◌, ◌-◌, ◌*◌, ◌<◌, ◌≤◌, min, inl, inr, if◌then◌else◌, Bool, true, false, List, [], ◌∷◌, ◌++◌, append_assoc, length, get_or, slice_get, All, None, Some, take, drop, replicate, count_by, refl, sym, ap, ap₂, subst, ◌∙◌, arith}
 use Rattle.std.proofs.Math.Seq.{take-append-add}
 use Rattle.std.proofs.lemmas.Bool.{cases_Bool, cases_lt}
-use Rattle.std.proofs.lemmas.List.{get_or-append_right, get_or-replicate, get_or_append_left, length-append, length-replicate}
+use Rattle.std.proofs.lemmas.List.{append-nil, get_or-append_right, get_or-replicate, get_or_append_left, length-append, length-replicate}
 use Rattle.std.proofs.lemmas.List.Sums.{count_by-le-length, sum_by-cons}
 use Rattle.std.proofs.lemmas.Nat.{mul-add-lt}
 use Rattle.std.specs.List.{range_with_len}
@@ -45,6 +45,14 @@ length-numbers number (run ∷ runs) =
       length-numbers (number + 1) runs,
       length-run run runs,
     )
+
+-- with one more run behind the others
+pub numbers-push : (number : ℕ) (runs : List Run) (run : Run) → run_numbers number (runs ++ run ∷ []) ≡ run_numbers number runs ++ replicate run.count (number + length runs)
+numbers-push number [] run = append-nil (replicate run.count number) ∙ ap (λ (n : ℕ). replicate run.count n) (omega arith)
+numbers-push number (first ∷ runs) run =
+    let sum : number + 1 + length runs ≡ number + suc (length runs) = omega arith in
+    ap (λ (l : List ℕ). replicate first.count number ++ l) (numbers-push (number + 1) runs run ∙ ap (λ (n : ℕ). run_numbers (number + 1) runs ++ replicate run.count n) sum)
+    ∙ sym (append_assoc (replicate first.count number) (run_numbers (number + 1) runs) (replicate run.count (number + suc (length runs))))
 
 -- its run, as the list of the runs' numbers has it
 pub record FindsRun (runs : List Run) (first place : ℕ) : Type 0 where

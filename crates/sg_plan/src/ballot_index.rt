@@ -5,11 +5,12 @@ ghost use Rattle.sg_plan.specs.Fates.{fate_fits};
 ghost use Rattle.sg_plan.specs.Limits.{fault_of};
 
 use crate::fates::detail_fits;
-use crate::index_reads::{ballot_in, count_numbers, row_of, style_of};
+use crate::index_reads::{ballot_in, row_of};
 use crate::index_tables::{count_races, count_starts, list_ballots, list_firsts, number_runs};
 use crate::items::Items;
 use crate::memory::NoMemory;
 use crate::plan::{Fate, Plan};
+use crate::run_numbers::RunNumbers;
 use std::alloc::Global;
 use std::marker::Model;
 
@@ -21,7 +22,7 @@ use std::marker::Model;
 pub struct BallotIndex {
     plan: Plan,
     /// Of each ballot, the number of its run.
-    numbers: Items<u16>,
+    numbers: RunNumbers,
     /// Of each run, how many ballots come before it.
     starts: Items<u16>,
     /// Of each race and in it of each run, how many of the ballots before it have the race.
@@ -76,7 +77,7 @@ impl BallotIndex {
     pub fn ballots(&self) -> u32
         ensures { result ≡ ballots_of self.now }
     {
-        count_numbers(&self.numbers, &self.plan)
+        self.numbers.ballots(&self.plan.runs)
     }
 
     /// The number of the style of a ballot of the plan. Ballots are numbered from 1.
@@ -85,7 +86,7 @@ impl BallotIndex {
         requires last { ballot ≤ ballots_of self.now }
         ensures { style_of_ballot self.now ballot ≡ Some result }
     {
-        style_of(&self.numbers, &self.plan.runs, ballot)
+        self.numbers.style_of(&self.plan.runs, ballot)
     }
 
     /// The races of a ballot of the plan, in rising order.

@@ -6,36 +6,7 @@ ghost use Rattle.sg_plan.specs.inside.Index.{IsInRun, ballots_to, counts_before,
 
 use crate::items::Items;
 use crate::plan::{Plan, Run};
-
-/// How many ballots there are.
-pub fn count_numbers(numbers: &Items<u16>, plan: &Plan) -> u32
-    requires good { fault_of plan.now ≡ None }
-    requires numbers { numbers.now ≡ run_numbers 0 plan.now.runs }
-    ensures { result ≡ ballots_of plan.now }
-{
-    numbers.len() as u32
-}
-
-/// The number of the run of a ballot.
-fn number_of(numbers: &Items<u16>, runs: &Items<Run>, ballot: u32) -> usize
-    requires numbers { numbers.now ≡ run_numbers 0 runs.now }
-    requires first { 1 ≤ ballot }
-    requires last { ballot ≤ length (ballot_styles runs.now) }
-    ensures { IsInRun runs.now (ballot - 1) result }
-{
-    usize::from(*numbers.get(ballot as usize - 1))
-}
-
-/// The style of a ballot.
-pub fn style_of(numbers: &Items<u16>, runs: &Items<Run>, ballot: u32) -> u32
-    requires numbers { numbers.now ≡ run_numbers 0 runs.now }
-    requires first { 1 ≤ ballot }
-    requires last { ballot ≤ length (ballot_styles runs.now) }
-    ensures { slice_get (ballot_styles runs.now) (ballot - 1) ≡ Some result }
-{
-    let number = number_of(numbers, runs, ballot);
-    runs.get(number).style
-}
+use crate::run_numbers::RunNumbers;
 
 /// How many ballots come before the run.
 fn start_of(starts: &Items<u16>, runs: &Items<Run>, number: usize) -> u32
@@ -60,7 +31,7 @@ fn count_of(counts: &Items<u16>, plan: &Plan, race: u32, number: usize) -> u32
 
 /// The ballot row of a ballot in a race.
 pub fn row_of(
-    numbers: &Items<u16>,
+    numbers: &RunNumbers,
     starts: &Items<u16>,
     counts: &Items<u16>,
     plan: &Plan,
@@ -76,7 +47,7 @@ pub fn row_of(
     requires last { ballot ≤ ballots_of plan.now }
     ensures { result ≡ ballot_row plan.now race ballot }
 {
-    let number = number_of(numbers, &plan.runs, ballot);
+    let number = numbers.number_of(&plan.runs, ballot);
     let run = plan.runs.get(number);
     let before = count_of(counts, plan, race, number);
     let start = start_of(starts, &plan.runs, number);

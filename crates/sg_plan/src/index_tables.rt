@@ -9,17 +9,18 @@ use crate::ballots::{count_ballots, rows_of_run};
 use crate::items::Items;
 use crate::memory::NoMemory;
 use crate::plan::{Plan, Run};
+use crate::run_numbers::RunNumbers;
 use std::alloc::Global;
 
 /// Of each ballot, the number of its run.
-pub fn number_runs(alloc: Global, runs: &Items<Run>) -> Result<Items<u16>, NoMemory>
+pub fn number_runs(alloc: Global, runs: &Items<Run>) -> Result<RunNumbers, NoMemory>
     requires runs { length runs.now ≤ 20000 }
     requires ballots { length (ballot_styles runs.now) ≤ 20000 }
     ensures { IfOk result (λ numbers. numbers ≡ run_numbers 0 runs.now) }
 {
-    let mut numbers = Items::with_room(alloc, count_ballots(runs) as usize)?;
+    let mut numbers = RunNumbers::with_room(alloc, count_ballots(runs) as usize)?;
     for at in 0..runs.len() {
-        numbers.push_times(at as u16, runs.get(at).count as usize)?;
+        numbers.push_run(at, runs.get(at).count)?;
     }
     Ok(numbers)
 }

@@ -1,6 +1,6 @@
 use Rattle.std.proofs.Common.{◌-◌}
 use Rattle.sg_plan.proofs.IndexLists.{run_tells}
-use Rattle.sg_plan.proofs.index_reads.style_of.Goals as goal
+use Rattle.sg_plan.proofs.run_numbers.RunNumbers.style_of.Goals as goal
 
 pub get-requires : goal.get-requires
 get-requires c = c.number_of-number.ensures.within
