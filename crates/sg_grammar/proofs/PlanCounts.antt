@@ -3,11 +3,13 @@ use Rattle.std.proofs.Common.{◌≡◌, ℕ, zero, suc, ◌+◌, ◌-◌, ◌*�
 use Rattle.std.specs.Prelude.{Err, IfOk, IsSome, Ok, OnErr, Result}
 use Rattle.std.proofs.lemmas.Bool.{and_parts}
 use Rattle.std.proofs.lemmas.Option.{cond_some}
-use Rattle.std.proofs.lemmas.List.{append-nil}
-use Rattle.sg_plan.proofs.BallotLists.{ballot_styles-append, count-push}
+use Rattle.std.proofs.lemmas.List.{length-append}
+use Rattle.sg_plan.proofs.BallotLists.{count-push}
+use Rattle.sg_plan.proofs.IndexLists.{few_runs_of, numbers-push}
 use Rattle.sg_plan.specs.Ballots.{ballot_styles, candidates_of, entries_of, r_rows, style_has}
 use Rattle.sg_plan.specs.Limits.{candidate_keeps, is_version, race_head_keeps, run_keeps, style_keeps}
 use Rattle.sg_plan.specs.Names.{is_name_word, is_within}
+use Rattle.sg_plan.specs.inside.Index.{run_numbers}
 use Rattle.sg_plan.specs.declared.plan.Plan.{Plan}
 use Rattle.sg_plan.specs.declared.plan.Run.{Run}
 use Rattle.sg_forms.specs.Said.{Said}
@@ -18,7 +20,7 @@ use Rattle.sg_grammar.specs.Made.{IsMade, has_runs}
 use Rattle.sg_grammar.specs.Slots.{IsCounted, RunFits, TellsEntries, is_run}
 use Rattle.sg_grammar.specs.declared.state.Head.{Head}
 use Rattle.sg_grammar.specs.declared.state.Head.TheVariants as head
-use Rattle.sg_grammar.proofs.Making.{complete-sizes, early-runs, entries_of-run, made-line, no_runs-entries}
+use Rattle.sg_grammar.proofs.Making.{complete-sizes, early-runs, entries_of-run, made-line, no_runs-entries, runs-fault}
 
 -- there is a value
 pub some_value : {A : Type 0} (o : Option A) → IsSome o → (x : A) × (o ≡ Some x)
@@ -66,17 +68,18 @@ runs_there [] run e = cc
 runs_there (first ∷ runs) run e = cc
 
 -- with one more run the counts are of the plan with it
-pub run_counted : (plan : Plan) (before entries styles : List ℕ) (style count : ℕ) → IsCounted plan before styles → RunFits plan style count → TellsEntries (with_run plan style count) entries
-    → IsCounted (with_run plan style count) entries (styles ++ replicate count style)
-run_counted plan before entries styles style count counted fits tells =
+pub run_counted : (plan : Plan) (before entries numbers : List ℕ) (style count : ℕ) → IsCounted plan before numbers → RunFits plan style count → TellsEntries (with_run plan style count) entries
+    → IsCounted (with_run plan style count) entries (numbers ++ replicate count (length plan.runs))
+run_counted plan before entries numbers style count counted fits tells =
     let run : Run = record { style = style; count = count } in
+    let number : 0 + length plan.runs ≡ length plan.runs = omega arith in
+    let pushed = numbers-push 0 plan.runs run ∙ ap (λ n. run_numbers 0 plan.runs ++ replicate count n) number in
     record {
       few_races = counted.few_races;
       few_ballots = omega (arith, count-push plan.runs run, fits.few_ballots);
       tells = tells;
       no_runs = λ none race. absurd (runs_there plan.runs run none);
-      styles_are = ap (λ l. l ++ replicate count style) counted.styles_are
-          ∙ sym (ballot_styles-append plan.runs (run ∷ []) ∙ ap (λ l. ballot_styles plan.runs ++ l) (append-nil (replicate count style)));
+      numbers_are = ap (λ l. l ++ replicate count (length plan.runs)) counted.numbers_are ∙ sym pushed;
     }
 
 -- a run that stands gives so few ballots and entries that they can be counted
@@ -90,6 +93,7 @@ run_fits plan stage said style count is kept some =
     record {
       few_candidates = λ race. sizes.most_candidates race;
       few_ballots = omega (arith, sizes.most_ballots, count-push plan.runs run);
+      few_runs = omega (arith, few_runs_of (with_run plan style count) (runs-fault (with_run plan style count) next), length-append plan.runs (run ∷ []));
       entries_fit = λ race. omega (arith, sizes.most_entries race);
     }
 
@@ -157,30 +161,30 @@ made_races plan head.Runs kept = omega (arith, kept.stands.races.most)
 made_races plan head.Whole kept = omega (arith, kept.stands.races.most)
 
 -- a plan without runs has no entries and no ballots
-pub none_counted : (plan : Plan) (entries styles : List ℕ) → length plan.races ≤ 32 → plan.runs ≡ [] → styles ≡ [] → ((race : ℕ) → slice_index entries race ≡ 0) → IsCounted plan entries styles
-none_counted plan entries styles few none no_styles zeros =
+pub none_counted : (plan : Plan) (entries numbers : List ℕ) → length plan.races ≤ 32 → plan.runs ≡ [] → numbers ≡ [] → ((race : ℕ) → slice_index entries race ≡ 0) → IsCounted plan entries numbers
+none_counted plan entries numbers few none no_numbers zeros =
     let empty : ballot_styles plan.runs ≡ [] = ap ballot_styles none in
     record {
       few_races = few;
       few_ballots = omega (arith, ap length empty);
       tells = λ race within. zeros race ∙ sym (no_runs-entries plan race none);
       no_runs = λ e race. zeros race;
-      styles_are = no_styles ∙ sym empty;
+      numbers_are = no_numbers ∙ sym (ap (run_numbers 0) none);
     }
 
 -- the counts with another line: there are none yet
-pub other_counted : (plan seen : Plan) (stage next : Head) (said : Said) (entries styles : List ℕ) → is_run said ≡ false → IsMade plan stage → head_line plan stage said ≡ Some (made seen next) → IsCounted plan entries styles → IsCounted seen entries styles
-other_counted plan seen stage next said entries styles other kept e counted =
+pub other_counted : (plan seen : Plan) (stage next : Head) (said : Said) (entries numbers : List ℕ) → is_run said ≡ false → IsMade plan stage → head_line plan stage said ≡ Some (made seen next) → IsCounted plan entries numbers → IsCounted seen entries numbers
+other_counted plan seen stage next said entries numbers other kept e counted =
     let early = early_lines plan stage said (made seen next) other e in
     let none = early-runs plan stage kept early.0 in
     let after = made-line plan stage said (made seen next) kept e in
-    none_counted seen entries styles (made_races seen next after) (early-runs seen next after early.1) (counted.styles_are ∙ ap ballot_styles none) (counted.no_runs none)
+    none_counted seen entries numbers (made_races seen next after) (early-runs seen next after early.1) (counted.numbers_are ∙ ap (run_numbers 0) none) (counted.no_runs none)
 
 -- the counts where another line is added, or nothing
-pub other_added : {E : Type 0} (plan seen : Plan) (stage : Head) (said : Said) (entries styles : List ℕ) (result : Result Head E) → is_run said ≡ false → IsMade plan stage → IsCounted plan entries styles
-    → IfOk result (λ next. head_line plan stage said ≡ Some (made seen next)) → OnErr result (seen ≡ plan) → IsCounted seen entries styles
-other_added plan seen stage said entries styles (Ok next) other kept counted added none = other_counted plan seen stage next said entries styles other kept added counted
-other_added plan seen stage said entries styles (Err error) other kept counted added none = subst (λ (p : Plan). IsCounted p entries styles) (sym none) counted
+pub other_added : {E : Type 0} (plan seen : Plan) (stage : Head) (said : Said) (entries numbers : List ℕ) (result : Result Head E) → is_run said ≡ false → IsMade plan stage → IsCounted plan entries numbers
+    → IfOk result (λ next. head_line plan stage said ≡ Some (made seen next)) → OnErr result (seen ≡ plan) → IsCounted seen entries numbers
+other_added plan seen stage said entries numbers (Ok next) other kept counted added none = other_counted plan seen stage next said entries numbers other kept added counted
+other_added plan seen stage said entries numbers (Err error) other kept counted added none = subst (λ (p : Plan). IsCounted p entries numbers) (sym none) counted
 
 -- a table of zeros
 pub zeros_at : (count at : ℕ) → slice_index (replicate count 0) at ≡ 0

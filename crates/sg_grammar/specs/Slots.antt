@@ -1,6 +1,7 @@
 -- The line that is due, as the program keeps it: its slot, and from the slot all lines that are due behind it.
 use Rattle.std.specs.Prelude.{◌≡◌, ℕ, ◌+◌, ◌*◌, ◌^◌, ◌<◌, ◌≤◌, ◌==◌, if◌then◌else◌, Bool, true, false, List, [], ◌∷◌, ◌++◌, length, slice_index, Option, Some, None}
-use Rattle.sg_plan.specs.Ballots.{ballot_styles, ballots_of, ballot_has, candidates_of, entries_of}
+use Rattle.sg_plan.specs.Ballots.{ballots_of, ballot_has, candidates_of, entries_of}
+use Rattle.sg_plan.specs.inside.Index.{run_numbers}
 use Rattle.sg_plan.specs.declared.plan.Plan.{Plan}
 use Rattle.sg_forms.specs.Said.{Said}
 use Rattle.sg_forms.specs.Said.Said.{Ballots}
@@ -112,13 +113,13 @@ IsPartIn plan (part.Disputes count) = count ≤ 10000
 abbrev pub TellsEntries : Plan → List ℕ → Type 0
 TellsEntries plan entries = (race : ℕ) → race < length plan.races → slice_index entries race ≡ entries_of plan race
 
--- what is counted of a plan: each race's entries, and each ballot's style; without a run all entries are 0
-pub record IsCounted (plan : Plan) (entries styles : List ℕ) : Type 0 where
+-- what is counted of a plan: each race's entries, and each ballot's run; without a run all entries are 0
+pub record IsCounted (plan : Plan) (entries numbers : List ℕ) : Type 0 where
   pub few_races : length plan.races ≤ 32
   pub few_ballots : ballots_of plan ≤ 20000
   pub tells : TellsEntries plan entries
   pub no_runs : plan.runs ≡ [] → (race : ℕ) → slice_index entries race ≡ 0
-  pub styles_are : styles ≡ ballot_styles plan.runs
+  pub numbers_are : numbers ≡ run_numbers 0 plan.runs
 
 -- the line is a run of ballots
 abbrev pub is_run : Said → Bool
@@ -129,6 +130,7 @@ is_run said = false
 pub record RunFits (plan : Plan) (style count : ℕ) : Type 0 where
   pub few_candidates : (race : ℕ) → candidates_of plan race ≤ 16
   pub few_ballots : ballots_of plan + count ≤ 20000
+  pub few_runs : length plan.runs + 1 ≤ 20000
   pub entries_fit : (race : ℕ) → entries_of (with_run plan style count) race < 2 ^ 32
 
 -- none of the races from this one to before the other has an entry

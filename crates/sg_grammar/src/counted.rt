@@ -11,7 +11,7 @@ use crate::head::add_to_plan;
 use crate::state::Head;
 use sg_forms::Line;
 use sg_plan::limits::MOST_RACES;
-use sg_plan::{Items, NoMemory, Plan, Run, Word};
+use sg_plan::{Items, NoMemory, Plan, Run, RunNumbers, Word};
 use std::alloc::Global;
 use std::marker::Model;
 
@@ -54,34 +54,22 @@ fn entries_with_run(plan: &Plan, before: [u32; MOST_RACES], run: Run) -> [u32; M
     entries
 }
 
-/// The style of a ballot, where the styles of all ballots are these. Ballots are numbered from 1.
-fn style_at(styles: &Items<u32>, ballot: u32) -> Option<u32>
-    ensures { result ≡ (if ballot == 0 then None else slice_get styles.now (ballot - 1)) }
-{
-    if ballot == 0 {
-        return None;
-    }
-    let place = (ballot - 1) as usize;
-    if place >= styles.len() {
-        return None;
-    }
-    Some(*styles.get(place))
-}
-
-/// Puts a run behind the others, and its style behind the others for each of its ballots.
+/// Puts a run behind the others, and its number behind the others for each of its ballots.
 ///
 /// Only this takes time of the ballots, and only of the run's own.
-fn push_run(runs: &mut Items<Run>, styles: &mut Items<u32>, run: Run) -> Result<(), NoMemory>
+fn push_run(runs: &mut Items<Run>, numbers: &mut RunNumbers, run: Run) -> Result<(), NoMemory>
+    requires { length runs.old < 2 ^ 16 }
     ensures runs { OnOk result (runs.new ≡ runs.old ++ run ∷ []) }
-    ensures styles { OnOk result (styles.new ≡ styles.old ++ replicate run.count run.style) }
+    ensures numbers { OnOk result (numbers.new ≡ numbers.old ++ replicate run.count (length runs.old)) }
     ensures same_runs { OnErr result (runs.new ≡ runs.old) }
-    ensures same_styles { OnErr result (styles.new ≡ styles.old) }
+    ensures same_numbers { OnErr result (numbers.new ≡ numbers.old) }
 {
+    let number = runs.len();
     runs.push(run)?;
-    match styles.push_times(run.style, run.count as usize) {
+    match numbers.push_run(number, run.count) {
         Ok(()) => Ok(()),
         Err(error) => {
-            runs.remove(runs.len() - 1);
+            runs.remove(number);
             Err(error)
         }
     }
@@ -101,15 +89,12 @@ fn run_of(line: &Line) -> Option<Run>
     }
 }
 
-/// A plan in the making, with what is counted of it as its lines come: each race's entries, and the
-/// style of each ballot.
-///
-/// An index of a whole plan's ballots has its lists race by race, and can't grow run by run.
+/// A plan in the making, with what is counted of it as its lines come: each race's entries, and the run of each ballot.
 #[derive(Debug, Drop)]
 pub(crate) struct CountedPlan {
     plan: Plan,
     entries: [u32; MOST_RACES],
-    styles: Items<u32>,
+    numbers: RunNumbers,
 }
 
 impl Model for CountedPlan {
@@ -121,7 +106,7 @@ impl Model for CountedPlan {
 
     ghost view = { λ counted. counted.plan };
 
-    ghost invariant = { λ counted. IsCounted counted.plan counted.entries counted.styles };
+    ghost invariant = { λ counted. IsCounted counted.plan counted.entries counted.numbers };
 }
 
 impl CountedPlan {
@@ -140,7 +125,7 @@ impl CountedPlan {
         CountedPlan {
             plan,
             entries: [0; MOST_RACES],
-            styles: Items::new(alloc),
+            numbers: RunNumbers::new(alloc),
         }
     }
 
@@ -181,7 +166,7 @@ impl CountedPlan {
         ensures err { OnErr result (self.new ≡ self.old) }
     {
         let entries = entries_with_run(&self.plan, self.entries, run);
-        push_run(&mut self.plan.runs, &mut self.styles, run)?;
+        push_run(&mut self.plan.runs, &mut self.numbers, run)?;
         self.entries = entries;
         Ok(())
     }
@@ -231,14 +216,14 @@ impl CountedPlan {
     pub(crate) fn ballots(&self) -> u32
         ensures { result ≡ ballots_of self.now }
     {
-        self.styles.len() as u32
+        self.numbers.ballots(&self.plan.runs)
     }
 
     /// The style of the ballot. Ballots are numbered from 1.
     pub(crate) fn style_of(&self, ballot: u32) -> Option<u32>
         ensures { result ≡ style_of_ballot self.now ballot }
     {
-        style_at(&self.styles, ballot)
+        self.numbers.style_at(&self.plan.runs, ballot)
     }
 
     /// The ballot is in the plan, and its style has the race.

@@ -1,7 +1,7 @@
 //! Plans with each fault, at the edges of each limit, and the numbers of a small plan worked out by hand.
 use sg_plan::{
-    BallotIndex, BallotWalk, Draw, Fate, Items, Mark, NoMemory, Plan, Race, Run, Style, Word,
-    codes_of, copy_words, same_races,
+    BallotIndex, BallotWalk, Draw, Fate, Items, Mark, NoMemory, Plan, Race, Run, RunNumbers, Style,
+    Word, codes_of, copy_words, same_races,
 };
 use std::alloc::Global;
 use std::process::Abort;
@@ -286,6 +286,22 @@ fn indexes_ballots(rt: HostRuntime) -> Result<(), Fail> {
     assert!(rt; index.ballot(0, 2) == 4);
     assert!(rt; index.has(4, 0));
     assert!(rt; !index.has(3, 0));
+    Ok(())
+}
+
+#[test]
+fn numbers_runs(rt: HostRuntime) -> Result<(), Fail> {
+    let mut runs = Items::new(rt.alloc());
+    let mut numbers = RunNumbers::new(rt.alloc());
+    assert!(rt; numbers.ballots(&runs) == 0);
+    numbers.push_run(runs.len(), 3)?;
+    runs.push(Run { style: 1, count: 3 })?;
+    assert!(rt; numbers.ballots(&runs) == 3);
+    assert!(rt; numbers.number_of(&runs, 3) == 0);
+    assert!(rt; numbers.style_of(&runs, 3) == 1);
+    assert!(rt; numbers.style_at(&runs, 0).is_none());
+    assert!(rt; numbers.style_at(&runs, 3) == Some(1));
+    assert!(rt; numbers.style_at(&runs, 4).is_none());
     Ok(())
 }
 

@@ -11,5 +11,5 @@ add_run-requires c = run_fits c.args.self.now c.args.head (said c.args.line.now)
 pub invariant_of-self : goal.invariant_of-self
 invariant_of-self c =
     let kept = subst (λ (p : Plan). IsMade p c.args.head) (sym c.self.view_is) c.requires.made in
-    other_added c.self.inside.plan c.add_to_plan.new.plan c.args.head (said c.args.line.now) c.self.inside.entries c.self.inside.styles c.add_to_plan.result
+    other_added c.self.inside.plan c.add_to_plan.new.plan c.args.head (said c.args.line.now) c.self.inside.entries c.self.inside.numbers c.add_to_plan.result
     c.in-None.ensures.none kept c.self.invariant c.add_to_plan.ensures.ok c.add_to_plan.ensures.err
