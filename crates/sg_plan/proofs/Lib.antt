@@ -7,4 +7,3 @@ pub mod LimitTests
 pub mod Lists
 pub mod NameTests
 pub mod PlanLaws
-pub mod Walking

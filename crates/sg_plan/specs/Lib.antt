@@ -4,5 +4,4 @@ pub mod Fates
 pub mod Laws
 pub mod Limits
 pub mod Names
-pub mod Walking
 pub mod inside

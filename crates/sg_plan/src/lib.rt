@@ -17,7 +17,6 @@ mod names;
 mod plan;
 mod run_numbers;
 mod same;
-mod walk;
 mod word;
 
 pub use ballot_index::BallotIndex;
@@ -30,5 +29,4 @@ pub use names::{is_name, is_new_name};
 pub use plan::{ClaimWord, Draw, Fate, Mark, Paper, Plan, Race, Run, Side, Stage, Style};
 pub use run_numbers::RunNumbers;
 pub use same::{same_races, same_words};
-pub use walk::BallotWalk;
 pub use word::Word;

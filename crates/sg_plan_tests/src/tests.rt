@@ -1,7 +1,7 @@
 //! Plans with each fault, at the edges of each limit, and the numbers of a small plan worked out by hand.
 use sg_plan::{
-    BallotIndex, BallotWalk, Draw, Fate, Items, Mark, NoMemory, Plan, Race, Run, RunNumbers, Style,
-    Word, codes_of, copy_words, same_races,
+    BallotIndex, Draw, Fate, Items, Mark, NoMemory, Plan, Race, Run, RunNumbers, Style, Word,
+    codes_of, copy_words, same_races,
 };
 use std::alloc::Global;
 use std::process::Abort;
@@ -334,12 +334,10 @@ fn judges_fates(rt: HostRuntime) -> Result<(), Fail> {
 }
 
 #[test]
-fn walks_over_ballots(rt: HostRuntime) -> Result<(), Fail> {
+fn counts_by_the_plan(rt: HostRuntime) -> Result<(), Fail> {
     let (plan, _) = plan_of(rt.alloc(), SMALL)?;
     plan.check()?;
     assert!(rt; plan.ballots() == 5);
-    let mut walk = BallotWalk::start();
-    assert!(rt; walk.races_of(&plan, 3).len() == 1);
     assert!(rt; plan.candidates(0) == 3);
     assert!(rt; plan.votes(1) == 2);
     assert!(rt; plan.is_code(999));
