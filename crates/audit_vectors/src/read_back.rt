@@ -24,7 +24,7 @@ pub(crate) fn read_back(alloc: Global, bytes: &[u8]) -> Result<ReadBack, Fault> 
     let Some(posted) = read_record(alloc, bytes)? else {
         return Ok(ReadBack::Unread);
     };
-    if !posted.is_formed() {
+    if !posted.is_formed(alloc)? {
         return Ok(ReadBack::Unformed);
     }
     let mut page = Page::new(alloc, bytes.len(), Vec::new(alloc), 0)?;

@@ -140,7 +140,7 @@ fn copy_all(record: &[u8], buffer: &mut [u8]) -> Result<u32, Fault> {
 
 /// The record is written as these bytes.
 fn is_posted(alloc: Global, posted: &Record, bytes: &[u8]) -> Result<bool, Fault> {
-    if !posted.is_formed() {
+    if !posted.is_formed(alloc)? {
         return Ok(false);
     }
     let mut page = Page::new(alloc, bytes.len(), Vec::new(alloc), 0)?;

@@ -18,7 +18,7 @@ use crate::record::{BallotBlock, BlockFate, DisputeBlock};
 use sg_forms::{CodeLine, Line};
 use sg_outside::{Failed, Sink};
 use sg_plan::limits::MOST_CANDIDATES;
-use sg_plan::{BallotWalk, Items, Paper, Plan};
+use sg_plan::{BallotIndex, Items, Paper, Plan};
 
 /// Writes a code.
 fn put_code<O: Sink>(pen: &mut Pen, code: &CodeLine, out: &mut O) -> Result<(), Failed>
@@ -262,18 +262,19 @@ pub fn put_block<O: Sink>(
 pub(crate) fn put_blocks<O: Sink>(
     pen: &mut Pen,
     plan: &Plan,
+    index: &BallotIndex,
     blocks: &Items<BallotBlock>,
     out: &mut O,
 ) -> Result<(), Failed>
     requires version { pen.old.version ≡ plan.now.version }
     requires limits { fault_of plan.now ≡ None }
+    requires indexed { index.now ≡ plan.now }
     requires fates { HaveFates plan.now 0 blocks.now }
     ensures { Writes O.written O.faults pen.old out.old pen.new out.new result (flat_map (block_lines plan.now) blocks.now) }
 {
-    let mut walk = BallotWalk::start();
     for at in 0..blocks.len() {
         let block = blocks.get(at);
-        let races = walk.races_of(plan, block.ballot);
+        let races = index.races(block.ballot);
         put_block(pen, plan, races, block, out)?;
     }
     Ok(())

@@ -1,7 +1,7 @@
 //! Which records have a text: each list is as long as the plan says, and codes, blocks and disputes stand in order.
 //!
-//! Nothing here takes memory. Each list is walked over once.
-ghost use Rattle.std.specs.Prelude.{◌≡◌, ℕ, ◌==◌, ◌<◌, ◌≤◌, None, IsTrue, IfSome, nat_lt, nat_le, if◌then◌else◌, ◌&&◌, ◌++◌, [], List, length, drop, false};
+//! Each list is walked over once, and only the index of the plan's ballots takes memory.
+ghost use Rattle.std.specs.Prelude.{◌≡◌, ℕ, ◌==◌, ◌<◌, ◌≤◌, None, IsTrue, IfOk, IfSome, nat_lt, nat_le, if◌then◌else◌, ◌&&◌, ◌++◌, [], List, length, drop, false};
 ghost use Rattle.std.specs.List.{list_all, list_any};
 ghost use Rattle.std.specs.Option.{option_map_or};
 ghost use Rattle.sg_plan.specs.Ballots.{candidates_of, entries_of, races_of_ballot};
@@ -17,7 +17,8 @@ ghost use Rattle.sg_record.specs.Formed.{are_blocks, are_due, are_marks, are_ove
 use crate::record::{BallotBlock, BlockFate, DisputeBlock, Record};
 use sg_forms::CodeLine;
 use sg_plan::limits::{MOST_CLAIMS, MOST_PUBLIC_BYTES};
-use sg_plan::{BallotWalk, Draw, Items, Paper, Plan};
+use sg_plan::{BallotIndex, Draw, Items, NoMemory, Paper, Plan};
+use std::alloc::Global;
 
 /// Each race has a list with an item for each of its entries.
 #[tactic(auto, using(crate::proofs::Bounds::few_races))]
@@ -284,12 +285,12 @@ fn is_fate(plan: &Plan, races: &[u32], fate: &BlockFate) -> bool
 }
 
 /// The blocks are of rising ballots, and each is as its fate wants it.
-fn are_blocks(plan: &Plan, blocks: &Items<BallotBlock>) -> bool
-    requires { fault_of plan.now ≡ None }
+fn are_blocks(plan: &Plan, index: &BallotIndex, blocks: &Items<BallotBlock>) -> bool
+    requires limits { fault_of plan.now ≡ None }
+    requires indexed { index.now ≡ plan.now }
     ensures { result ≡ are_blocks plan.now 0 blocks.now }
 {
-    let ballots = plan.ballots();
-    let mut walk = BallotWalk::start();
+    let ballots = index.ballots();
     let mut last = 0;
     for at in 0..blocks.len() {
         let block = blocks.get(at);
@@ -299,7 +300,7 @@ fn are_blocks(plan: &Plan, blocks: &Items<BallotBlock>) -> bool
         if block.ballot > ballots {
             return false;
         }
-        let races = walk.races_of(plan, block.ballot);
+        let races = index.races(block.ballot);
         if !is_fate(plan, races, &block.fate) {
             return false;
         }
@@ -309,13 +310,14 @@ fn are_blocks(plan: &Plan, blocks: &Items<BallotBlock>) -> bool
 }
 
 /// A claim on a ballot in one of its races, and the ballot's codes there.
-fn is_dispute(plan: &Plan, one: &DisputeBlock) -> bool
+fn is_dispute(plan: &Plan, index: &BallotIndex, one: &DisputeBlock) -> bool
+    requires { index.now ≡ plan.now }
     ensures { result ≡ is_dispute plan.now one.now }
 {
     if one.race as usize >= plan.races.len() {
         return false;
     }
-    if !plan.carries(one.ballot, one.race) {
+    if !index.has(one.ballot, one.race) {
         return false;
     }
     if !plan.is_code(one.code) {
@@ -325,20 +327,22 @@ fn is_dispute(plan: &Plan, one: &DisputeBlock) -> bool
 }
 
 /// Each dispute is as it should be.
-fn are_all_disputes(plan: &Plan, disputes: &[DisputeBlock]) -> bool
+fn are_all_disputes(plan: &Plan, index: &BallotIndex, disputes: &[DisputeBlock]) -> bool
+    requires { index.now ≡ plan.now }
     ensures { result ≡ list_all (is_dispute plan.now) disputes.now }
 {
-    disputes.iter().all(|one| is_dispute(plan, one))
+    disputes.iter().all(|one| is_dispute(plan, index, one))
 }
 
 /// At most 10,000 disputes, each as it should be.
-fn are_disputes(plan: &Plan, disputes: &Items<DisputeBlock>) -> bool
+fn are_disputes(plan: &Plan, index: &BallotIndex, disputes: &Items<DisputeBlock>) -> bool
+    requires { index.now ≡ plan.now }
     ensures { result ≡ (nat_le (length disputes.now) most_disputes && list_all (is_dispute plan.now) disputes.now) }
 {
     if disputes.len() > MOST_CLAIMS {
         return false;
     }
-    are_all_disputes(plan, disputes.as_slice())
+    are_all_disputes(plan, index, disputes.as_slice())
 }
 
 /// The public bytes are 1 to 4,096.
@@ -355,30 +359,34 @@ impl Record {
     /// Whether the record has a text: its plan keeps its limits, its lists are as long as the plan says, and its codes,
     /// blocks and disputes stand in the order of the rules.
     ///
-    /// Takes no memory. Its time is that of one walk over all lists, and for each dispute that of the plan's runs.
+    /// Its time is that of one walk over all lists. An index of the plan's ballots takes memory for the length of the call.
     #[tactic(auto, unfolding(crate::specs::Formed::is_formed))]
-    pub fn is_formed(&self) -> bool
-        ensures { result ≡ is_formed self.now }
+    pub fn is_formed(&self, alloc: Global) -> Result<bool, NoMemory>
+        ensures { IfOk result (λ formed. formed ≡ is_formed self.now) }
     {
         match self.plan.check() {
-            Err(_) => false,
-            Ok(()) => has_lists(self),
+            Err(_) => Ok(false),
+            Ok(()) => {
+                let index = BallotIndex::make(alloc, &self.plan)?;
+                Ok(has_lists(self, &index))
+            }
         }
     }
 }
 
 /// The lists of a record are as its plan, which has no fault, wants them.
-fn has_lists(posted: &Record) -> bool
-    requires { fault_of posted.now.plan ≡ None }
+fn has_lists(posted: &Record, index: &BallotIndex) -> bool
+    requires limits { fault_of posted.now.plan ≡ None }
+    requires indexed { index.now ≡ posted.now.plan }
     ensures { result ≡ (has_entries posted.now.plan posted.now.code_commits && (has_rows posted.now.plan posted.now.row_commits && (are_blocks posted.now.plan 0 posted.now.ballots && (has_rows posted.now.plan posted.now.flags && (has_entries posted.now.plan posted.now.places && (has_candidates posted.now.plan posted.now.totals && (is_draw posted.now.draw && (has_rows posted.now.plan posted.now.rows && (nat_le (length posted.now.disputes) most_disputes && list_all (is_dispute posted.now.plan) posted.now.disputes))))))))) }
 {
     has_entries(&posted.plan, &posted.code_commits)
         && has_rows(&posted.plan, &posted.row_commits)
-        && are_blocks(&posted.plan, &posted.ballots)
+        && are_blocks(&posted.plan, index, &posted.ballots)
         && has_rows(&posted.plan, &posted.flags)
         && has_entries(&posted.plan, &posted.places)
         && has_candidates(&posted.plan, &posted.totals)
         && is_draw(&posted.draw)
         && has_rows(&posted.plan, &posted.rows)
-        && are_disputes(&posted.plan, &posted.disputes)
+        && are_disputes(&posted.plan, index, &posted.disputes)
 }

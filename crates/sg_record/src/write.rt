@@ -15,7 +15,7 @@ use crate::pen::Pen;
 use crate::record::Record;
 use crate::results::put_results;
 use sg_outside::{Failed, Sink};
-use sg_plan::Plan;
+use sg_plan::{BallotIndex, Plan};
 use std::alloc::Global;
 
 /// How the writing of a record ended.
@@ -30,14 +30,20 @@ pub enum Wrote {
 }
 
 /// Writes all lines of a record.
-fn put_record<O: Sink>(pen: &mut Pen, posted: &Record, out: &mut O) -> Result<(), Failed>
+fn put_record<O: Sink>(
+    pen: &mut Pen,
+    index: &BallotIndex,
+    posted: &Record,
+    out: &mut O,
+) -> Result<(), Failed>
     requires version { pen.old.version ≡ posted.now.plan.version }
+    requires indexed { index.now ≡ posted.now.plan }
     requires formed { is_formed posted.now ≡ true }
     ensures { Writes O.written O.faults pen.old out.old pen.new out.new result (lines_in posted.now) }
 {
     put_plan(pen, &posted.plan, out)?;
     put_commits(pen, posted, out)?;
-    put_blocks(pen, &posted.plan, &posted.ballots, out)?;
+    put_blocks(pen, &posted.plan, index, &posted.ballots, out)?;
     put_results(pen, posted, out)?;
     put_openings(pen, posted, out)?;
     put_disputes(pen, &posted.disputes, out)
@@ -61,7 +67,8 @@ pub fn write_plan<O: Sink>(alloc: Global, plan: &Plan, out: &mut O) -> Wrote
 /// Writes the text of a record into the sink: one piece for each line.
 ///
 /// `Written`: the whole text was appended. `SinkFailed`: a front of it was appended, and the sink has counted a fault.
-/// `NoMemory`: a front of it was appended. Memory is wanted for one line alone, before the first is written.
+/// `NoMemory`: a front of it was appended. Memory is wanted for one line and for an index of the plan's ballots, before the
+/// first line is written.
 #[tactic(auto, unfolding(crate::specs::Lines::text_of))]
 pub fn write_record<O: Sink>(alloc: Global, posted: &Record, out: &mut O) -> Wrote
     requires { is_formed posted.now ≡ true }
@@ -71,7 +78,10 @@ pub fn write_record<O: Sink>(alloc: Global, posted: &Record, out: &mut O) -> Wro
     let Ok(mut pen) = Pen::new(alloc, posted.plan.version) else {
         return Wrote::NoMemory;
     };
-    match put_record(&mut pen, posted, out) {
+    let Ok(index) = BallotIndex::make(alloc, &posted.plan) else {
+        return Wrote::NoMemory;
+    };
+    match put_record(&mut pen, &index, posted, out) {
         Ok(()) => Wrote::Written,
         Err(Failed) => Wrote::SinkFailed,
     }

@@ -388,7 +388,7 @@ fn many_bits(alloc: Global) -> Result<Record, NoMemory> {
 fn writes_each_fate(rt: HostRuntime) -> Result<(), Fail> {
     let alloc = rt.alloc();
     let posted = all_fates(alloc)?;
-    assert!(rt; posted.is_formed());
+    assert!(rt; posted.is_formed(alloc)?);
     let mut page = Page::new(alloc, 30_000, Vec::new(alloc), 0)?;
     assert_eq!(rt; write_record(alloc, &posted, &mut page), Wrote::Written);
     assert_eq!(rt; page.written(), text_of(alloc, &ALL_FATES)?.as_slice());
@@ -399,7 +399,7 @@ fn writes_each_fate(rt: HostRuntime) -> Result<(), Fail> {
 fn writes_many_bits(rt: HostRuntime) -> Result<(), Fail> {
     let alloc = rt.alloc();
     let posted = many_bits(alloc)?;
-    assert!(rt; posted.is_formed());
+    assert!(rt; posted.is_formed(alloc)?);
     let mut page = Page::new(alloc, 30_000, Vec::new(alloc), 0)?;
     assert_eq!(rt; write_record(alloc, &posted, &mut page), Wrote::Written);
     assert_eq!(rt; page.written(), text_of(alloc, &MANY_BITS)?.as_slice());
@@ -410,7 +410,7 @@ fn writes_many_bits(rt: HostRuntime) -> Result<(), Fail> {
 fn leaves_a_front(rt: HostRuntime) -> Result<(), Fail> {
     let alloc = rt.alloc();
     let posted = many_bits(alloc)?;
-    assert!(rt; posted.is_formed());
+    assert!(rt; posted.is_formed(alloc)?);
     let mut page = Page::new(alloc, 30_000, vec![in alloc; 2]?, 4)?;
     assert_eq!(rt; write_record(alloc, &posted, &mut page), Wrote::SinkFailed);
     assert_eq!(rt;
@@ -429,7 +429,7 @@ fn count_feeds(text: &[u8]) -> usize {
 fn leaves_a_front_at_each_line(rt: HostRuntime) -> Result<(), Fail> {
     let alloc = rt.alloc();
     let posted = all_fates(alloc)?;
-    assert!(rt; posted.is_formed());
+    assert!(rt; posted.is_formed(alloc)?);
     let text = text_of(alloc, &ALL_FATES)?;
     let mut call = 0u32;
     for line in 0..count_feeds(&text) {
@@ -470,12 +470,12 @@ fn seals_what_it_writes(rt: HostRuntime) -> Result<(), Fail> {
 fn tells_form(rt: HostRuntime) -> Result<(), Fail> {
     let alloc = rt.alloc();
     let mut posted = all_fates(alloc)?;
-    assert!(rt; posted.is_formed());
+    assert!(rt; posted.is_formed(alloc)?);
     posted.plan.version = 1;
-    assert!(rt; !posted.is_formed());
+    assert!(rt; !posted.is_formed(alloc)?);
     posted.plan.version = 2;
     posted.totals = by_race(alloc, 7, 0, [2, 3])?;
-    assert!(rt; !posted.is_formed());
+    assert!(rt; !posted.is_formed(alloc)?);
     Ok(())
 }
 
@@ -484,7 +484,7 @@ fn is_read(alloc: Global, text: &[u8]) -> Result<bool, Fail> {
     let Some(posted) = read_record(alloc, text)? else {
         return Ok(false);
     };
-    if !posted.is_formed() {
+    if !posted.is_formed(alloc)? {
         return Ok(false);
     }
     let mut page = Page::new(alloc, 30_000, Vec::new(alloc), 0)?;

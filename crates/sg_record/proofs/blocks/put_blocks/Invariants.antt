@@ -3,7 +3,6 @@ use Rattle.std.proofs.Common.{drop}
 use Rattle.sg_record.proofs.Putting.{LeftOf}
 use Rattle.std.specs.List.{flat_map}
 use Rattle.sg_record.specs.Lines.{block_lines}
-use Rattle.sg_plan.specs.Walking.{StandsIn}
 use Rattle.sg_record.specs.Pens.{moment}
 use Rattle.sg_record.specs.inside.Parts.{HaveFates}
 use Rattle.sg_record.proofs.blocks.put_blocks.Given as goal
@@ -11,6 +10,5 @@ use Rattle.sg_record.proofs.blocks.put_blocks.Given as goal
 abbrev pub invariant-loop-at : goal.invariant-loop-at
 invariant-loop-at g l = record {
   left : LeftOf (moment g.O.Sink.written g.O.Sink.faults l.fn.pen l.fn.out) (moment g.O.Sink.written g.O.Sink.faults l.pen l.out) (flat_map (block_lines l.plan)) l.blocks l.at;
-  fates : HaveFates l.plan l.walk.before (drop l.at l.blocks);
-  stands : StandsIn l.plan.runs l.walk;
+  fates : HaveFates l.plan 0 (drop l.at l.blocks);
 }

@@ -1,12 +1,7 @@
 -- The items walked over pass, and the rest decide.
-use Rattle.std.proofs.Common.{◌≡◌, ◌≤◌, drop}
+use Rattle.std.proofs.Common.{◌≡◌, drop}
 use Rattle.sg_record.specs.Formed.{are_blocks}
-use Rattle.sg_plan.specs.Walking.{StandsIn}
 use Rattle.sg_record.proofs.formed.are_blocks.Given as goal
 
 abbrev pub invariant-loop-at : goal.invariant-loop-at
-invariant-loop-at l = record {
-  blocks : are_blocks l.plan l.last (drop l.at l.blocks) ≡ are_blocks l.plan 0 l.blocks;
-  stands : StandsIn l.plan.runs l.walk;
-  before : l.walk.before ≤ l.last;
-}
+invariant-loop-at l = are_blocks l.plan l.last (drop l.at l.blocks) ≡ are_blocks l.plan 0 l.blocks

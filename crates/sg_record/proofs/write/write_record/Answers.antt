@@ -11,6 +11,9 @@ use Rattle.sg_record.proofs.write.write_record.Goals as goal
 pub new-requires : goal.new-requires
 new-requires g c = version_of c.args.posted.now.plan (formed_parts c.args.posted.now c.requires).plan
 
+pub make-requires : goal.make-requires
+make-requires g c = (formed_parts c.args.posted.now c.requires).plan
+
 pub returns-in-Ok-put_record-clause-ends : goal.returns-in-Ok-put_record-clause-ends
 unfolding text_of
 returns-in-Ok-put_record-clause-ends g c =
