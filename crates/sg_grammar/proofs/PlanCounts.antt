@@ -9,7 +9,7 @@ use Rattle.sg_plan.proofs.IndexLists.{few_runs_of, numbers-push}
 use Rattle.sg_plan.specs.Ballots.{ballot_styles, candidates_of, entries_of, r_rows, style_has}
 use Rattle.sg_plan.specs.Limits.{candidate_keeps, is_version, race_head_keeps, run_keeps, style_keeps}
 use Rattle.sg_plan.specs.Names.{is_name_word, is_within}
-use Rattle.sg_plan.specs.inside.Index.{run_numbers}
+use Rattle.sg_plan.specs.Runs.{run_numbers}
 use Rattle.sg_plan.specs.declared.plan.Plan.{Plan}
 use Rattle.sg_plan.specs.declared.plan.Run.{Run}
 use Rattle.sg_forms.specs.Said.{Said}

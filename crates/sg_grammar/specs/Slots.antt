@@ -1,7 +1,7 @@
 -- The line that is due, as the program keeps it: its slot, and from the slot all lines that are due behind it.
 use Rattle.std.specs.Prelude.{◌≡◌, ℕ, ◌+◌, ◌*◌, ◌^◌, ◌<◌, ◌≤◌, ◌==◌, if◌then◌else◌, Bool, true, false, List, [], ◌∷◌, ◌++◌, length, slice_index, Option, Some, None}
 use Rattle.sg_plan.specs.Ballots.{ballots_of, ballot_has, candidates_of, entries_of}
-use Rattle.sg_plan.specs.inside.Index.{run_numbers}
+use Rattle.sg_plan.specs.Runs.{run_numbers}
 use Rattle.sg_plan.specs.declared.plan.Plan.{Plan}
 use Rattle.sg_forms.specs.Said.{Said}
 use Rattle.sg_forms.specs.Said.Said.{Ballots}

@@ -12,7 +12,8 @@ use Rattle.sg_plan.proofs.PlanLaws.{bounds, runs_kept, true-ballot_has}
 use Rattle.sg_plan.proofs.LimitLaws.{passes_tests}
 use Rattle.sg_plan.specs.Ballots.{ballot_has, ballot_row, ballot_styles, ballots_of, rows_of, style_has}
 use Rattle.sg_plan.specs.Limits.{KeepsRun, fault_of}
-use Rattle.sg_plan.specs.inside.Index.{IsInRun, ballots_to, ballots_with, counts_before, counts_to, firsts_to, run_numbers}
+use Rattle.sg_plan.specs.inside.Index.{ballots_to, ballots_with, counts_before, counts_to, firsts_to}
+use Rattle.sg_plan.specs.Runs.{IsInRun, run_numbers}
 use Rattle.sg_plan.specs.declared.plan.Plan.{Plan}
 use Rattle.sg_plan.specs.declared.plan.Run.{Run}
 

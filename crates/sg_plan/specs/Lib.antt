@@ -4,4 +4,5 @@ pub mod Fates
 pub mod Laws
 pub mod Limits
 pub mod Names
+pub mod Runs
 pub mod inside

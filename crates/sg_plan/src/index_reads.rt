@@ -2,7 +2,8 @@
 ghost use Rattle.std.specs.Prelude.{◌≡◌, ◌+◌, ◌-◌, ◌<◌, ◌≤◌, None, Some, true, length, take, slice_get, count_by};
 ghost use Rattle.sg_plan.specs.Ballots.{ballot_has, ballot_row, ballot_styles, ballots_of, rows_of, style_has};
 ghost use Rattle.sg_plan.specs.Limits.{fault_of};
-ghost use Rattle.sg_plan.specs.inside.Index.{IsInRun, ballots_to, counts_before, counts_to, firsts_to, run_numbers};
+ghost use Rattle.sg_plan.specs.inside.Index.{ballots_to, counts_before, counts_to, firsts_to};
+ghost use Rattle.sg_plan.specs.Runs.{IsInRun, run_numbers};
 
 use crate::items::Items;
 use crate::plan::{Plan, Run};

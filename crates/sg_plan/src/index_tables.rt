@@ -3,7 +3,8 @@ ghost use Rattle.std.specs.Prelude.{◌≡◌, ◌+◌, ◌≤◌, ◌<◌, ◌+
 ghost use Rattle.std.specs.List.{range_with_len};
 ghost use Rattle.sg_plan.specs.Ballots.{ballot_styles, style_has};
 ghost use Rattle.sg_plan.specs.Limits.{fault_of};
-ghost use Rattle.sg_plan.specs.inside.Index.{ballots_to, ballots_with, counts_before, counts_to, firsts_to, run_numbers};
+ghost use Rattle.sg_plan.specs.inside.Index.{ballots_to, ballots_with, counts_before, counts_to, firsts_to};
+ghost use Rattle.sg_plan.specs.Runs.{run_numbers};
 
 use crate::ballots::{count_ballots, rows_of_run};
 use crate::items::Items;

@@ -1,7 +1,7 @@
 //! The run of each ballot: the part of an index that grows with a plan's runs.
 ghost use Rattle.std.specs.Prelude.{◌≡◌, ◌-◌, ◌<◌, ◌≤◌, ◌^◌, ◌==◌, ◌++◌, [], if◌then◌else◌, None, Some, IfOk, OnErr, OnOk, length, replicate, slice_get};
 ghost use Rattle.sg_plan.specs.Ballots.{ballot_styles};
-ghost use Rattle.sg_plan.specs.inside.Index.{IsInRun, run_numbers};
+ghost use Rattle.sg_plan.specs.Runs.{IsInRun, run_numbers};
 
 use crate::items::Items;
 use crate::memory::NoMemory;

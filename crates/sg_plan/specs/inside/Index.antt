@@ -1,14 +1,10 @@
 -- What an index of a plan's ballots keeps.
-use Rattle.std.specs.Prelude.{◌≡◌, ℕ, zero, suc, ◌+◌, ◌<◌, ◌≤◌, take, if◌then◌else◌, Bool, true, List, [], ◌∷◌, ◌++◌, length, replicate, None}
+use Rattle.std.specs.Prelude.{◌≡◌, ℕ, zero, suc, ◌+◌, if◌then◌else◌, Bool, true, List, [], ◌∷◌, ◌++◌, length, None}
 use Rattle.sg_plan.specs.Ballots.{ballot_styles, style_has}
 use Rattle.sg_plan.specs.Limits.{fault_of}
+use Rattle.sg_plan.specs.Runs.{run_numbers}
 use Rattle.sg_plan.specs.declared.plan.Plan.{Plan}
 use Rattle.sg_plan.specs.declared.plan.Run.{Run}
-
--- of each ballot, the number of its run, where the first run has this number
-abbrev pub run_numbers : ℕ → List Run → List ℕ
-run_numbers number [] = []
-run_numbers number (run ∷ runs) = replicate run.count number ++ run_numbers (number + 1) runs
 
 -- of each run, how many of the ballots before it are of a style that passes; so many come before the first run
 abbrev pub counts_before : (ℕ → Bool) → ℕ → List Run → List ℕ
@@ -34,12 +30,6 @@ ballots_to plan (suc race) = ballots_to plan race ++ ballots_with (style_has pla
 abbrev pub firsts_to : Plan → ℕ → List ℕ
 firsts_to plan zero = []
 firsts_to plan (suc race) = firsts_to plan race ++ length (ballots_to plan race) ∷ []
-
--- the ballot at a place, counted from 0, is one of the run with this number
-pub record IsInRun (runs : List Run) (place number : ℕ) : Type 0 where
-  pub within : number < length runs
-  pub from : length (ballot_styles (take number runs)) ≤ place
-  pub to : place < length (ballot_styles (take (suc number) runs))
 
 -- the lists of an index are those of the plan, which has no fault
 pub record IsIndex (plan : Plan) (numbers starts counts firsts ballots : List ℕ) : Type 0 where

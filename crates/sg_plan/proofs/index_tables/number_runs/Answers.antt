@@ -1,5 +1,5 @@
 use Rattle.sg_plan.proofs.IndexLists.{numbers-step}
-use Rattle.sg_plan.specs.inside.Index.{run_numbers}
+use Rattle.sg_plan.specs.Runs.{run_numbers}
 use Rattle.sg_plan.proofs.index_tables.number_runs.Goals as goal
 
 pub loop-at-preserved : goal.loop-at-preserved

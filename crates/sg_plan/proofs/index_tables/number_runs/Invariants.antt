@@ -1,5 +1,5 @@
 use Rattle.std.proofs.Common.{◌≡◌, ◌++◌, drop}
-use Rattle.sg_plan.specs.inside.Index.{run_numbers}
+use Rattle.sg_plan.specs.Runs.{run_numbers}
 use Rattle.sg_plan.proofs.index_tables.number_runs.Given as goal
 
 abbrev pub invariant-loop-at : goal.invariant-loop-at
