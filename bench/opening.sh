@@ -10,29 +10,31 @@
 # voids by another station: once where the scans come from the station whose rows stand last, and once where they come
 # from the first, and each new row has half of the kept rows behind it. Then for two offices, the second twice as large:
 # the time of the opening alone from the rows of all ballots, which are cast, and of claims, with the setup read and the
-# tables made. All times are the best of seven rounds that take turns; the time of a process that does the work before
-# alone is taken off.
+# tables made. All times are processor time, the least of many rounds that take turns; that of a process that does the
+# work before alone is taken off.
 set -u
 cd "$(dirname "$0")/.." || exit 1
 . bench/program.sh
 program=$(built bench_office) || exit 1
 
 python3 - "$program" <<'PY'
-import subprocess, sys, time
+import os, sys
 program = sys.argv[1]
+seen, said = os.pipe()
 
-def run(said, *words):
-    start = time.perf_counter()
-    out = subprocess.run((program,) + words, stdout=subprocess.PIPE, check=True).stdout
-    spent = time.perf_counter() - start
-    if out.decode() != said + " accepted\n":
-        sys.exit("bench_office %s said %s" % (" ".join(words), out))
-    return spent
+def run(accepted, *words):
+    """The processor time of the program with these words, which must accept so many."""
+    child = os.posix_spawn(program, (program,) + words, {}, file_actions=[(os.POSIX_SPAWN_DUP2, said, 1)])
+    _, status, usage = os.wait4(child, 0)
+    out = os.read(seen, 100).decode() if status == 0 else ""
+    if out != accepted + " accepted\n":
+        sys.exit("bench_office %s ended with %d and said %s" % (" ".join(words), status, out))
+    return usage.ru_utime + usage.ru_stime
 
-def best(*works):
+def best(rounds, *works):
     """The least time of each work, in rounds that take turns. A work is what it must accept and its words."""
-    rounds = [[run(str(said), *words) for said, words in works] for _ in range(7)]
-    return [min(column) for column in zip(*rounds)]
+    times = [[run(str(accepted), *words) for accepted, words in works] for _ in range(rounds)]
+    return [min(column) for column in zip(*times)]
 
 asks = 9000
 print("%8s %8s %10s %12s" % ("kept", "station", "asks/s", "us an ask"))
@@ -40,7 +42,7 @@ for station in ("1", "0"):
     works = []
     for kept in (200, 20000):
         works += [(kept, ("answers", str(kept), "0", station)), (kept + asks, ("answers", str(kept), str(asks), station))]
-    few, few_asked, many, many_asked = best(*works)
+    few, few_asked, many, many_asked = best(200, *works)
     for kept, spent in ((200, few_asked - few), (20000, many_asked - many)):
         print("%8d %8s %10.0f %12.2f" % (kept, station, asks / spent, spent * 1e6 / asks))
 
@@ -50,7 +52,7 @@ works = []
 for size in sizes:
     numbers = [str(number) for number in size]
     works += [(0, ("rows", *numbers)), (0, ("open", *numbers))]
-times = best(*works)
+times = best(20, *works)
 opened = []
 for (ballots, claims), rows, both in zip(sizes, times[::2], times[1::2]):
     opened.append(both - rows)
