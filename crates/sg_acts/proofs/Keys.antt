@@ -1,34 +1,21 @@
--- The order of stamps in a tree is that of done rows by their keys.
-use Rattle.std.proofs.Common.{◌≡◌, Bool, true, false, ◌&&◌, ◌||◌, cond, refl, Ordering, Less, Equal, Greater}
-use Rattle.std.specs.Ordering.{int_cmp, int_eq, is_eq, is_lt, ordering_then}
+-- The order of keys in a tree is that of done rows by their stamps, from the last to the first.
+use Rattle.std.proofs.Common.{◌≡◌, true, false, ◌&&◌, ◌||◌, Less, arith}
+use Rattle.std.proofs.lemmas.Int.{ints}
+use Rattle.std.specs.Ordering.{int_eq, is_eq, is_gt}
 use Rattle.std.specs.Prelude.{ℤ, int_lt}
+use Rattle.std.specs.declared.cmp.Reverse.{Reverse}
+use Rattle.sg_acts.specs.inside.Entries.{falling_cmp}
 
--- how a stamp stands to another one: by its station, and then by its number
-abbrev pub stamp_cmp : ℤ × ℤ → ℤ × ℤ → Ordering
-stamp_cmp a b = ordering_then (int_cmp a.0 b.0) (int_cmp a.1 b.1)
+abbrev pub Key : Type 0
+Key = Reverse (ℤ × ℤ)
 
--- an order of two numbers, from the two tests
-abbrev cmp_by : Bool → Bool → Ordering
-cmp_by lower higher = cond lower Less (cond higher Greater Equal)
+-- a key comes behind those of later stamps
+pub before_is : (a b : Key) → is_gt (falling_cmp a b) ≡ (int_lt a.0.0 b.0.0 || (int_eq a.0.0 b.0.0 && int_lt a.0.1 b.0.1))
+before_is a b = grind (arith, ints)
 
-before_by : (p q r t : Bool) → is_lt (ordering_then (cmp_by p q) (cmp_by r t)) ≡ (p || (is_eq (cmp_by p q) && r))
-before_by true q r t = refl
-before_by false true r t = refl
-before_by false false true t = refl
-before_by false false false true = refl
-before_by false false false false = refl
+pub same_is : (a b : Key) → is_eq (falling_cmp a b) ≡ (int_eq b.0.0 a.0.0 && int_eq b.0.1 a.0.1)
+same_is a b = grind (arith, ints)
 
-pub before_is : (a b : ℤ × ℤ) → is_lt (stamp_cmp a b) ≡ (int_lt a.0 b.0 || (int_eq a.0 b.0 && int_lt a.1 b.1))
-before_is a b = before_by (int_lt a.0 b.0) (int_lt b.0 a.0) (int_lt a.1 b.1) (int_lt b.1 a.1)
-
-same_by : (p q r t : Bool) → is_eq (ordering_then (cmp_by p q) (cmp_by r t)) ≡ (is_eq (cmp_by q p) && is_eq (cmp_by t r))
-same_by true true r t = refl
-same_by true false r t = refl
-same_by false true r t = refl
-same_by false false true true = refl
-same_by false false true false = refl
-same_by false false false true = refl
-same_by false false false false = refl
-
-pub same_is : (a b : ℤ × ℤ) → is_eq (stamp_cmp a b) ≡ (int_eq b.0 a.0 && int_eq b.1 a.1)
-same_is a b = same_by (int_lt a.0 b.0) (int_lt b.0 a.0) (int_lt a.1 b.1) (int_lt b.1 a.1)
+-- a key that is as another one is not as those behind that one
+pub apart_is : (a b c : Key) → is_eq (falling_cmp a b) ≡ true → falling_cmp b c ≡ Less → is_eq (falling_cmp a c) ≡ false
+apart_is a b c same behind = grind (arith, ints)

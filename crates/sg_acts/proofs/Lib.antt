@@ -1,5 +1,6 @@
 -- The lemmas, lowest first.
 mod Keys
+mod Ends
 mod Entries
 pub mod TakenBack
 pub mod NewRows

@@ -1,36 +1,40 @@
-//! The rows of the acts that were done, in a tree by station and number.
+//! The rows of the acts that were done, in a tree by station and number, from the last to the first.
 ghost use Rattle.std.specs.Prelude.{◌≡◌, pos, true, [], IfOk, OnOk, OnErr};
 ghost use Rattle.std.specs.Option.{option_copied};
 ghost use Rattle.sg_keeper.specs.Laws.{Rises};
 ghost use Rattle.sg_keeper.specs.Rows.{done_before, done_is, is_new, put};
 ghost use Rattle.sg_histories.specs.Standing.{text_at};
 ghost use Rattle.sg_acts.specs.Acts.{without};
-ghost use Rattle.sg_acts.specs.inside.Entries.{rows_of};
+ghost use Rattle.sg_acts.specs.inside.Entries.{Falls, rows_of};
 
 use sg_keeper::DoneRow;
 use sg_plan::{Items, NoMemory, Word};
 use std::alloc::Global;
+use std::cmp::Reverse;
 use std::collections::BTreeMap;
 use std::marker::Model;
 
 /// The rows of the acts that were done, rising by station and number. Contracts see them as a list.
 ///
 /// They stand in a tree, so a row is found, put in and taken back in the logarithm of how many there are, wherever it
-/// stands.
+/// stands. The tree runs from the last stamp to the first, since a search compares the keys of a node from the first
+/// on, and a new act mostly has the last stamp.
 #[derive(Debug, Drop)]
 pub struct DoneList {
-    /// Of each station and number, the act's text.
-    acts: BTreeMap<(i64, i64), Word>,
+    /// Of each station and number, the last ones first, the act's text.
+    acts: BTreeMap<Reverse<(i64, i64)>, Word>,
 }
 
 impl Model for DoneList {
     ghost use Rattle.std.specs.Prelude.{List};
     ghost use Rattle.sg_keeper.specs.declared.rows.DoneRow.{DoneRow};
-    ghost use Rattle.sg_acts.specs.inside.Entries.{rows_of};
+    ghost use Rattle.sg_acts.specs.inside.Entries.{Falls, rows_of};
 
     ghost Value = { List DoneRow };
 
     ghost view = { λ dones. rows_of dones.acts.entries };
+
+    ghost invariant = { λ dones. Falls dones.acts.entries };
 }
 
 /// The key of a row.
@@ -47,15 +51,19 @@ fn key_at(station: u32, number: u32) -> (i64, i64)
     (i64::from(station), i64::from(number))
 }
 
-/// The rows in a tree. The last row goes first, so each stands before those that are in the tree.
-fn tree_of(alloc: Global, mut rows: Items<DoneRow>) -> Result<BTreeMap<(i64, i64), Word>, NoMemory>
+/// The rows in a tree. The last row goes first, so each comes behind all entries that are in the tree.
+fn tree_of(
+    alloc: Global,
+    mut rows: Items<DoneRow>,
+) -> Result<BTreeMap<Reverse<(i64, i64)>, Word>, NoMemory>
     requires { Rises done_before rows }
-    ensures { IfOk result (λ acts. rows_of acts.entries ≡ rows) }
+    ensures rows { IfOk result (λ acts. rows_of acts.entries ≡ rows) }
+    ensures order { IfOk result (λ acts. Falls acts.entries) }
 {
     let mut acts = BTreeMap::new(alloc);
     'rows: while rows.len() > 0 {
         let row = rows.remove(rows.len() - 1);
-        acts.insert(key_of(&row), row.act)?;
+        acts.insert(Reverse(key_of(&row)), row.act)?;
     }
     Ok(acts)
 }
@@ -83,7 +91,7 @@ impl DoneList {
     pub fn text_at(&self, station: u32, number: u32) -> Option<&Word>
         ensures { option_copied result ≡ text_at station number self.now }
     {
-        let key = key_at(station, number);
+        let key = Reverse(key_at(station, number));
         self.acts.get(&key)
     }
 
@@ -94,7 +102,7 @@ impl DoneList {
         ensures err { OnErr result (self.new ≡ self.old) }
     {
         let text = done.act.copy(alloc)?;
-        self.acts.insert(key_of(done), text)?;
+        self.acts.insert(Reverse(key_of(done)), text)?;
         Ok(())
     }
 
@@ -102,6 +110,6 @@ impl DoneList {
     pub fn take_back(&mut self, done: &DoneRow)
         ensures { self.new ≡ without done.now self.old }
     {
-        self.acts.remove(&key_of(done));
+        self.acts.remove(&Reverse(key_of(done)));
     }
 }
