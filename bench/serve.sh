@@ -120,11 +120,11 @@ seconds() {
     awk -v spent=$(($(date +%s%N) - start)) 'BEGIN { print spent / 1e9 }'
 }
 
-# How many asks a second the server at the port answers, and whether it accepts them all. One client's ports are too few for
-# two rounds at one port of the server, as each stays with it for a minute.
+# How many asks a second the server at the port answers: 0 where it does not accept them all. One client's ports are too few
+# for two rounds at one port of the server, as each stays with it for a minute.
 asked() { # SECONDS that are enough
     wrk -t 1 -c $clients -d "$1s" -s "$lua" "http://127.0.0.1:$at" -- asks | tail -1 > got
-    awk -v asks=$asks '$1 == asks { print int($1 / ($3 - $2)) } $1 != asks { print "not all accepted" }' got
+    awk -v asks=$asks '$1 == asks { print int($1 / ($3 - $2)) } $1 != asks { print 0 }' got
 }
 
 echo "$asks asks a second, $clients clients at once"
@@ -144,7 +144,8 @@ for round in 1 2 3; do
     start $python server election.json $at
     theirs=$(asked 12)
     stop
-    echo "round $round: serve $ours, do $do_rate, Python's server $theirs: $((ours * 100 / do_rate))% and $((ours * 100 / theirs))%"
+    shares=$(awk -v ours="$ours" -v doing="$do_rate" -v theirs="$theirs" 'BEGIN { if (theirs > 0) printf "%.2f and %.1f times", ours / doing, ours / theirs }')
+    echo "round $round: serve $ours, do $do_rate, Python's server $theirs: ${shares:-some were not accepted}"
 done
 
 echo "Memory over connections"
