@@ -14,7 +14,7 @@ const SEAL_HEADS: [&[u8]; 3] = [b"seal 1 ", b"seal 2 ", b"seal 3 "];
 
 /// The text of a record.
 fn page_of(alloc: Global, posted: &Record) -> Result<Page, Fault> {
-    if !posted.is_formed() {
+    if !posted.is_formed(alloc)? {
         return Err(Fault::Office);
     }
     let mut page = Page::new(alloc, ROOM, Vec::new(alloc), 0)?;
