@@ -1,6 +1,7 @@
 -- The lemmas, lowest first.
-mod Keys
-mod Ends
-mod Entries
+mod Gathered
+mod Numbers
+mod Stations
+mod Moved
 pub mod TakenBack
 pub mod NewRows

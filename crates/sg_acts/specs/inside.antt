@@ -1,2 +1,2 @@
 -- What only private clauses and the models of types cite. Nobody need believe it.
-pub mod Entries
+pub mod Runs

@@ -1,71 +1,126 @@
-//! The rows of the acts that were done, in a tree by station and number, from the last to the first.
-ghost use Rattle.std.specs.Prelude.{◌≡◌, pos, true, [], IfOk, OnOk, OnErr};
+//! The rows of the acts that were done, in a run of each station and a tree of what came late.
+ghost use Rattle.std.specs.Prelude.{◌≡◌, pos, true, [], reverse, IfOk, OnOk, OnErr};
 ghost use Rattle.std.specs.Option.{option_copied};
 ghost use Rattle.sg_keeper.specs.Laws.{Rises};
 ghost use Rattle.sg_keeper.specs.Rows.{done_before, done_is, is_new, put};
 ghost use Rattle.sg_histories.specs.Standing.{text_at};
 ghost use Rattle.sg_acts.specs.Acts.{without};
-ghost use Rattle.sg_acts.specs.inside.Entries.{Falls, rows_of};
+ghost use Rattle.sg_acts.specs.inside.Runs.{Inserted, Stations, acts_of, ends_below, row_of, rows_of_late, rows_of_runs, text_in};
 
+use crate::run::Run;
 use sg_keeper::DoneRow;
 use sg_plan::{Items, NoMemory, Word};
 use std::alloc::Global;
-use std::cmp::Reverse;
 use std::collections::BTreeMap;
 use std::marker::Model;
 
 /// The rows of the acts that were done, rising by station and number. Contracts see them as a list.
 ///
-/// They stand in a tree, so a row is found, put in and taken back in the logarithm of how many there are, wherever it
-/// stands. The tree runs from the last stamp to the first, since a search compares the keys of a node from the first
-/// on, and a new act mostly has the last stamp.
+/// An act whose number is above all others of its station's run goes to the end of that run, in a time that doesn't grow
+/// with the acts (a run is a list that doubles its room when it is full). Any other is late, and goes into a tree. So a
+/// stamp that is above its station's run is not looked for in it, and any other is found by halves, in the logarithm of
+/// how many acts there are. The row that was put in last is taken back as fast; to take back one from the middle of a
+/// run moves those behind it.
 #[derive(Debug, Drop)]
 pub struct DoneList {
-    /// Of each station and number, the last ones first, the act's text.
-    acts: BTreeMap<Reverse<(i64, i64)>, Word>,
+    /// Of each station, the acts whose numbers came rising.
+    runs: BTreeMap<i64, Run>,
+    /// Of each station and number, the texts of the other acts.
+    late: BTreeMap<(i64, i64), Word>,
 }
 
 impl Model for DoneList {
-    ghost use Rattle.std.specs.Prelude.{List};
+    ghost use Rattle.std.specs.Prelude.{◌++◌, List};
     ghost use Rattle.sg_keeper.specs.declared.rows.DoneRow.{DoneRow};
-    ghost use Rattle.sg_acts.specs.inside.Entries.{Falls, rows_of};
+    ghost use Rattle.sg_acts.specs.inside.Runs.{IsWhole, gathered, rows_in};
 
     ghost Value = { List DoneRow };
 
-    ghost view = { λ dones. rows_of dones.acts.entries };
+    ghost view = { λ dones. gathered (rows_in dones.runs.entries dones.late.entries) };
 
-    ghost invariant = { λ dones. Falls dones.acts.entries };
+    ghost invariant = { λ dones. IsWhole dones.runs.entries dones.late.entries };
 }
 
-/// The key of a row.
-fn key_of(row: &DoneRow) -> (i64, i64)
-    ensures { result ≡ (row.now.station, row.now.number) }
+/// Whether the number is above all numbers of the station's run.
+fn is_last(runs: &BTreeMap<i64, Run>, station: i64, number: i64) -> bool
+    ensures { result ≡ ends_below station number runs.now.entries }
 {
-    (row.station, row.number)
-}
-
-/// The key of a stamp.
-fn key_at(station: u32, number: u32) -> (i64, i64)
-    ensures { result ≡ (pos station, pos number) }
-{
-    (i64::from(station), i64::from(number))
-}
-
-/// The rows in a tree. The last row goes first, so each comes behind all entries that are in the tree.
-fn tree_of(
-    alloc: Global,
-    mut rows: Items<DoneRow>,
-) -> Result<BTreeMap<Reverse<(i64, i64)>, Word>, NoMemory>
-    requires { Rises done_before rows }
-    ensures rows { IfOk result (λ acts. rows_of acts.entries ≡ rows) }
-    ensures order { IfOk result (λ acts. Falls acts.entries) }
-{
-    let mut acts = BTreeMap::new(alloc);
-    'rows: while rows.len() > 0 {
-        let row = rows.remove(rows.len() - 1);
-        acts.insert(Reverse(key_of(&row)), row.act)?;
+    match runs.get(&station) {
+        None => true,
+        Some(run) => run.is_below(number),
     }
-    Ok(acts)
+}
+
+/// Puts an act behind the run of its station.
+fn push(
+    alloc: Global,
+    runs: &mut BTreeMap<i64, Run>,
+    station: i64,
+    number: i64,
+    text: Word,
+) -> Result<(), NoMemory>
+    requires last { ends_below station number runs.old.entries ≡ true }
+    ensures order { Stations runs.new.entries }
+    ensures ok { OnOk result (Inserted (row_of station (number, text)) (rows_of_runs runs.old.entries) (rows_of_runs runs.new.entries)) }
+    ensures err { OnErr result (rows_of_runs runs.new.entries ≡ rows_of_runs runs.old.entries) }
+{
+    if let Some(run) = runs.get_mut(&station) {
+        return run.push(number, text);
+    }
+    let mut run = Run::new(alloc);
+    run.push(number, text)?;
+    runs.insert(station, run)?;
+    Ok(())
+}
+
+/// Puts an act in by its station and number.
+fn put_late(
+    late: &mut BTreeMap<(i64, i64), Word>,
+    station: i64,
+    number: i64,
+    text: Word,
+) -> Result<(), NoMemory>
+    requires new { is_new done_is (row_of station (number, text)) (rows_of_late late.old.entries) ≡ true }
+    ensures ok { OnOk result (Inserted (row_of station (number, text)) (rows_of_late late.old.entries) (rows_of_late late.new.entries)) }
+    ensures err { OnErr result (rows_of_late late.new.entries ≡ rows_of_late late.old.entries) }
+{
+    late.insert((station, number), text)?;
+    Ok(())
+}
+
+/// The text of the act that the station's run has under the number.
+fn text_in(runs: &BTreeMap<i64, Run>, station: i64, number: i64) -> Option<&Word>
+    ensures { option_copied result ≡ text_in number (acts_of station runs.now.entries) }
+{
+    runs.get(&station)?.text_of(number)
+}
+
+/// Takes an act out of the run of its station.
+fn take_out(runs: &mut BTreeMap<i64, Run>, done: &DoneRow)
+    ensures order { Stations runs.new.entries }
+    ensures rows { rows_of_runs runs.new.entries ≡ without done.now (rows_of_runs runs.old.entries) }
+{
+    if let Some(run) = runs.get_mut(&done.station) {
+        run.take_out(done.number);
+    }
+}
+
+/// Takes out the act of a station and number.
+fn take_late(late: &mut BTreeMap<(i64, i64), Word>, done: &DoneRow)
+    ensures { rows_of_late late.new.entries ≡ without done.now (rows_of_late late.old.entries) }
+{
+    late.remove(&(done.station, done.number));
+}
+
+/// The rows from the last to the first, which are moved.
+fn reversed(alloc: Global, mut rows: Items<DoneRow>) -> Result<Items<DoneRow>, NoMemory>
+    ensures { IfOk result (λ turned. turned ≡ reverse rows) }
+{
+    let mut turned = Items::with_room(alloc, rows.len())?;
+    'rows: while rows.len() > 0 {
+        turned.push(rows.remove(rows.len() - 1))?;
+    }
+    Ok(turned)
 }
 
 impl DoneList {
@@ -74,7 +129,8 @@ impl DoneList {
         ensures { result ≡ [] }
     {
         DoneList {
-            acts: BTreeMap::new(alloc),
+            runs: BTreeMap::new(alloc),
+            late: BTreeMap::new(alloc),
         }
     }
 
@@ -83,16 +139,38 @@ impl DoneList {
         requires { Rises done_before rows }
         ensures { IfOk result (λ dones. dones ≡ rows) }
     {
-        let acts = tree_of(alloc, rows)?;
-        Ok(DoneList { acts })
+        let mut rest = reversed(alloc, rows)?;
+        let mut dones = DoneList::new(alloc);
+        'rows: while rest.len() > 0 {
+            let row = rest.remove(rest.len() - 1);
+            dones.add(alloc, row.station, row.number, row.act)?;
+        }
+        Ok(dones)
     }
 
     /// The text of the act to which a station gave the number.
     pub fn text_at(&self, station: u32, number: u32) -> Option<&Word>
         ensures { option_copied result ≡ text_at station number self.now }
     {
-        let key = Reverse(key_at(station, number));
-        self.acts.get(&key)
+        let station = i64::from(station);
+        let number = i64::from(number);
+        if let Some(text) = text_in(&self.runs, station, number) {
+            return Some(text);
+        }
+        self.late.get(&(station, number))
+    }
+
+    /// Puts an act in at its place.
+    fn add(&mut self, alloc: Global, station: i64, number: i64, text: Word) -> Result<(), NoMemory>
+        requires { is_new done_is (row_of station (number, text)) self.old ≡ true }
+        ensures ok { OnOk result (self.new ≡ put done_before (row_of station (number, text)) self.old) }
+        ensures err { OnErr result (self.new ≡ self.old) }
+    {
+        if is_last(&self.runs, station, number) {
+            push(alloc, &mut self.runs, station, number, text)
+        } else {
+            put_late(&mut self.late, station, number, text)
+        }
     }
 
     /// Puts a copy of a row at its place. Only this and `of` take memory.
@@ -102,14 +180,14 @@ impl DoneList {
         ensures err { OnErr result (self.new ≡ self.old) }
     {
         let text = done.act.copy(alloc)?;
-        self.acts.insert(Reverse(key_of(done)), text)?;
-        Ok(())
+        self.add(alloc, done.station, done.number, text)
     }
 
     /// Takes back the row that has the key of this one.
     pub fn take_back(&mut self, done: &DoneRow)
         ensures { self.new ≡ without done.now self.old }
     {
-        self.acts.remove(&Reverse(key_of(done)));
+        take_out(&mut self.runs, done);
+        take_late(&mut self.late, done);
     }
 }

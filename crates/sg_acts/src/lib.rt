@@ -1,7 +1,8 @@
-//! The acts that an office has done, each found by its stamp in logarithmic time.
+//! The acts that an office has done: a new one goes in at once, and each is found by its stamp in logarithmic time.
 #![tactic(auto)]
 
 mod done_list;
+mod run;
 #[cfg(test)]
 mod tests;
 

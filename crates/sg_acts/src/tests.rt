@@ -103,8 +103,14 @@ fn rows_are_moved(rt: HostRuntime) -> Result<(), Fail> {
     let alloc = rt.alloc();
     let mut rows = Items::new(alloc);
     rows.push(row_of(alloc, 1, 3)?)?;
-    let list = DoneList::of(alloc, rows)?;
-    assert!(rt; has_text(&list, 1, 3));
-    assert!(rt; !has_text(&list, 3, 1));
+    rows.push(row_of(alloc, 1, 7)?)?;
+    rows.push(row_of(alloc, 3, 2)?)?;
+    let mut list = DoneList::of(alloc, rows)?;
+    put_new(alloc, &mut list, 1, 5)?;
+    put_new(alloc, &mut list, 2, 1)?;
+    for (station, number) in [(1, 3), (1, 5), (1, 7), (2, 1), (3, 2)] {
+        assert!(rt; has_text(&list, station, number), "{station} {number}");
+        assert!(rt; !has_text(&list, station + 1, number), "{station} {number}");
+    }
     Ok(())
 }

@@ -1,13 +1,18 @@
-use Rattle.std.proofs.Common.{ℤ, is_eq, ap, ◌∙◌}
-use Rattle.std.specs.Map.{remove_entry}
+use Rattle.std.proofs.Common.{ap, sym, subst, ◌∙◌}
 use Rattle.sg_acts.specs.Acts.{without}
-use Rattle.sg_acts.specs.inside.Entries.{falling_cmp, rows_of}
-use Rattle.sg_acts.proofs.Entries.{key_at, left}
+use Rattle.sg_acts.specs.inside.Runs.{AreApart, gathered, rows_in}
+use Rattle.sg_acts.proofs.Gathered.{apart_without, row_out}
+use Rattle.sg_acts.proofs.Stations.{taken}
 use Rattle.sg_acts.proofs.done_list.DoneList.take_back.Goals as goal
+
+pub invariant_of-self : goal.invariant_of-self
+invariant_of-self c = record {
+  stations = c.take_out.ensures.order;
+  apart = subst AreApart (sym (taken c.args.done.now c.self.inside.runs.entries c.take_out.new.runs.entries c.self.inside.late.entries c.take_late.new.late.entries c.self.invariant c.take_out.ensures.rows c.take_late.ensures))
+      (apart_without c.args.done.now (rows_in c.self.inside.runs.entries c.self.inside.late.entries) c.self.invariant.apart);
+}
 
 pub returns : goal.returns
 returns c =
-    ap rows_of c.remove.ensures.entries
-    ∙ (ap (λ (s : ℤ × ℤ). rows_of (remove_entry (λ key. is_eq (falling_cmp (key_at s) key)) c.self.inside.acts.entries)) c.key_of.ensures
-    ∙ (left c.args.done.now c.self.inside.acts.entries c.self.invariant
-    ∙ ap (without c.args.done.now) c.self.view_is))
+    ap gathered (taken c.args.done.now c.self.inside.runs.entries c.take_out.new.runs.entries c.self.inside.late.entries c.take_late.new.late.entries c.self.invariant c.take_out.ensures.rows c.take_late.ensures)
+    ∙ (row_out c.args.done.now (rows_in c.self.inside.runs.entries c.self.inside.late.entries) c.self.invariant.apart ∙ ap (without c.args.done.now) c.self.view_is)
