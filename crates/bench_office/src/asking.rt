@@ -1,4 +1,4 @@
-//! Asks, and how many of them are accepted.
+//! Asks, how many of them are accepted, and what time they take.
 ghost use Rattle.std.specs.Prelude.{IfOk};
 ghost use Rattle.sg_keeper.specs.SetupText.{IsSetup};
 
@@ -7,14 +7,28 @@ use crate::setup::{secret_of, setup_text};
 use crate::stop::Stop;
 use sg_keeper::Setup;
 use sg_office::Office;
+use sg_plan::Items;
 use sg_turns::{answer_to, version_of};
 use std::alloc::Global;
+use std::time::{CpuClock, Duration};
 
 /// How many ballots the office has.
 const BALLOTS: u32 = 20_000;
 
 /// The ballot before the first that is asked about in time: kept acts are on ballots up to this one.
 const LAST_KEPT: u32 = BALLOTS / 2;
+
+/// How many asks are timed together: so few that they are seldom disturbed.
+const BATCH: u32 = 100;
+
+/// What became of asks.
+#[derive(Drop)]
+pub(crate) struct Asked {
+    /// How many asks were accepted, in time and before.
+    pub(crate) accepted: u32,
+    /// Of each batch in time, the processor time of its asks.
+    pub(crate) times: Items<Duration>,
+}
 
 /// The setup of this text.
 fn setup_of(alloc: Global, text: &str) -> Result<Setup, Stop>
@@ -88,9 +102,30 @@ fn void_all(alloc: Global, office: &mut Office, station: u32, last: u32) -> Resu
     Ok(accepted)
 }
 
-/// Asks so many scans behind so many kept acts, by the first station or by the second. How many of all these asks are
-/// accepted. The scans are of the same ballots however many acts are kept, so that the asks are the same.
-pub(crate) fn answers(alloc: Global, kept: u32, asks: u32, station: u32) -> Result<u32, Stop> {
+/// A station asks to scan the ballots behind the kept ones, so many batches of them. The asks are timed.
+fn time_scans(
+    rt: &HostRuntime,
+    office: &mut Office,
+    station: u32,
+    batches: u32,
+) -> Result<Asked, Stop> {
+    let alloc = rt.alloc();
+    let mut times = Items::new(alloc);
+    let mut accepted: u32 = 0;
+    for batch in 0..batches {
+        let first = LAST_KEPT.saturating_add(batch.saturating_mul(BATCH));
+        let start = rt.process_cpu_time()?;
+        let scans = scan_all(alloc, office, station, first, first.saturating_add(BATCH))?;
+        times.push(rt.process_cpu_time()?.saturating_sub(start))?;
+        accepted = accepted.saturating_add(scans);
+    }
+    Ok(Asked { accepted, times })
+}
+
+/// Asks so many scans behind so many kept acts, by the first station or by the second. The scans are of the same ballots
+/// however many acts are kept, so that the asks are the same. Batches that are not full are left out.
+pub(crate) fn answers(rt: &HostRuntime, kept: u32, asks: u32, station: u32) -> Result<Asked, Stop> {
+    let alloc = rt.alloc();
     let mut office = office_of(alloc)?;
     let last = LAST_KEPT.min(kept / 2);
     let other = match station {
@@ -99,12 +134,9 @@ pub(crate) fn answers(alloc: Global, kept: u32, asks: u32, station: u32) -> Resu
     };
     let scans = scan_all(alloc, &mut office, station, 0, last)?;
     let voids = void_all(alloc, &mut office, other, last)?;
-    let asked = scan_all(
-        alloc,
-        &mut office,
-        station,
-        LAST_KEPT,
-        LAST_KEPT.saturating_add(asks),
-    )?;
-    Ok(scans.saturating_add(voids).saturating_add(asked))
+    let Asked { accepted, times } = time_scans(rt, &mut office, station, asks / BATCH)?;
+    Ok(Asked {
+        accepted: scans.saturating_add(voids).saturating_add(accepted),
+        times,
+    })
 }

@@ -2,7 +2,8 @@
 //!
 //! With `answers KEPT ASKS STATION` scans of different ballots are asked by a station, so many of them, behind so many
 //! kept acts: half of these are scans by that station, and half voids of them by another one. It says how many of all
-//! these asks were accepted. With `open BALLOTS CLAIMS` the rows of an office are made, whose ballots are all cast, and of which
+//! these asks were accepted, and then, a line each, how many nanoseconds of processor time each hundred of the scans took.
+//! With `open BALLOTS CLAIMS` the rows of an office are made, whose ballots are all cast, and of which
 //! so many are claimed, and the office is opened from them; with `rows BALLOTS CLAIMS` they are made alone.
 #![tactic(auto)]
 
@@ -12,10 +13,11 @@ mod rows;
 mod setup;
 mod stop;
 
-use crate::asking::answers;
+use crate::asking::{Asked, answers};
 use crate::rows::rows_of;
 use crate::stop::Stop;
 use sg_office::Office;
+use sg_plan::Items;
 use std::alloc::Global;
 use std::{env, io};
 
@@ -37,20 +39,32 @@ fn open(alloc: Global, ballots: u32, claims: u32) -> Result<(), Stop> {
     Ok(())
 }
 
-/// Does the work, and gives how many asks were accepted.
-fn run(alloc: Global, work: Work, numbers: [u32; 3]) -> Result<u32, Stop> {
+/// Does the work, and gives what became of the asks.
+fn run(rt: &HostRuntime, work: Work, numbers: [u32; 3]) -> Result<Asked, Stop> {
+    let alloc = rt.alloc();
     let [first, second, station] = numbers;
     match work {
-        Work::Answers => answers(alloc, first, second, station),
+        Work::Answers => return answers(rt, first, second, station),
         Work::Rows => {
             let _rows = rows_of(alloc, first, second)?;
-            Ok(0)
         }
-        Work::Open => {
-            open(alloc, first, second)?;
-            Ok(0)
-        }
+        Work::Open => open(alloc, first, second)?,
     }
+    Ok(Asked {
+        accepted: 0,
+        times: Items::new(alloc),
+    })
+}
+
+/// Says how many asks were accepted, and what time each batch of them took.
+fn tell(rt: &HostRuntime, asked: &Asked) -> io::Result<()> {
+    let accepted = asked.accepted;
+    println!(rt; "{accepted} accepted")?;
+    for time in asked.times.as_slice() {
+        let nanoseconds = time.as_nanos();
+        println!(rt; "{nanoseconds}")?;
+    }
+    Ok(())
 }
 
 /// The number that a word spells, or 0.
@@ -83,8 +97,8 @@ fn main(rt: HostRuntime) -> io::Result<()> {
             "usage: bench_office answers KEPT ASKS STATION | open|rows BALLOTS CLAIMS"
         );
     };
-    match run(rt.alloc(), work, [first, second, station]) {
-        Ok(accepted) => println!(rt; "{accepted} accepted"),
+    match run(&rt, work, [first, second, station]) {
+        Ok(asked) => tell(&rt, &asked),
         Err(stop) => println!(rt; "stopped: {stop:?}"),
     }
 }

@@ -2,7 +2,7 @@
 use sg_office::OpenFault;
 use sg_plan::NoMemory;
 use std::alloc::AllocError;
-use std::fmt;
+use std::{fmt, io};
 
 /// What stops the work.
 #[derive(Clone, Copy, Debug)]
@@ -13,11 +13,19 @@ pub(crate) enum Stop {
     Rows,
     /// There is no memory.
     NoMemory,
+    /// The clock can't be read.
+    Clock,
 }
 
 impl From<NoMemory> for Stop {
     fn from(_: NoMemory) -> Stop {
         Stop::NoMemory
+    }
+}
+
+impl From<io::Error> for Stop {
+    fn from(_: io::Error) -> Stop {
+        Stop::Clock
     }
 }
 

@@ -1,5 +1,5 @@
 -- Acts whose numbers rise: which are below a number, and the place at which a search by halves ends.
-use Rattle.std.proofs.Common.{◌≡◌, ℕ, zero, suc, ◌+◌, ◌-◌, ◌<◌, ◌≤◌, length, get_or, Bool, true, false, ◌&&◌, cond, ℤ, int_lt, List, [], ◌∷◌, ◌++◌, Option, Some, None, Result, Ok, Err, OnErr, OnOk, Less, Equal, Greater, inl, inr, refl, ap, sym, subst, ◌∙◌, arith}
+use Rattle.std.proofs.Common.{◌≡◌, ℕ, zero, suc, ◌+◌, ◌<◌, ◌≤◌, length, get_or, Bool, true, false, ◌&&◌, cond, ℤ, int_lt, List, [], ◌∷◌, ◌++◌, Option, Some, None, Result, Ok, Err, OnErr, OnOk, Less, Equal, Greater, inl, inr, refl, ap, sym, subst, ◌∙◌, arith}
 use Rattle.std.proofs.lemmas.Int.{ints}
 use Rattle.std.proofs.lemmas.Bool.{cases_lt}
 use Rattle.std.proofs.lemmas.Cmp.{int_cmp_total}
@@ -52,41 +52,48 @@ some_same y x e = cc
 
 -- BELOW A NUMBER
 
+-- an act in front of others is below a number where the others are
+below_first : (x : Act) (acts : List Act) (y : Act) (rest : List Act) → acts ≡ y ∷ rest → (number : ℤ) (b : Bool) → Rise (x ∷ acts) → are_below number acts ≡ b → are_below number (x ∷ acts) ≡ b
+below_first x acts y rest is number b rise below = by_test b below
+  where
+    and_false : (c : Bool) → (c && false) ≡ false
+    and_false true = refl
+    and_false false = refl
+
+    shape : Rise (x ∷ y ∷ rest)
+    shape = subst (λ l. Rise (x ∷ l)) is rise
+
+    by_test : (b : Bool) → are_below number acts ≡ b → (int_lt x.0 number && are_below number acts) ≡ b
+    by_test true all =
+        let lower : int_lt x.0 number ≡ true =
+        falls_through x.0 y.0 number (sorted_head int_cmp x.0 (keys_of (y ∷ rest)) shape).0 (and_first (int_lt y.0 number) (are_below number rest) (ap (are_below number) (sym is) ∙ all)) in
+        ap (λ c. c && are_below number acts) lower ∙ all
+    by_test false none = ap (λ c. int_lt x.0 number && c) none ∙ and_false (int_lt x.0 number)
+
 -- the last act has the highest number
-below_last : (acts : List Act) (n : ℕ) (number : ℤ) (last : Act) → Rise acts → slice_get acts n ≡ Some last → length acts ≡ n + 1 → are_below number acts ≡ int_lt last.0 number
-below_last [] n number last rise e many = cc
-below_last (x ∷ []) zero number last rise e many = and_true (int_lt x.0 number) ∙ ap (λ (a : Act). int_lt a.0 number) (some_same x last e)
+pub below_last : (front acts : List Act) (n : ℕ) (number : ℤ) (last : Act) → Rise (front ++ acts) → slice_get acts n ≡ Some last → length acts ≡ n + 1 → are_below number (front ++ acts) ≡ int_lt last.0 number
+below_last [] [] n number last rise e many = cc
+below_last [] (x ∷ []) zero number last rise e many = and_true (int_lt x.0 number) ∙ ap (λ (a : Act). int_lt a.0 number) (some_same x last e)
   where
     and_true : (b : Bool) → (b && true) ≡ b
     and_true true = refl
     and_true false = refl
-below_last (x ∷ []) (suc n) number last rise e many = cc
-below_last (x ∷ y ∷ acts) zero number last rise e many = absurd (omega (arith, many))
-below_last (x ∷ y ∷ acts) (suc n) number last rise e many =
-    by_test (are_below number (y ∷ acts)) refl (below_last (y ∷ acts) n number last (sorted_tail int_cmp x.0 (keys_of (y ∷ acts)) rise) e (omega (arith, many)))
-  where
-    and_false : (b : Bool) → (b && false) ≡ false
-    and_false true = refl
-    and_false false = refl
+below_last [] (x ∷ []) (suc n) number last rise e many = cc
+below_last [] (x ∷ y ∷ acts) zero number last rise e many = absurd (omega (arith, many))
+below_last [] (x ∷ y ∷ acts) (suc n) number last rise e many =
+    below_first x (y ∷ acts) y acts refl number (int_lt last.0 number) rise (below_last [] (y ∷ acts) n number last (sorted_tail int_cmp x.0 (keys_of (y ∷ acts)) rise) e (omega (arith, many)))
+below_last (x ∷ []) [] n number last rise e many = cc
+below_last (x ∷ []) (y ∷ acts) n number last rise e many =
+    below_first x (y ∷ acts) y acts refl number (int_lt last.0 number) rise (below_last [] (y ∷ acts) n number last (sorted_tail int_cmp x.0 (keys_of (y ∷ acts)) rise) e many)
+below_last (x ∷ y ∷ front) acts n number last rise e many =
+    below_first x (y ∷ front ++ acts) y (front ++ acts) refl number (int_lt last.0 number) rise (below_last (y ∷ front) acts n number last (sorted_tail int_cmp x.0 (keys_of (y ∷ front ++ acts)) rise) e many)
 
-    by_test : (b : Bool) → are_below number (y ∷ acts) ≡ b → are_below number (y ∷ acts) ≡ int_lt last.0 number → (int_lt x.0 number && are_below number (y ∷ acts)) ≡ int_lt last.0 number
-    by_test true all rest =
-        let lower : int_lt x.0 number ≡ true = falls_through x.0 y.0 number (sorted_head int_cmp x.0 (keys_of (y ∷ acts)) rise).0 (and_first (int_lt y.0 number) (are_below number acts) all) in
-        ap (λ b. b && are_below number (y ∷ acts)) lower ∙ rest
-    by_test false none rest = ap (λ b. int_lt x.0 number && b) none ∙ (and_false (int_lt x.0 number) ∙ (sym none ∙ rest))
-
--- the same of the act at the end
-pub below_at_end : (acts : List Act) (number : ℤ) (last : Act) → Rise acts → slice_get acts (length acts - 1) ≡ Some last → are_below number acts ≡ int_lt last.0 number
-below_at_end [] number last rise e = cc
-below_at_end (x ∷ xs) number last rise e =
-    below_last (x ∷ xs) (length xs) number last rise (subst (λ n. slice_get (x ∷ xs) n ≡ Some last) {x = length (x ∷ xs) - 1} (omega arith) e) (omega arith)
-
--- a number above all has no place
-pub no_place_above : (acts : List Act) (number : ℤ) → are_below number acts ≡ true → place_of number acts ≡ None
-no_place_above [] number below = refl
-no_place_above (x ∷ xs) number below =
-    ap (λ b. cond b (Some 0) (option_map (λ at. at + 1) (place_of number xs))) (not_equal x.0 number (and_first (int_lt x.0 number) (are_below number xs) below))
-    ∙ ap (option_map (λ at. at + 1)) (no_place_above xs number (and_last (int_lt x.0 number) (are_below number xs) below))
+-- a number above all has no text
+pub no_text_above : (acts : List Act) (number : ℤ) → are_below number acts ≡ true → text_of number acts ≡ None
+no_text_above [] number below = refl
+no_text_above (x ∷ xs) number below =
+    ap (λ b. cond b (Some x.1) (text_of number xs)) (not_equal x.0 number (and_first (int_lt x.0 number) (are_below number xs) below))
+    ∙ no_text_above xs number (and_last (int_lt x.0 number) (are_below number xs) below)
 
 -- no act
 pub none_rise : Rise []
@@ -146,7 +153,7 @@ steps_up (x ∷ y ∷ acts) rise (suc k) d high = steps_up (y ∷ acts) (sorted_
 next_up : (acts : List Act) → Rise acts → (k : ℕ) (d : Act) → 0 ≤ k → k + 1 < length acts → is_lt (int_cmp (get_or acts (k + 1) d).0 (get_or acts k d).0) ≡ false
 next_up acts rise k d low high = subst (λ n. is_lt (int_cmp (get_or acts n d).0 (get_or acts k d).0) ≡ false) {x = suc k} (omega arith) (steps_up acts rise k d (omega (arith, high)))
 
-item_at : (xs : List Act) (at : ℕ) (d : Act) → at < length xs → slice_get xs at ≡ Some (get_or xs at d)
+pub item_at : {A : Type 0} (xs : List A) (at : ℕ) (d : A) → at < length xs → slice_get xs at ≡ Some (get_or xs at d)
 item_at [] at d in_range = absurd (omega (arith, in_range))
 item_at (x ∷ xs) zero d in_range = refl
 item_at (x ∷ xs) (suc at) d in_range = item_at xs at d (omega (arith, in_range))

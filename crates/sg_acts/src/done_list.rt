@@ -16,11 +16,11 @@ use std::marker::Model;
 
 /// The rows of the acts that were done, rising by station and number. Contracts see them as a list.
 ///
-/// An act whose number is above all others of its station's run goes to the end of that run, in a time that doesn't grow
-/// with the acts (a run is a list that doubles its room when it is full). Any other is late, and goes into a tree. So a
-/// stamp that is above its station's run is not looked for in it, and any other is found by halves, in the logarithm of
-/// how many acts there are. The row that was put in last is taken back as fast; to take back one from the middle of a
-/// run moves those behind it.
+/// An act whose number is above all others of its station's run goes to the end of that run, and no other act moves, so
+/// it takes no longer behind many acts than behind few. Any other is late, and goes into a tree. So a stamp that is above
+/// its station's run is not looked for in it, and any other is found in the logarithm of how many acts there are. The row
+/// that was put in last is taken back as fast; to take back one from the middle of a run moves those behind it in its
+/// block.
 #[derive(Debug, Drop)]
 pub struct DoneList {
     /// Of each station, the acts whose numbers came rising.
@@ -65,10 +65,10 @@ fn push(
     ensures err { OnErr result (rows_of_runs runs.new.entries ≡ rows_of_runs runs.old.entries) }
 {
     if let Some(run) = runs.get_mut(&station) {
-        return run.push(number, text);
+        return run.push(alloc, number, text);
     }
     let mut run = Run::new(alloc);
-    run.push(number, text)?;
+    run.push(alloc, number, text)?;
     runs.insert(station, run)?;
     Ok(())
 }

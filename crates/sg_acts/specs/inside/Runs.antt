@@ -5,7 +5,7 @@ use Rattle.std.specs.List.Sorted.{IsStrictlySortedBy}
 use Rattle.std.specs.Map.{keys_of, lookup, remove_entry}
 use Rattle.std.specs.Option.{option_map, option_map_or}
 use Rattle.std.specs.Ordering.{int_cmp, int_eq}
-use Rattle.std.specs.Prelude.{◌≡◌, ℕ, ℤ, ◌+◌, int_lt, true, if◌then◌else◌, Bool, List, [], ◌∷◌, ◌++◌, map, None, Option, Some}
+use Rattle.std.specs.Prelude.{◌≡◌, ℕ, suc, ℤ, ◌+◌, ◌<◌, length, take, drop, int_lt, true, if◌then◌else◌, Bool, List, [], ◌∷◌, ◌++◌, map, None, Option, Some}
 use Rattle.sg_keeper.specs.declared.rows.DoneRow.{DoneRow}
 use Rattle.sg_keeper.specs.Rows.{done_before, done_is, is_new, put}
 
@@ -18,6 +18,11 @@ Act = ℤ × List ℕ
 -- the numbers rise
 abbrev pub Rise : List Act → Type 0
 Rise acts = IsStrictlySortedBy int_cmp (keys_of acts)
+
+-- the acts of all blocks
+abbrev pub flat : List (List Act) → List Act
+flat [] = []
+flat (block ∷ blocks) = block ++ flat blocks
 
 -- the numbers of all acts are below this one
 abbrev pub are_below : ℤ → List Act → Bool
@@ -35,6 +40,12 @@ text_of number acts = lookup (λ other. int_eq other number) acts
 -- the acts without the first that has the number
 abbrev pub without_number : ℤ → List Act → List Act
 without_number number acts = remove_entry (λ other. int_eq other number) acts
+
+-- no other block than this one has the number
+pub record IsOnlyIn (number : ℤ) (blocks : List (List Act)) (at : ℕ) : Type 0 where
+  pub in_range : at < length blocks
+  pub not_before : text_of number (flat (take at blocks)) ≡ None
+  pub not_behind : text_of number (flat (drop (suc at) blocks)) ≡ None
 
 -- ALL STATIONS
 

@@ -1,25 +1,34 @@
-use Rattle.std.proofs.Common.{w64, subst, sym, ap, ◌∙◌}
+use Rattle.std.proofs.Common.{◌≡◌, None, Some, w64, ap, sym, subst, ◌∙◌}
 use Rattle.std.proofs.lemmas.Int.{to_z-of_z}
-use Rattle.sg_acts.specs.inside.Runs.{Rise, place_of, without_number}
-use Rattle.sg_acts.proofs.Numbers.{out_at_place, out_nowhere, place_within, rise_without}
+use Rattle.std.specs.List.{slice_get, slice_set}
+use Rattle.sg_acts.specs.inside.Runs.{IsOnlyIn, Rise, flat, text_of, without_number}
+use Rattle.sg_acts.proofs.Blocks.{out_none, out_only, rise_at}
+use Rattle.sg_acts.proofs.Numbers.{item_at, rise_without}
 use Rattle.sg_acts.proofs.run.Run.take_out.Goals as goal
 
-pub remove-requires : goal.remove-requires
-remove-requires c =
-    place_within c.self.inside.acts c.args.number c.in-Some.at
-    (ap (place_of c.args.number) c.self.view_is ∙ sym (rw (to_z-of_z w64 c.args.number c.ranges.number) at c.in-Some.ensures))
+pub take_out-requires : goal.take_out-requires
+take_out-requires c =
+    let only : IsOnlyIn c.args.number c.self.inside.blocks.items c.in-Some.at = rw (to_z-of_z w64 c.args.number c.ranges.number, c.as_slice.ensures.value) at c.in-Some.ensures.some in
+    let block : slice_get c.self.inside.blocks.items c.in-Some.at ≡ Some c.index_mut.result.now = item_at c.self.inside.blocks.items c.in-Some.at c.index_mut.result.now only.in_range ∙ ap Some (sym c.index_mut.ensures.value) in
+    rise_at c.self.inside.blocks.items c.in-Some.at c.index_mut.result.now c.self.invariant block
 
 pub invariant_of-self : goal.invariant_of-self
 invariant_of-self c =
-    subst Rise (out_at_place c.self.inside.acts c.args.number c.in-Some.at (ap (place_of c.args.number) c.self.view_is ∙ sym (rw (to_z-of_z w64 c.args.number c.ranges.number) at c.in-Some.ensures)) ∙ sym c.remove.ensures.rest)
-    (rise_without c.self.inside.acts c.args.number c.self.invariant)
+    let only : IsOnlyIn c.args.number c.self.inside.blocks.items c.in-Some.at = rw (to_z-of_z w64 c.args.number c.ranges.number, c.as_slice.ensures.value) at c.in-Some.ensures.some in
+    let block : slice_get c.self.inside.blocks.items c.in-Some.at ≡ Some c.index_mut.result.now = item_at c.self.inside.blocks.items c.in-Some.at c.index_mut.result.now only.in_range ∙ ap Some (sym c.index_mut.ensures.value) in
+    subst Rise
+    (sym (ap (λ acts. flat (slice_set c.self.inside.blocks.items c.in-Some.at acts)) (rw (to_z-of_z w64 c.args.number c.ranges.number) at c.take_out.ensures)
+    ∙ out_only c.args.number c.self.inside.blocks.items c.in-Some.at c.index_mut.result.now only block))
+    (rise_without (flat c.self.inside.blocks.items) c.args.number c.self.invariant)
 
 pub returns-in-Some : goal.returns-in-Some
 returns-in-Some c =
-    c.remove.ensures.rest
-    ∙ (sym (out_at_place c.self.inside.acts c.args.number c.in-Some.at (ap (place_of c.args.number) c.self.view_is ∙ sym (rw (to_z-of_z w64 c.args.number c.ranges.number) at c.in-Some.ensures)))
-    ∙ ap (without_number c.args.number) c.self.view_is)
+    let only : IsOnlyIn c.args.number c.self.inside.blocks.items c.in-Some.at = rw (to_z-of_z w64 c.args.number c.ranges.number, c.as_slice.ensures.value) at c.in-Some.ensures.some in
+    let block : slice_get c.self.inside.blocks.items c.in-Some.at ≡ Some c.index_mut.result.now = item_at c.self.inside.blocks.items c.in-Some.at c.index_mut.result.now only.in_range ∙ ap Some (sym c.index_mut.ensures.value) in
+    ap (λ acts. flat (slice_set c.self.inside.blocks.items c.in-Some.at acts)) (rw (to_z-of_z w64 c.args.number c.ranges.number) at c.take_out.ensures)
+    ∙ (out_only c.args.number c.self.inside.blocks.items c.in-Some.at c.index_mut.result.now only block ∙ ap (without_number c.args.number) c.self.view_is)
 
 pub returns-in_default : goal.returns-in_default
 returns-in_default c =
-    sym (out_nowhere c.args.self.now c.args.number ((rw (to_z-of_z w64 c.args.number c.ranges.number) at (sym c.place_of.ensures)) ∙ c.in_default.is))
+    let none : text_of c.args.number (flat c.self.inside.blocks.items) ≡ None = rw (to_z-of_z w64 c.args.number c.ranges.number, c.as_slice.ensures.value) at c.in_default.ensures.none in
+    sym c.self.view_is ∙ (sym (out_none c.args.number (flat c.self.inside.blocks.items) none) ∙ ap (without_number c.args.number) c.self.view_is)
