@@ -9,10 +9,11 @@
 # Prints how many scans are accepted a second behind 200 kept acts and behind 20,000 of them, half of these scans and half
 # voids by another station: once where the scans come from the station whose rows stand last, and once where they come
 # from the first, and each new row has half of the kept rows behind it. The program times each hundred scans by itself,
-# and of each hundred the least time of many rounds counts: so short a time is seldom disturbed. Then for two offices, the
-# second twice as large: the time of the opening alone from the rows of all ballots, which are cast, and of claims, with
-# the setup read and the tables made; that of a process that makes the rows alone is taken off. All times are processor
-# time, and the works take turns.
+# and of each hundred the least time of many rounds counts: so short a time is seldom disturbed. Before any ask it takes
+# the memory that the reading of the setup let go, so that what an act keeps is new memory, behind few acts as behind many.
+# Then for two offices, the second twice as large: the time of the opening alone from the rows of all ballots, which are
+# cast, and of claims, with the setup read and the tables made; that of a process that makes the rows alone is taken off.
+# All times are processor time, and the works take turns.
 set -u
 cd "$(dirname "$0")/.." || exit 1
 . bench/program.sh

@@ -7,7 +7,7 @@ use crate::setup::{secret_of, setup_text};
 use crate::stop::Stop;
 use sg_keeper::Setup;
 use sg_office::Office;
-use sg_plan::Items;
+use sg_plan::{Items, Word};
 use sg_turns::{answer_to, version_of};
 use std::alloc::Global;
 use std::time::{CpuClock, Duration};
@@ -20,6 +20,9 @@ const LAST_KEPT: u32 = BALLOTS / 2;
 
 /// How many asks are timed together: so few that they are seldom disturbed.
 const BATCH: u32 = 100;
+
+/// How many small pieces of memory are taken before any ask.
+const TAKEN: u32 = 100_000;
 
 /// What became of asks.
 #[derive(Drop)]
@@ -102,6 +105,18 @@ fn void_all(alloc: Global, office: &mut Office, station: u32, last: u32) -> Resu
     Ok(accepted)
 }
 
+/// Takes memory in pieces as small as an act's text. What the reading of a setup lets go is taken by them, so that what an
+/// act keeps is memory that was never used before, behind few kept acts as behind many.
+fn take_memory(alloc: Global) -> Result<Items<Word>, Stop> {
+    let mut taken = Items::new(alloc);
+    for _ in 0..TAKEN {
+        let mut piece = Word::new(alloc);
+        piece.extend(b"scan 10001 0:1")?;
+        taken.push(piece)?;
+    }
+    Ok(taken)
+}
+
 /// A station asks to scan the ballots behind the kept ones, so many batches of them. The asks are timed.
 fn time_scans(
     rt: &HostRuntime,
@@ -127,6 +142,7 @@ fn time_scans(
 pub(crate) fn answers(rt: &HostRuntime, kept: u32, asks: u32, station: u32) -> Result<Asked, Stop> {
     let alloc = rt.alloc();
     let mut office = office_of(alloc)?;
+    let _taken = take_memory(alloc)?;
     let last = LAST_KEPT.min(kept / 2);
     let other = match station {
         0 => 1,
