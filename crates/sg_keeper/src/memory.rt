@@ -3,24 +3,29 @@ ghost use Rattle.std.specs.Prelude.{◌≡◌, ◌↔◌, ◌≤◌, None, Err, 
 ghost use Rattle.sg_outside.specs.Faults.{Rose};
 ghost use Rattle.sg_outside.specs.Memory.{is_listed};
 ghost use Rattle.sg_keeper.specs.Keeping.{Keeping, after_call, call_fails};
-ghost use Rattle.sg_keeper.specs.Rows.{HasFaultCause, IsAscii, IsAsciiChange, IsNewChange, with_change, with_row, with_setup};
+ghost use Rattle.sg_keeper.specs.Rows.{HasFaultCause, IsAscii, IsAsciiChange, IsNewChange, with_change, with_setup};
 ghost use Rattle.sg_keeper.specs.inside.Calls.{call_of};
 
-use crate::copies::{copy_ballot, copy_done, copy_rows, copy_stage, copy_word};
+use crate::copies::copy_word;
 use crate::keeper::{KeepFault, Keeper};
-use crate::places::{ballot_place, claim_place, done_place, stage_place, void_place};
-use crate::rows::{Change, ChangeRow, Rows};
+use crate::later::{Later, all_rows};
+use crate::rows::{Change, Rows};
 use sg_plan::{Items, NoMemory, Word};
 use std::alloc::Global;
 use std::marker::Model;
 
 /// A keeper in memory.
 ///
-/// A change takes time linear in the rows kept, as each row is put in its place by its key.
+/// A change takes the same time however many rows are kept: its rows go behind those that came before. They are put in
+/// their places by their keys when the rows are loaded. This takes the time of a sort, where no row that the keeper was
+/// given has a lower key than the one before it, and else time linear in the rows for each of them.
 #[derive(Debug, Drop)]
 pub struct MemoryKeeper {
     alloc: Global,
-    rows: Rows,
+    /// The rows that it was given, with the setup.
+    first: Rows,
+    /// The rows that were added since.
+    later: Later,
     fails: Items<u32>,
     calls: u64,
     faults: u64,
@@ -28,10 +33,11 @@ pub struct MemoryKeeper {
 
 impl Model for MemoryKeeper {
     ghost use Rattle.sg_keeper.specs.Keeping.{Keeping};
+    ghost use Rattle.sg_keeper.specs.inside.Later.{with_later};
 
     ghost Value = { Keeping };
 
-    ghost view = { λ keeper. record { rows = keeper.rows; fails = keeper.fails; calls = keeper.calls; faults = keeper.faults } };
+    ghost view = { λ keeper. record { rows = with_later keeper.first keeper.later; fails = keeper.fails; calls = keeper.calls; faults = keeper.faults } };
 }
 
 impl MemoryKeeper {
@@ -41,7 +47,8 @@ impl MemoryKeeper {
     {
         MemoryKeeper {
             alloc,
-            rows,
+            first: rows,
+            later: Later::new(alloc),
             fails,
             calls: 0,
             faults: 0,
@@ -75,51 +82,6 @@ fn has_call(fails: &Items<u32>, call: u64) -> bool
         .any(|listed| u64::from(*listed) == call)
 }
 
-/// Adds a row at its place.
-fn add_row(alloc: Global, rows: &mut Rows, row: &ChangeRow) -> Result<(), NoMemory>
-    ensures ok { OnOk result (rows.new ≡ with_row rows.old row.now) }
-    ensures err { OnErr result (rows.new ≡ rows.old) }
-{
-    match row {
-        ChangeRow::Ballot(row) => {
-            let row = copy_ballot(alloc, row)?;
-            let place = ballot_place(&rows.ballots, &row);
-            rows.ballots.insert(place, row)
-        }
-        ChangeRow::Stage(row) => {
-            let row = copy_stage(alloc, row)?;
-            let place = stage_place(&rows.stages, &row);
-            rows.stages.insert(place, row)
-        }
-        ChangeRow::Claim(row) => {
-            let place = claim_place(&rows.claims, row);
-            rows.claims.insert(place, *row)
-        }
-        ChangeRow::Void(row) => {
-            let place = void_place(&rows.voids, row);
-            rows.voids.insert(place, *row)
-        }
-    }
-}
-
-/// Adds both rows of a change, each at its place.
-#[tactic(auto, using(crate::proofs::TakenBack::taking_back))]
-fn add_change(alloc: Global, rows: &mut Rows, change: &Change) -> Result<(), NoMemory>
-    ensures ok { OnOk result (rows.new ≡ with_change rows.old change.now) }
-    ensures err { OnErr result (rows.new ≡ rows.old) }
-{
-    let done = copy_done(alloc, &change.done)?;
-    let place = done_place(&rows.dones, &done);
-    rows.dones.insert(place, done)?;
-    match add_row(alloc, rows, &change.row) {
-        Ok(()) => Ok(()),
-        Err(NoMemory) => {
-            rows.dones.remove(place);
-            Err(NoMemory)
-        }
-    }
-}
-
 impl Keeper for MemoryKeeper {
     ghost tells = { λ _. Unit {0} };
 
@@ -139,7 +101,7 @@ impl Keeper for MemoryKeeper {
         ensures after { self.new ≡ after_call self.old self.old.rows }
     {
         self.count_call()?;
-        let rows = copy_rows(alloc, &self.rows)?;
+        let rows = all_rows(alloc, &self.first, &self.later)?;
         Ok(rows)
     }
 
@@ -159,7 +121,7 @@ impl Keeper for MemoryKeeper {
     {
         self.count_call()?;
         let text = copy_word(self.alloc, setup)?;
-        self.rows.setup = Some(text);
+        self.first.setup = Some(text);
         Ok(())
     }
 
@@ -178,7 +140,7 @@ impl Keeper for MemoryKeeper {
             (λ _. self.new ≡ after_call self.old self.old.rows) }
     {
         self.count_call()?;
-        add_change(self.alloc, &mut self.rows, change)?;
+        self.later.add(self.alloc, change)?;
         Ok(())
     }
 }

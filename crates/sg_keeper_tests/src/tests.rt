@@ -137,3 +137,31 @@ fn rows_go_to_their_places(rt: HostRuntime) -> Result<(), Fail> {
     assert!(rt; has_others(&rows));
     Ok(())
 }
+
+/// A keeper of two voided ballots.
+fn keeper_of(alloc: Global, ballots: [i64; 2]) -> Result<MemoryKeeper, NoMemory> {
+    let mut rows = none(alloc);
+    for ballot in ballots {
+        rows.voids.push(VoidRow { ballot })?;
+    }
+    Ok(MemoryKeeper::new(alloc, rows, Items::new(alloc)))
+}
+
+/// The voided ballots of the rows are these.
+fn has_voids(rows: &Rows, ballots: [i64; 3]) -> bool {
+    let mut voids = rows.voids.as_slice().iter().map(|row| row.ballot);
+    voids.eq(ballots)
+}
+
+#[test]
+fn rows_go_among_those_that_were_given(rt: HostRuntime) -> Result<(), Fail> {
+    let alloc = rt.alloc();
+    for (given, all) in [([1, 3], [1, 2, 3]), ([3, 1], [2, 3, 1])] {
+        let mut keeper = keeper_of(alloc, given)?;
+        let void = ChangeRow::Void(VoidRow { ballot: 2 });
+        keep(&mut keeper, &change(alloc, void, (0, 1))?)?;
+        let rows = loaded(alloc, &mut keeper)?;
+        assert!(rt; has_voids(&rows, all), "{given:?}");
+    }
+    Ok(())
+}
