@@ -3,8 +3,8 @@
 #
 #   bench/opening.sh        (at the top of the repository)
 #
-# The office has one race (2 candidates, 5 instances). Its keeper here keeps nothing and always answers Ok, so that the
-# office is timed and no store: an ask is read from its JSON, answered, and the reply's text is written.
+# The office has one race (2 candidates, 5 instances), and a keeper in memory: an ask is read from its JSON, answered, its
+# rows are kept, and the reply's text is written.
 #
 # Prints how many scans are accepted a second behind 200 kept acts and behind 20,000 of them, half of these scans and half
 # voids by another station: once where the scans come from the station whose rows stand last, and once where they come

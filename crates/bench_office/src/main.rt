@@ -1,4 +1,4 @@
-//! Asks an office of 20,000 ballots, or opens one from its rows, so that the work can be timed.
+//! Asks an office of 20,000 ballots, over a keeper in memory, or opens one from its rows, so that the work can be timed.
 //!
 //! With `answers KEPT ASKS STATION` scans of different ballots are asked by a station, so many of them, behind so many
 //! kept acts: half of these are scans by that station, and half voids of them by another one. It says how many of all
@@ -8,7 +8,6 @@
 #![tactic(auto)]
 
 mod asking;
-mod keeper;
 mod rows;
 mod setup;
 mod stop;
