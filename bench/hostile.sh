@@ -1,5 +1,6 @@
 #!/usr/bin/env bash
-# Feeds `audit` what no office would post, and prints the report, the status, the time and the peak memory of each.
+# Feeds `audit` what no office would post, and prints the report, the status, the time and the peak memory of each; and tries
+# outputs that nobody takes.
 #
 #   bench/hostile.sh        (at the top of the repository)
 set -u
@@ -39,3 +40,20 @@ for ((at = 0; at < size; at++)); do
     cuts=$((cuts + 1))
 done
 echo "the record cut at each of its $cuts bytes: $wrong wrong"
+
+# Whoever reads the output is gone, or its disk is full: status 4, and the cause.
+python3 - "$program" "$first" <<'PY'
+import os, subprocess, sys
+program, first = sys.argv[1:]
+for words in (("audit",), ("sample", "7", "30")):
+    for sink in ("closed pipe", "full disk"):
+        if sink == "full disk":
+            writer = os.open("/dev/full", os.O_WRONLY)
+        else:
+            reader, writer = os.pipe()
+            os.close(reader)
+        with open(first) as source:
+            done = subprocess.run((program, *words), stdin=source, stdout=writer, stderr=subprocess.PIPE, text=True)
+        os.close(writer)
+        print("%-12s %-11s status %d  %s" % (words[0], sink, done.returncode, done.stderr.strip()))
+PY

@@ -1,5 +1,5 @@
 #!/usr/bin/env python3
-"""An office of its own, in Python: what an election file, asks and a history give, by the rules of docs/FORMAT.md.
+"""An office of its own, in Python: what an election file, asks and a history give, by the rules of docs/OFFICE.md and docs/FORMAT.md.
 
     office.py do ELECTION < ASKS > REPLIES          answers each line
     office.py record ELECTION < ASKS > RECORD       what the office posts behind these asks

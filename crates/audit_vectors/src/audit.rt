@@ -4,7 +4,8 @@ ghost use Rattle.std.specs.Prelude.{◌<◌};
 use crate::fault::Fault;
 use crate::read_back::{ReadBack, read_back, tell_breaches};
 use crate::report::is_report_of;
-use sg_check::{Judged, verdict};
+use sg_check::Judged;
+use sg_judge::judge;
 use sg_keeper::MemoryKeeper;
 use sg_outside::{Bytes, Page};
 use sg_plan::limits::LONGEST_LINE;
@@ -78,13 +79,8 @@ fn is_settled(
     Ok(status == 1 && page.written() == report)
 }
 
-/// The plain verdict of a record.
-fn judged(alloc: Global, record: &[u8]) -> Result<Judged, NoMemory> {
-    verdict(alloc, record)
-}
-
-/// Writes a line where the plain verdict is another than the report, where a fault behind the bad line changes the report,
-/// or where reading and writing the record goes wrong.
+/// Writes a line where the verdict on the record in memory is another than the report, where a fault behind the bad line
+/// changes the report, or where reading and writing the record goes wrong.
 ///
 /// Answers whether the record was read, and written back as the same bytes.
 fn tell_checks<W: Write>(
@@ -94,9 +90,9 @@ fn tell_checks<W: Write>(
     report: &[u8],
     out: &mut W,
 ) -> Result<bool, Fault> {
-    let judged = judged(alloc, record)?;
+    let judged = judge(alloc, record)?;
     if !is_report_of(&judged, report) {
-        out.write_all(b"the plain verdict is another\n")?;
+        out.write_all(b"the verdict in memory is another\n")?;
     }
     if let Judged::No { line, .. } = &judged {
         if !is_settled(alloc, words, record, *line, report)? {
@@ -108,9 +104,9 @@ fn tell_checks<W: Write>(
     Ok(read == ReadBack::Same)
 }
 
-/// Audits one record, and writes its name, the status and the report. Behind these a line says so where the plain
-/// verdict is another, where a fault behind the bad line changes the report, or where reading and writing the record
-/// goes wrong.
+/// Audits one record, and writes its name, the status and the report. Behind these a line says so where the verdict on the
+/// record in memory is another, where a fault behind the bad line changes the report, or where reading and writing the
+/// record goes wrong.
 ///
 /// Answers whether the record was read, and written back as the same bytes.
 pub(crate) fn tell<W: Write>(

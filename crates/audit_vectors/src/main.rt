@@ -1,7 +1,7 @@
 //! Audits records and prints each one's name, status and report: first those of a stream, and then those of small
 //! offices that this program makes up.
 //!
-//! The plain verdict of each record must be the same, a fault of the input right behind the bad line must not change
+//! The verdict on each record in memory must be the same, a fault of the input right behind the bad line must not change
 //! the report, and what is read of a record as lists must be written as the same bytes. Where one of this fails, a line
 //! says so.
 #![tactic(auto)]

@@ -24,7 +24,7 @@ fn kind_word(kind: Kind) -> &'static [u8] {
     }
 }
 
-/// The report says what the plain verdict does: yes, or the same line and kind.
+/// The report says what the verdict does: yes, or the same line and kind.
 pub(crate) fn is_report_of(judged: &Judged, report: &[u8]) -> bool {
     match judged {
         Judged::Yes(_) => report.starts_with(b"yes\n"),

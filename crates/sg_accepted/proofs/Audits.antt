@@ -31,7 +31,7 @@ use Rattle.sg_post.specs.Posted.{audited_codes, audited_race_codes, code_in_row,
 use Rattle.sg_post.specs.declared.story.Told.{Told}
 use Rattle.sg_accepted.proofs.Counted.{count-either, count-row}
 use Rattle.sg_accepted.proofs.Flag.{any-number}
-use Rattle.sg_accepted.proofs.Fronts.{any-before, any-behind}
+use Rattle.sg_check.proofs.Fronts.{any-before, any-behind}
 use Rattle.sg_accepted.proofs.Any.{any-flat, any-map, any-never, any-same, none-below, number-any, same_tests}
 use Rattle.sg_accepted.proofs.Blocks.{ShowsRight, block-sum, fates-right, fates_places, paper-is, told_places}
 use Rattle.sg_accepted.proofs.Dispute.{block-any}

@@ -33,7 +33,7 @@ use Rattle.sg_post.specs.Posted.{audited_codes, code_in_row, code_line_of}
 use Rattle.sg_post.specs.declared.story.Claimed.{Claimed}
 use Rattle.sg_post.specs.declared.story.Told.{Told}
 use Rattle.sg_accepted.proofs.Flag.{any-number}
-use Rattle.sg_accepted.proofs.Fronts.{all-append, all-each, any-at, any-before, any-behind, any-others}
+use Rattle.sg_check.proofs.Fronts.{all-append, all-each, any-at, any-before, any-behind, any-others}
 use Rattle.sg_accepted.proofs.Late.{Good, good-append, good-each, good-one, good-others}
 use Rattle.sg_accepted.proofs.Any.{any-at_place, any-count, any-filter, any-flat, any-map, any-never, any-number_found, any-numbered, any-place, any-same, none-count, number-any, same_tests}
 use Rattle.sg_accepted.proofs.Blocks.{fates_places, sum-fates, told_places}

@@ -13,19 +13,25 @@ use Rattle.sg_forms.specs.declared.line.RowOpening.TheVariants as row
 use Rattle.sg_grammar.specs.Due.{each, lines_for, numbered}
 use Rattle.sg_grammar.specs.Placed.{Placed}
 use Rattle.sg_grammar.specs.Placed.Placed.{RowAt}
+use Rattle.sg_record.specs.Lines.{bit_sign}
 use Rattle.sg_check.specs.Facts.{flags_row, is_flagged, is_marked as posted_marked, is_set as posted_set, left_of, marks_entry, right_of, sets_place}
 use Rattle.sg_check.specs.Kinds.{bad_flag, differ, wrong_left_flag, wrong_right_flag}
 use Rattle.sg_check.specs.Verdict.{late}
 use Rattle.sg_post.specs.Marks.{flag_of, is_marked, is_set}
 use Rattle.sg_post.specs.declared.story.Told.{Told}
-use Rattle.sg_accepted.proofs.BitsFound.{bits-found}
-use Rattle.sg_accepted.proofs.Fronts.{any-at, any-before, any-none}
+use Rattle.sg_check.proofs.BitsFound.{bits-found}
+use Rattle.sg_check.proofs.Fronts.{any-at, any-before, any-none}
 use Rattle.sg_accepted.proofs.Late.{Good, neither}
 use Rattle.sg_accepted.proofs.Opening.{OpensRight, OpensRow}
 use Rattle.sg_accepted.proofs.StoryPlaces.{flag_place, instance_flag_places, row_bits}
 use Rattle.sg_post.proofs.Each.{EachOf}
 
 -- THE FLAGS OF ALL ROWS
+
+-- a 1 is the sign of true alone
+pub is_sign : (b : Bool) → (bit_sign b == 0x31) ≡ b
+is_sign true = refl
+is_sign false = refl
 
 -- in one race, a flag that is looked for is found in its instance
 pub flags-found : (plan : Plan) (flag : ℕ → ℕ → ℕ → Bool) (race instance number : ℕ) → instance < plan.instances → number < entries_of plan race
@@ -36,7 +42,7 @@ flags-found plan flag race instance number in_instances in_rows =
     any-at (flags_row race instance number) (λ i. instance_flag_places race i (row_bits plan flag race i)) 0 (plan.instances - 0) instance (omega arith) (omega (arith, in_instances))
     (λ i after before other. any-none (flags_row race instance number) (λ line. flag_place race i (row_bits plan flag race i) line ∷ []) 0 (lines_for (length (row_bits plan flag race i)) - 0)
     (λ line a b. rw (eq-eqb race race refl, ne_eqb i instance other) refl))
-    ∙ (bits-found (flags_row race instance number) (flag_place race instance bits) bits number (λ line. rw (eq-eqb race race refl, eq-eqb instance instance refl) refl) (omega (arith, long, in_rows))
+    ∙ (bits-found bit_sign is_sign (flags_row race instance number) (flag_place race instance bits) bits number (λ line. rw (eq-eqb race race refl, eq-eqb instance instance refl) refl) (omega (arith, long, in_rows))
     ∙ get_or-map_below (flag race instance) (entries_of plan race) number false in_rows)
 
 -- THE KIND

@@ -23,7 +23,7 @@ use Rattle.sg_grammar.specs.Placed.Placed.{Begun, CodeAt, OverAt, PaperAt, Place
 use Rattle.sg_grammar.specs.declared.state.Block.{Block}
 use Rattle.sg_check.specs.Facts.{flags_row, is_marked as posted_marked, marks_entry, sets_place}
 use Rattle.sg_check.specs.Kinds.{bad_flag}
-use Rattle.sg_record.specs.Lines.{cast_race_lines, paper_lines, signs_on}
+use Rattle.sg_record.specs.Lines.{bit_sign, cast_race_lines, paper_lines, signs_on}
 use Rattle.sg_record.specs.declared.record.BallotBlock.{BallotBlock}
 use Rattle.sg_record.specs.declared.record.BlockFate.{BlockFate}
 use Rattle.sg_record.specs.declared.record.BlockFate.TheVariants as blocked
@@ -32,11 +32,11 @@ use Rattle.sg_post.specs.Marks.{flag_of, is_entry_of, is_marked, is_set, told_ma
 use Rattle.sg_post.specs.Posted.{audited_codes, fate_blocks, seal_2, told_blocks}
 use Rattle.sg_post.specs.declared.story.Claimed.{Claimed}
 use Rattle.sg_post.specs.declared.story.Told.{Told}
-use Rattle.sg_accepted.proofs.BitsFound.{bits-found}
+use Rattle.sg_check.proofs.BitsFound.{bits-found}
 use Rattle.sg_post.proofs.Each.{EachOf, of-all, of-numbered, of-test}
-use Rattle.sg_accepted.proofs.Flag.{FlagFacts, flags-found, flags-good, is_row}
+use Rattle.sg_accepted.proofs.Flag.{FlagFacts, flags-found, flags-good, is_row, is_sign}
 use Rattle.sg_post.proofs.OwnCodes.{marks-have}
-use Rattle.sg_accepted.proofs.Fronts.{any-at, any-before, any-behind}
+use Rattle.sg_check.proofs.Fronts.{any-at, any-before, any-behind}
 use Rattle.sg_accepted.proofs.Joining.{IsNever, base_places, by_rows, front-of, front_places, of-none}
 use Rattle.sg_accepted.proofs.Late.{Good, and_false}
 use Rattle.sg_accepted.proofs.Marked.{cast-marks, lines-mark}
@@ -128,7 +128,7 @@ set-results plan seed fates race number in_race in_places =
     (λ instance a b. of-numbered (NoneOf test) (λ line. flag_place race instance (row_bits plan (flag_of plan seed fates) race instance) line ∷ []) 0 (lines_for (length (row_bits plan (flag_of plan seed fates) race instance)) - 0) (λ line x y. (refl, tt)))))
     ∙ (any-before test (race_set_places plan seed fates race) (race_total_places plan seed fates race)
     (of-none test (race_total_places plan seed fates race) (of-numbered (NoneOf test) (total_place plan seed fates race) 0 (candidates_of plan race - 0) (λ candidate x y. (refl, tt))))
-    ∙ (bits-found test (λ line. PlacesAt race (64 * line) (signs_on bits line)) bits number (λ line. rw (eq-eqb race race refl) refl) (omega (arith, long, in_places))
+    ∙ (bits-found bit_sign is_sign test (λ line. PlacesAt race (64 * line) (signs_on bits line)) bits number (λ line. rw (eq-eqb race race refl) refl) (omega (arith, long, in_places))
     ∙ get_or-map_below (is_set plan seed fates race) (entries_of plan race) number false in_places)))
 
 -- MARKS

@@ -18,8 +18,3 @@ given-value {A} {B} given test v (x ∷ xs) all =
         → option_map_or Some (cond b (Some v) None) (first_given given xs) ≡ cond (b || list_any test xs) (Some v) None
     at_first true e = refl
     at_first false e = e
-
--- items behind that give none
-pub given-before : {A B : Type 0} (given : A → Option B) (xs ys : List A) → first_given given ys ≡ None → first_given given (xs ++ ys) ≡ first_given given xs
-given-before given [] ys none = none
-given-before {A} {B} given (x ∷ xs) ys none = ap (λ (o : Option B). option_map_or Some (given x) o) (given-before given xs ys none)

@@ -2,14 +2,12 @@
 pub mod Accepting
 pub mod Any
 pub mod Audits
-pub mod BitsFound
 pub mod Blocks
 pub mod Counted
 pub mod Dispute
 pub mod Fine
 pub mod Flag
 pub mod FlagWhole
-pub mod Fronts
 pub mod Given
 pub mod Holds
 pub mod Joined

@@ -16,7 +16,7 @@ use Rattle.sg_record.specs.Lines.{cast_race_lines}
 use Rattle.sg_check.specs.Facts.{marks_entry}
 use Rattle.sg_post.specs.Posted.{code_in_row, code_line_of}
 use Rattle.sg_accepted.proofs.Flag.{any-number, any-range}
-use Rattle.sg_accepted.proofs.Fronts.{any-at, any-before, any-none}
+use Rattle.sg_check.proofs.Fronts.{any-at, any-before, any-none}
 use Rattle.sg_record.proofs.PlacedBlocks.{cast_place}
 use Rattle.sg_post.proofs.MarkedCodes.{cast-counted, cast_codes_of, counted_codes, shows_mark}
 use Rattle.sg_plan.specs.Fates.{has_mark}

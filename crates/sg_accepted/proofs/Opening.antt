@@ -21,7 +21,7 @@ use Rattle.sg_grammar.specs.Placed.Placed.{CodeAt, OfPlan, RowAt, SealAt}
 use Rattle.sg_check.specs.Facts.{code_commitment, commits_code, commits_left, commits_right, first_given, left_commitment, left_of, right_commitment, right_of}
 use Rattle.sg_check.specs.Kinds.{bad_opening, bad_pointer_opening, opens_digest}
 use Rattle.sg_post.specs.Posted.{code_commit_of, code_in_row, code_line_of, committed, row_commit_of, seal_1}
-use Rattle.sg_accepted.proofs.Fronts.{given-at, given-behind, given-none, given-stays}
+use Rattle.sg_check.proofs.Fronts.{given-at, given-behind, given-none, given-stays}
 use Rattle.sg_accepted.proofs.Late.{Good}
 use Rattle.sg_check.specs.Verdict.{late}
 use Rattle.sg_accepted.proofs.StoryPlaces.{code_commit_place, code_commit_places, each_entry, each_row, row_commit_place, row_commit_places}

@@ -21,8 +21,8 @@ use Rattle.sg_check.specs.Kinds.{bad_left_pointer, bad_pointer, bad_right_pointe
 use Rattle.sg_post.specs.Marks.{is_audited}
 use Rattle.sg_post.specs.Posted.{both_sides, one_side, opened_row}
 use Rattle.sg_post.specs.declared.story.Told.{Told}
-use Rattle.sg_accepted.proofs.BitsFound.{not_le}
-use Rattle.sg_accepted.proofs.Fronts.{any-behind, any-none}
+use Rattle.sg_check.proofs.BitsFound.{not_le}
+use Rattle.sg_check.proofs.Fronts.{any-behind, any-none}
 use Rattle.sg_accepted.proofs.Late.{Good, good-each, good-one, neither, or_false}
 use Rattle.sg_accepted.proofs.Opening.{OpensRow}
 use Rattle.sg_accepted.proofs.StoryPlaces.{each_row, row_place, row_places}

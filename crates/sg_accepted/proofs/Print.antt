@@ -30,12 +30,11 @@ use Rattle.sg_post.specs.Posted.{both_sides, one_side, opened_row}
 use Rattle.sg_post.specs.declared.story.Told.{Told}
 use Rattle.sg_accepted.proofs.Counted.{count-lefts}
 use Rattle.sg_accepted.proofs.Flag.{is_row}
-use Rattle.sg_accepted.proofs.Fronts.{all-append, all-each, given-behind, given-others}
+use Rattle.sg_check.proofs.Fronts.{all-append, all-each, given-before, given-behind, given-others}
 use Rattle.sg_accepted.proofs.Late.{Good, good-one, good-others}
 use Rattle.sg_accepted.proofs.Pointer.{rows-good, rows_before}
 use Rattle.sg_accepted.proofs.Audits.{audited-code, audited-count, audited-paper}
 use Rattle.sg_accepted.proofs.Blocks.{fates_places}
-use Rattle.sg_accepted.proofs.Given.{given-before}
 use Rattle.sg_accepted.proofs.Sums.{sum-none, sum-numbered, sum-others, sum-range, sum-same, tally}
 use Rattle.sg_accepted.proofs.StoryPlaces.{row_place, row_places}
 use Rattle.sg_accepted.specs.Unaltered.{IsTrueFate}

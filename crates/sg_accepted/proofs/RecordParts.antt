@@ -32,7 +32,7 @@ use Rattle.sg_post.specs.Marks.{flag_of, is_set, total_of}
 use Rattle.sg_post.specs.Posted.{audited_codes, code_commit_of, code_line_of, opened_row, row_commit_of, seal_1}
 use Rattle.sg_post.specs.declared.story.Claimed.{Claimed}
 use Rattle.sg_post.specs.declared.story.Told.{Told}
-use Rattle.sg_accepted.proofs.Fronts.{all-append, all-each, given-others}
+use Rattle.sg_check.proofs.Fronts.{all-append, all-each, given-others}
 use Rattle.sg_accepted.proofs.Late.{Good, good-append}
 use Rattle.sg_accepted.proofs.Opening.{first_section}
 use Rattle.sg_accepted.proofs.Pointer.{opened-opens}

@@ -28,7 +28,7 @@ use Rattle.sg_post.specs.declared.story.Claimed.{Claimed}
 use Rattle.sg_post.specs.declared.story.Told.{Told}
 use Rattle.sg_post.proofs.Each.{EachOf}
 use Rattle.sg_accepted.proofs.Flag.{is_row}
-use Rattle.sg_accepted.proofs.Fronts.{any-before, given-behind, given-stays}
+use Rattle.sg_check.proofs.Fronts.{any-before, given-behind, given-stays}
 use Rattle.sg_accepted.proofs.Joining.{IsNever, base-of, base_places, by_rows, front-of, front_places, of-none}
 use Rattle.sg_accepted.proofs.Late.{Good, and_false}
 use Rattle.sg_accepted.proofs.Sections.{OfBlocks, fates-of, results-of, rows-of}

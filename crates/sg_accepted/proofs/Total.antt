@@ -17,7 +17,7 @@ use Rattle.sg_check.specs.Facts.{votes_for, votes_in, votes_on}
 use Rattle.sg_check.specs.Kinds.{bad_total}
 use Rattle.sg_post.specs.Marks.{flag_of, is_set, total_of}
 use Rattle.sg_post.specs.declared.story.Told.{Told}
-use Rattle.sg_accepted.proofs.Fronts.{all-each}
+use Rattle.sg_check.proofs.Fronts.{all-each}
 use Rattle.sg_accepted.proofs.Late.{Good, good-append, good-each, good-one, good-others}
 use Rattle.sg_accepted.proofs.Sums.{sum-none, sum-numbered, sum-others, sum-range, tally}
 use Rattle.sg_accepted.proofs.StoryPlaces.{instance_flag_places, place_bits, race_result_places, result_places, row_bits}

@@ -29,13 +29,13 @@ use Rattle.sg_court.specs.Odds.{OddsDue}
 use Rattle.sg_court.specs.Recounts.{RecountDue}
 use Rattle.sg_court.specs.Says.{Says, Shows}
 use Rattle.sg_towns.specs.Counts.{CountySays}
-use Rattle.sg_app.specs.Audit.{AuditSays}
+use Rattle.sg_audit.specs.Audit.{AuditSays}
 use Rattle.sg_app.specs.Complete.{DoesAll, IsComplete, KeepsScanning, KeepsServing, KeepsTalking, NothingFailed, ShowsOffice}
 use Rattle.sg_app.specs.Outside.{Outside, input_at, moment_of, output_at, scene_of}
 use Rattle.sg_app.specs.Sampling.{SampleSays}
 use Rattle.sg_words.specs.declared.command.Command.{Command}
 use Rattle.sg_words.specs.declared.service.Service.{Service}
-use Rattle.sg_app.specs.inside.Obeying.{CommandSays}
+use Rattle.sg_app.specs.Says.{CommandSays}
 use Rattle.sg_words.specs.declared.command.Command.TheVariants as command
 
 -- `audit`

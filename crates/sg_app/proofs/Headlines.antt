@@ -1,19 +1,12 @@
 -- What an audit says by its status is the headline.
-use Rattle.std.proofs.Common.{◌≡◌, ◌≢◌, ℕ, ◌<◌, inl, inr, List, Option, None, Some, refl, sym, subst, arith}
+use Rattle.std.proofs.Common.{◌≡◌, ℕ, ◌<◌, inl, inr, List, Option, None, Some, sym, subst, arith}
 use Rattle.std.specs.Prelude.{IfSome}
 use Rattle.sg_outside.specs.Streams.{Seen}
 use Rattle.sg_outside.specs.TextLines.{lines_of}
-use Rattle.sg_check.proofs.Accepted.{yes_is_sound}
-use Rattle.sg_check.proofs.Finding.{find-none}
-use Rattle.sg_check.proofs.Fine.{none_bad_are_fine}
-use Rattle.sg_check.proofs.Verdicts.{good_end, one_verdict}
-use Rattle.sg_check.specs.Bounds.{IsSound}
-use Rattle.sg_check.specs.Kinds.{kinds}
-use Rattle.sg_check.specs.Verdict.{IsNo, IsVerdict, breaks, totals_of}
+use Rattle.sg_check.specs.Verdict.{IsVerdict}
 use Rattle.sg_check.specs.declared.judged.Judged.{Judged}
 use Rattle.sg_check.specs.declared.judged.Judged.TheVariants.{Yes, No}
 use Rattle.sg_check.specs.declared.judged.Kind.{Kind}
-use Rattle.sg_check.specs.declared.judged.Total.{Total}
 use Rattle.sg_plan.specs.Limits.{fault_of}
 use Rattle.sg_plan.specs.declared.plan.Plan.{Plan}
 use Rattle.sg_post.specs.Posted.{posted_text}
@@ -23,17 +16,10 @@ use Rattle.sg_accepted.specs.Unaltered.{IsUnaltered}
 use Rattle.sg_histories.specs.Stories.{story_of}
 use Rattle.sg_unaltered.proofs.UnalteredStories.{unaltered_tell_so}
 use Rattle.sg_accepted.specs.Totals.{told_totals}
-use Rattle.sg_app.specs.Audit.{AuditSays}
-use Rattle.sg_app.specs.Headline.{Headline, IsWholeAndAgrees}
-use Rattle.sg_app.specs.inside.Ending.{status_of_verdict}
-
--- a whole record that agrees has the verdict yes
-right_is_good : (lines : List (List ℕ)) → IsWholeAndAgrees lines → IsVerdict lines (Yes (totals_of lines))
-right_is_good lines right = good_end lines (totals_of lines) (none_bad_are_fine lines (find-none (λ k. breaks k lines) kinds right.agree)) right.whole refl
-
--- a yes is no no
-not_no : (totals : List Total) (number : ℕ) (broken : Kind) → Yes totals ≢ No number broken
-not_no totals number broken same = subst IsNo (sym same) tt
+use Rattle.sg_audit.specs.Audit.{AuditSays}
+use Rattle.sg_audit.proofs.Promises.{not_no, other_promise, verdict_promise}
+use Rattle.sg_app.specs.Headline.{Headline}
+use Rattle.sg_audit.specs.inside.Ending.{status_of_verdict}
 
 -- what is posted of an unaltered story has no other verdict than yes
 story_is_never_no : (lines : List (List ℕ)) (plan : Plan) (seed : List ℕ) (story : Story) (number : ℕ) (broken : Kind) → fault_of plan ≡ None → IsUnaltered plan seed story
@@ -45,20 +31,14 @@ story_is_never_no lines plan seed story number broken fine unaltered same bad =
 -- the status of a verdict says the headline
 verdict_headline : (lines : List (List ℕ)) (judged : Judged) (status : ℕ) → IsVerdict lines judged → status ≡ status_of_verdict judged → Headline lines status
 verdict_headline lines (Yes totals) status good is =
-    let good_of : IsVerdict lines (Yes (totals_of lines)) = record { fine = good.fine; whole = good.whole; totals_are = refl } in
-    let sound : IsSound lines (totals_of lines) = yes_is_sound lines (totals_of lines) good_of in
     record {
-      yes = λ e. record { whole = good.whole; openings = sound.openings; agree = sound.agree };
-      exactly = λ right e. absurd (omega (arith, e, is));
-      bound = λ e. sound;
+      promise = verdict_promise lines (Yes totals) status good is;
       unaltered = λ setup history fine unaltered same e. absurd (omega (arith, e, is));
       unaltered_story = λ plan seed story fine unaltered same e. absurd (omega (arith, e, is));
     }
 verdict_headline lines (No number broken) status bad is =
     record {
-      yes = λ e. absurd (omega (arith, e, is));
-      exactly = λ right e. not_no (totals_of lines) number broken (one_verdict lines (Yes (totals_of lines)) (No number broken) (right_is_good lines right) bad);
-      bound = λ e. absurd (omega (arith, e, is));
+      promise = verdict_promise lines (No number broken) status bad is;
       unaltered = λ setup history fine unaltered same e.
           story_is_never_no lines setup.plan setup.seed.0 (story_of setup history) number broken fine (unaltered_tell_so setup history unaltered) same bad;
       unaltered_story = λ plan seed story fine unaltered same e.
@@ -68,9 +48,7 @@ verdict_headline lines (No number broken) status bad is =
 -- another status says nothing of the lines
 other_headline : (lines : List (List ℕ)) (status : ℕ) → 1 < status → Headline lines status
 other_headline lines status other = record {
-  yes = λ e. absurd (omega (arith, e, other));
-  exactly = λ right e. absurd (omega (arith, e, other));
-  bound = λ e. absurd (omega (arith, e, other));
+  promise = other_promise lines status other;
   unaltered = λ setup history fine unaltered same e. absurd (omega (arith, e, other));
   unaltered_story = λ plan seed story fine unaltered same e. absurd (omega (arith, e, other));
 }

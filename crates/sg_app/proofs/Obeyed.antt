@@ -8,8 +8,8 @@ use Rattle.sg_towns.proofs.Answering.{took_nothing as took_no_lines}
 use Rattle.sg_words.specs.declared.command.Command.{Command}
 use Rattle.sg_words.specs.declared.command.Command.TheVariants as command
 use Rattle.sg_app.specs.Outside.{Outside}
-use Rattle.sg_app.specs.inside.Obeying.{CommandSays}
-use Rattle.sg_app.proofs.Judging.{took_nothing}
+use Rattle.sg_app.specs.Says.{CommandSays}
+use Rattle.sg_audit.proofs.Judging.{took_nothing}
 
 -- they are one
 pub asked_is : (here asked : Command) (found : Option Command) → Some here ≡ found → found ≡ Some asked → here ≡ asked

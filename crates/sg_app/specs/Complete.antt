@@ -19,7 +19,7 @@ use Rattle.sg_court.specs.Odds.{OddsDue}
 use Rattle.sg_court.specs.Recounts.{RecountDue}
 use Rattle.sg_court.specs.Says.{Shows}
 use Rattle.sg_towns.specs.Counts.{SaysBad, SaysMany, SaysYes as SaysSums}
-use Rattle.sg_app.specs.Audit.{SaysNo, SaysYes}
+use Rattle.sg_audit.specs.Audit.{SaysNo, SaysYes}
 use Rattle.sg_app.specs.Outside.{Outside, input_at, moment_of, output_at, scene_of}
 use Rattle.sg_words.specs.declared.service.Service.{Service}
 use Rattle.sg_words.specs.declared.command.Command.{Command}

@@ -1,38 +1,24 @@
 -- The headline: what `audit` answers of the bytes that it reads, and what a yes promises of them.
-use Rattle.std.specs.Prelude.{◌≡◌, ◌≢◌, ℕ, true, false, List, None}
+use Rattle.std.specs.Prelude.{◌≡◌, ◌≢◌, ℕ, List, None}
 use Rattle.sg_outside.specs.TextLines.{lines_of}
 use Rattle.sg_plan.specs.Limits.{fault_of}
 use Rattle.sg_plan.specs.declared.plan.Plan.{Plan}
 use Rattle.sg_keeper.specs.declared.setup.Setup.{Setup}
-use Rattle.sg_check.specs.Bounds.{IsSound}
-use Rattle.sg_check.specs.Verdict.{are_whole, breaks, totals_of}
-use Rattle.sg_check.specs.declared.judged.Kind.{Kind}
-use Rattle.sg_check.specs.declared.judged.Kind.TheVariants as kind
 use Rattle.sg_post.specs.Posted.{posted_text}
 use Rattle.sg_post.specs.declared.story.Story.{Story}
 use Rattle.sg_histories.specs.Histories.{Entry}
 use Rattle.sg_histories.specs.Stories.{story_of}
 use Rattle.sg_accepted.specs.Unaltered.{IsUnaltered}
 use Rattle.sg_unaltered.specs.UnalteredHistories.{IsUnalteredHistory}
-
--- the lines are a whole record whose openings match their commitments and whose opened halves agree
-pub record IsWholeAndAgrees (lines : List (List ℕ)) : Type 0 where
-  -- a whole record
-  pub whole : are_whole lines ≡ true
-  -- whose openings match their commitments
-  pub openings : breaks kind.Opening lines ≡ false
-  -- and whose opened halves agree: no line is bad in any kind
-  pub agree : (k : Kind) → breaks k lines ≡ false
+use Rattle.sg_audit.specs.Promise.{Promise}
 
 -- what the status says of the lines of the bytes that were read; 0 answers yes, and 1 no
 pub record Headline (lines : List (List ℕ)) (status : ℕ) : Type 0 where
   -- `audit` answers yes exactly when the bytes read are a whole record whose openings match their commitments and whose
-  -- opened halves agree;
-  pub yes : status ≡ 0 → IsWholeAndAgrees lines
-  pub exactly : IsWholeAndAgrees lines → status ≢ 1
-  -- then, for every printing and every completion that opens no commitment twice, each R instance has at least as many rows
-  -- altered in their unopened halves as any posted total of its race differs from the count of posted codes
-  pub bound : status ≡ 0 → IsSound lines (totals_of lines)
+  -- opened halves agree; then, for every printing and every completion that opens no commitment twice, each R instance has
+  -- at least as many rows altered in their unopened halves as any posted total of its race differs from the count of posted
+  -- codes;
+  pub promise : Promise lines status
   -- every unaltered office run gets yes: what is posted of it is not answered no
   pub unaltered : (setup : Setup) (history : List Entry) → fault_of setup.plan ≡ None → IsUnalteredHistory setup history → lines ≡ lines_of (posted_text setup.plan setup.seed.0 (story_of setup history)) → status ≢ 1
   -- nor is what is posted of any unaltered story, whether or not an office's acts made it

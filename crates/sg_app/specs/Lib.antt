@@ -1,8 +1,8 @@
 -- The modules of definitions.
-pub mod Audit
 pub mod Complete
 pub mod Headline
 pub mod Outside
 pub mod Sampling
+pub mod Says
 pub mod Touches
 pub mod inside

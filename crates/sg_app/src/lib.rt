@@ -1,7 +1,6 @@
 //! The program's commands, over any source, keeper, links and sink.
 #![tactic(auto)]
 
-mod audit;
 mod program;
 mod work;
 

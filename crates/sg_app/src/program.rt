@@ -1,24 +1,13 @@
 //! The program over any source, keeper, links and sink: its words, and the status that it ends with.
 ghost use Rattle.std.specs.Prelude.{◌≡◌, ◌⊎◌, false, true, None, Some, IfSome};
-ghost use Rattle.sg_outside.specs.Streams.{seen};
 ghost use Rattle.sg_outside.specs.TextLines.{lines_of};
-ghost use Rattle.sg_clerk.specs.Asked.{DoSays};
-ghost use Rattle.sg_clerk.specs.Begun.{InitSays};
-ghost use Rattle.sg_clerk.specs.Sheet.{sheet_of};
-ghost use Rattle.sg_clerk.specs.Shown.{ShowSays, posted_of};
-ghost use Rattle.sg_batch.specs.ScansAsked.{ScansSay};
-ghost use Rattle.sg_station.specs.Says.{ServeSays};
-ghost use Rattle.sg_court.specs.Says.{OddsSays, RecountSays};
-ghost use Rattle.sg_towns.specs.Counts.{CountySays};
-ghost use Rattle.sg_app.specs.Audit.{AuditSays};
 ghost use Rattle.sg_words.specs.Command.{command_in};
 ghost use Rattle.sg_app.specs.Complete.{IsComplete};
 ghost use Rattle.sg_app.specs.Headline.{Headline};
-ghost use Rattle.sg_app.specs.Sampling.{SampleSays};
+ghost use Rattle.sg_app.specs.Says.{CommandSays};
 ghost use Rattle.sg_app.specs.Touches.{asks_keeper, is_report, reads_input, takes_links};
 ghost use Rattle.sg_words.specs.declared.command.Command.{Command as CommandSeen};
 ghost use Rattle.sg_words.specs.declared.service.Service.{Service as ServiceSeen};
-ghost use Rattle.sg_words.specs.declared.sample.Sample.{Sample as SampleSeen};
 
 use crate::work::obey;
 use sg_keeper::Keeper;
@@ -57,49 +46,21 @@ pub fn run<S: Source, K: Keeper, L: Links, O: Sink>(
     // opens no commitment twice, each R instance has at least as many rows altered in their unopened halves as any posted
     // total of its race differs from the count of posted codes; every unaltered office run gets yes.
     ensures headline { command_in words.now ≡ Some Command.Audit → IfSome (S.left input.old) (λ bytes. Headline (lines_of bytes) result) }
-    // With `audit` the status says how it ended.
-    ensures audit { command_in words.now ≡ Some Command.Audit → AuditSays result (seen (S.left input.old) (S.faults input.old)) (seen (S.left input.new) (S.faults input.new))
-        (seen (O.written out.old) (O.faults out.old)) (seen (O.written out.new) (O.faults out.new)) }
-    // With `recount` and `odds` it says what follows of the record, the sheet and the openings that were read, or why nothing does.
-    ensures recount { command_in words.now ≡ Some Command.Recount → RecountSays result (seen (S.left input.old) (S.faults input.old)) (seen (S.left input.new) (S.faults input.new))
-        (seen (O.written out.old) (O.faults out.old)) (seen (O.written out.new) (O.faults out.new)) }
-    ensures odds { command_in words.now ≡ Some Command.Odds → OddsSays result (seen (S.left input.old) (S.faults input.old)) (seen (S.left input.new) (S.faults input.new))
-        (seen (O.written out.old) (O.faults out.old)) (seen (O.written out.new) (O.faults out.new)) }
-    // With `county` it says what the records that were read give together.
-    ensures county { command_in words.now ≡ Some Command.County → CountySays result (seen (S.left input.old) (S.faults input.old)) (seen (S.left input.new) (S.faults input.new))
-        (seen (O.written out.old) (O.faults out.old)) (seen (O.written out.new) (O.faults out.new)) }
-    // After a read that failed, and where memory was wanted, `audit`, `recount`, `odds` and `county` leave the output as it was.
-    ensures unwritten { (command : CommandSeen) → command_in words.now ≡ Some command → is_report command ≡ true → (result ≡ 3) ⊎ (result ≡ 9) → out.new ≡ out.old }
-    // With `init` it says whether an office was set up, and from which election file.
-    ensures init { command_in words.now ≡ Some Command.Init → InitSays result (seen (S.left input.old) (S.faults input.old)) (seen (S.left input.new) (S.faults input.new))
-        (K.tells keeper.old) (K.rows keeper.old) (K.rows keeper.new) (K.faults keeper.old) (K.faults keeper.new)
-        (seen (O.written out.old) (O.faults out.old)) (seen (O.written out.new) (O.faults out.new)) }
-    // With `sheet` and `record` it says whether what the kept rows give was written; the rows are as they were.
-    ensures sheet { command_in words.now ≡ Some Command.Sheet → ShowSays sheet_of result (K.tells keeper.old) (K.rows keeper.old) (K.faults keeper.old) (K.faults keeper.new)
-        (seen (O.written out.old) (O.faults out.old)) (seen (O.written out.new) (O.faults out.new)) }
-    ensures record { command_in words.now ≡ Some Command.Record → ShowSays posted_of result (K.tells keeper.old) (K.rows keeper.old) (K.faults keeper.old) (K.faults keeper.new)
-        (seen (O.written out.old) (O.faults out.old)) (seen (O.written out.new) (O.faults out.new)) }
-    ensures same { (command_in words.now ≡ Some Command.Sheet) ⊎ (command_in words.now ≡ Some Command.Record) → K.tells keeper.old → K.rows keeper.new ≡ K.rows keeper.old }
-    // With `do` it says how far the lines of the input were answered, by a talk of the office.
-    ensures asks { command_in words.now ≡ Some Command.Do → DoSays result (K.tells keeper.old) (K.rows keeper.old) (K.rows keeper.new)
-        (record { left = S.left input.old; written = O.written out.old; read_faults = S.faults input.old; write_faults = O.faults out.old; keep_faults = K.faults keeper.old })
-        (record { left = S.left input.new; written = O.written out.new; read_faults = S.faults input.new; write_faults = O.faults out.new; keep_faults = K.faults keeper.new }) }
-    // With `scans` it says whether the input was a scanner's file, and how far its records were answered, by a talk of the office.
-    ensures scans { command_in words.now ≡ Some Command.Scans → ScansSay result (K.tells keeper.old) (K.rows keeper.old) (K.rows keeper.new)
-        (record { left = S.left input.old; written = O.written out.old; read_faults = S.faults input.old; write_faults = O.faults out.old; keep_faults = K.faults keeper.old })
-        (record { left = S.left input.new; written = O.written out.new; read_faults = S.faults input.new; write_faults = O.faults out.new; keep_faults = K.faults keeper.new }) }
-    // With `serve` it says which connections to the port were served, by a talk of the office. Where none is opened, the links
-    // are as they were.
-    ensures serve { (asked : ServiceSeen) → command_in words.now ≡ Some (Command.Serve asked) → ServeSays result asked.port asked.count (K.tells keeper.old) (K.rows keeper.old) (K.rows keeper.new)
-        (record { board = L.board links.old; written = O.written out.old; link_faults = L.faults links.old; write_faults = O.faults out.old; keep_faults = K.faults keeper.old })
-        (record { board = L.board links.new; written = O.written out.new; link_faults = L.faults links.new; write_faults = O.faults out.new; keep_faults = K.faults keeper.new }) }
-    ensures unopened { (asked : ServiceSeen) → command_in words.now ≡ Some (Command.Serve asked) → (result ≡ 5) ⊎ (result ≡ 7) ⊎ (result ≡ 8) → links.new ≡ links.old }
-    // With `sample` it says whether the summary of the run was written.
-    ensures sample { (asked : SampleSeen) → command_in words.now ≡ Some (Command.Sample asked) → SampleSays asked result (seen (O.written out.old) (O.faults out.old)) (seen (O.written out.new) (O.faults out.new)) }
+    // The status says how the command ended, by a relation for each command: what was read, what the rows are, and what was
+    // written.
+    ensures says { (command : CommandSeen) → command_in words.now ≡ Some command → CommandSays command result (K.tells keeper.old) (K.rows keeper.old) (K.rows keeper.new)
+        (record { left = S.left input.old; board = L.board links.old; written = O.written out.old; read_faults = S.faults input.old; link_faults = L.faults links.old; write_faults = O.faults out.old; keep_faults = K.faults keeper.old })
+        (record { left = S.left input.new; board = L.board links.new; written = O.written out.new; read_faults = S.faults input.new; link_faults = L.faults links.new; write_faults = O.faults out.new; keep_faults = K.faults keeper.new }) }
     // Where no count of faults rose, each command does all its work, but for want of memory.
     ensures complete { (command : CommandSeen) → command_in words.now ≡ Some command → IsComplete command result (K.tells keeper.old) (K.rows keeper.old) (K.rows keeper.new)
         (record { left = S.left input.old; board = L.board links.old; written = O.written out.old; read_faults = S.faults input.old; link_faults = L.faults links.old; write_faults = O.faults out.old; keep_faults = K.faults keeper.old })
         (record { left = S.left input.new; board = L.board links.new; written = O.written out.new; read_faults = S.faults input.new; link_faults = L.faults links.new; write_faults = O.faults out.new; keep_faults = K.faults keeper.new }) }
+    // After a read that failed, and where memory was wanted, `audit`, `recount`, `odds` and `county` leave the output as it was.
+    ensures unwritten { (command : CommandSeen) → command_in words.now ≡ Some command → is_report command ≡ true → (result ≡ 3) ⊎ (result ≡ 9) → out.new ≡ out.old }
+    // `sheet` and `record` leave the rows as they are.
+    ensures same { (command_in words.now ≡ Some Command.Sheet) ⊎ (command_in words.now ≡ Some Command.Record) → K.tells keeper.old → K.rows keeper.new ≡ K.rows keeper.old }
+    // Where no office is opened, `serve` leaves the links as they were.
+    ensures unopened { (asked : ServiceSeen) → command_in words.now ≡ Some (Command.Serve asked) → (result ≡ 5) ⊎ (result ≡ 7) ⊎ (result ≡ 8) → links.new ≡ links.old }
 {
     match command_of(alloc, words) {
         Ok(Some(command)) => obey(alloc, command, input, keeper, links, out),

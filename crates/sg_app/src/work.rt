@@ -3,10 +3,11 @@ ghost use Rattle.std.specs.Prelude.{◌≡◌, ◌≢◌, ◌⊎◌, false, true
 ghost use Rattle.sg_app.specs.Touches.{asks_keeper, is_report, reads_input, takes_links};
 ghost use Rattle.sg_words.specs.declared.command.Command.TheVariants.{Serve};
 ghost use Rattle.sg_words.specs.declared.service.Service.{Service as ServiceSeen};
-ghost use Rattle.sg_app.specs.inside.Obeying.{CommandSays, ShowsRows};
+ghost use Rattle.sg_app.specs.Says.{CommandSays};
+ghost use Rattle.sg_app.specs.inside.Obeying.{ShowsRows};
 ghost use Rattle.sg_words.specs.Command.{IsSized};
 
-use crate::audit::{audit, status_of};
+use sg_audit::answer_audit;
 use sg_batch::answer_scans;
 use sg_clerk::{answer_asks, begun_status, init, record, sheet, shown_status};
 use sg_court::{answer_odds, answer_recount};
@@ -20,7 +21,6 @@ use sg_words::Command;
 use std::alloc::Global;
 
 /// Does what a command asks for, and answers the status to end with.
-#[tactic(auto, using(crate::proofs::Endings::quiet_by_status))]
 pub(crate) fn obey<S: Source, K: Keeper, L: Links, O: Sink>(
     alloc: Global,
     command: Command,
@@ -45,7 +45,7 @@ pub(crate) fn obey<S: Source, K: Keeper, L: Links, O: Sink>(
     ensures same { ShowsRows command → K.tells keeper.old → K.rows keeper.new ≡ K.rows keeper.old }
 {
     match command {
-        Command::Audit => status_of(&audit(alloc, input, out)),
+        Command::Audit => answer_audit(alloc, input, out),
         Command::Init => begun_status(init(alloc, input, keeper, out)),
         Command::Sheet => shown_status(sheet(alloc, keeper, out)),
         Command::Do => answer_asks(alloc, input, keeper, out),

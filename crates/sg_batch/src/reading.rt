@@ -25,7 +25,7 @@ pub enum ScansRefusal {
 }
 
 /// What an input is.
-#[derive(Debug, Drop)]
+#[derive(Drop)]
 pub enum ScanFile {
     /// A scanner's file with these records behind its first one.
     Scans(Items<ScanLine>),

@@ -1,4 +1,5 @@
 pub mod Accepted
+pub mod BitsFound
 pub mod BoundLaws
 pub mod Bounding
 pub mod Choosing
@@ -7,15 +8,15 @@ pub mod Examples
 pub mod Finding
 pub mod Fine
 pub mod FineLines
+pub mod Fronts
 pub mod Judging
+pub mod KindExamples
 pub mod Late
 pub mod Noting
 pub mod OfPlan
 pub mod OneMore
 pub mod Posting
 pub mod PrintingLaw
-pub mod Reading
 pub mod Rows
-pub mod Taking
 pub mod Verdicts
 pub mod Votes

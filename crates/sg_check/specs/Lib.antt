@@ -1,9 +1,9 @@
 pub mod Bounds
 pub mod Completions
+pub mod Examples
 pub mod Facts
 pub mod Judging
 pub mod Kinds
 pub mod Laws
 pub mod Printings
 pub mod Verdict
-pub mod inside

@@ -1,4 +1,5 @@
 //! Laws of verdicts: what follows from the definitions alone. Each function does nothing, and its contract is proved.
+ghost use Rattle.sg_check.specs.Examples.{AreKindsShown};
 ghost use Rattle.sg_check.specs.Laws.{CodesAreKnown, CompletionExists, EndsAreJudged, FirstBadStays, FlagsAgree, FormIsJudged, FrontsAreFine, FullDrawEquals, LineIsJudged, NoneBadAreFine, OneVerdict, OpeningsOpen, PathsAgree, PointersStandOnce, PrintingExists, PrintsAgree, SidesAreDrawn, SomeVerdict, TotalsBound, TotalsCount, TotalsStand};
 
 /// Lines have at most one verdict.
@@ -105,4 +106,9 @@ pub fn completion_law()
 /// Behind a yes with a full draw each total is the count of posted codes.
 pub fn full_law()
     ensures { FullDrawEquals }
+{}
+
+/// On a small record each kind tells good lines from bad ones.
+pub fn examples_law()
+    ensures { AreKindsShown }
 {}

@@ -1,14 +1,8 @@
-//! The verdict on a public record: what is judged at each line, and what the record's verdict is.
+//! The verdict on a public record, as a definition: what is judged at each line, what the record's verdict is, and what a yes
+//! promises. The crates above compute it.
 #![tactic(auto)]
 
-mod facts;
 mod judged;
-mod kinds;
 pub mod laws;
-mod notes;
-mod numbering;
-mod openings;
-mod plain;
 
 pub use judged::{Judged, Kind, Total};
-pub use plain::verdict;

@@ -46,7 +46,7 @@ pub fn begun_status(ending: Begun) -> u8
 }
 
 /// What an input is.
-#[derive(Debug, Drop)]
+#[derive(Drop)]
 pub enum File {
     /// An election file.
     Setup(Setup),

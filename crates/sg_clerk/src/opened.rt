@@ -7,7 +7,7 @@ use sg_office::{Office, OpenFault};
 use std::alloc::Global;
 
 /// What the rows of a keeper are.
-#[derive(Debug, Drop)]
+#[derive(Drop)]
 pub enum Opened {
     /// Those of an office.
     Office(Office),

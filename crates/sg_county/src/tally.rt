@@ -22,7 +22,7 @@ use std::mem;
 const MOST_PARTS: u32 = 100;
 
 /// A pass over the records of a county, one after another, which keeps none of their lines.
-#[derive(Debug, Drop)]
+#[derive(Drop)]
 pub struct Tally {
     /// The pass over the last part's lines.
     pass: Pass,

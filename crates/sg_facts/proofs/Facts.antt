@@ -17,7 +17,7 @@ use Rattle.sg_grammar.specs.Placed.{Placed}
 use Rattle.sg_grammar.specs.Placed.Placed.{Begun, FlagsAt, OfPlan, OverAt, PaperAt, PlacesAt, RowAt, RowCommitAt, TotalAt}
 use Rattle.sg_grammar.specs.declared.state.Block.{Block}
 use Rattle.sg_grammar.specs.declared.state.Block.TheVariants as block
-use Rattle.sg_record.specs.Lines.{indexed, plan_lines, signs_on}
+use Rattle.sg_record.specs.Lines.{bit_sign, indexed, plan_lines, signs_on}
 use Rattle.sg_record.specs.Places.{block_places, cast_race_places, code_place, commit_places, dispute_places, draw_place, fate_places, flag_place, flag_places, opening_places, paper_places, places_in, race_code_commit_places, race_result_places, race_row_commit_places, race_row_places, result_places, row_commit_place, row_place, seal_place, set_places, total_place}
 use Rattle.sg_record.specs.declared.record.BallotBlock.{BallotBlock}
 use Rattle.sg_record.specs.declared.record.BlockFate.{BlockFate}
@@ -28,16 +28,13 @@ use Rattle.sg_record.specs.declared.record.RowCommit.{RowCommit}
 use Rattle.sg_check.specs.Completions.{half_commitment, opened_on, posted_half, posts_half}
 use Rattle.sg_check.specs.Facts.{commits_left, commits_right, first_given, flags_row, is_flagged, is_set, known_code, sets_place, shows_code}
 use Rattle.sg_check.specs.Printings.{marked_code, posts_code}
-use Rattle.sg_post.proofs.Each.{EachOf, of-append}
-use Rattle.sg_accepted.proofs.BitsFound.{bits-found}
-use Rattle.sg_accepted.proofs.Fronts.{any-at, any-before, any-behind, given-behind}
-use Rattle.sg_accepted.proofs.Given.{given-before}
-use Rattle.sg_accepted.proofs.Joining.{of-none}
-use Rattle.sg_accepted.proofs.Side.{given-of}
+use Rattle.sg_check.proofs.BitsFound.{bits-found}
+use Rattle.sg_check.proofs.Fronts.{any-at, any-before, any-behind, given-before, given-behind}
 use Rattle.sg_facts.specs.Items.{item_in, row_in}
 use Rattle.sg_facts.specs.Laws.{FactsAreListed}
 use Rattle.sg_facts.specs.Listed.{block_code, block_mark, code_shown, digest_on, dispute_code, fate_code, fate_mark}
 use Rattle.sg_facts.specs.Totals.{totals_candidate}
+use Rattle.sg_facts.proofs.Each.{EachOf, given-of, of-append, of-none}
 use Rattle.sg_facts.proofs.Finding.{any_indexed-at, first-at, given-append, of-each, given-filter, given-flat, given-map, given-same, nested-at, numbered-at}
 use Rattle.sg_facts.proofs.Sections.{ballots-of, codes-of, commits-of, disputes-of, draw-of, openings-of, plan-of, race_flags-of, race_results-of, race_sets-of, race_totals-of, results-of, seal_1-of, seal_2-of, seal_3-of}
 
@@ -61,6 +58,10 @@ ands_third : (a b c : Bool) → c ≡ false → ((a && b) && c) ≡ false
 ands_third true true c e = e
 ands_third true false c e = refl
 ands_third false b c e = refl
+
+is_sign : (b : Bool) → (bit_sign b == 0x31) ≡ b
+is_sign true = refl
+is_sign false = refl
 
 none_if : {B : Type 0} (b : Bool) (o : Option B) → b ≡ false → cond b o None ≡ None
 none_if b o e = rw e refl
@@ -223,7 +224,7 @@ module _ (posted : Record) where
           ∙ (any_indexed-at (flags_row race instance row) (flag_places race) 0 flags instance bits (ap (λ (l : List (List Bool)). slice_get l instance) flags_are ∙ found.1)
           (λ j list other. of-none (flags_row race instance row) (flag_places race j list) (line_fails j list (λ e. other (e ∙ from_none instance))))
           ∙ (ap (λ (i : ℕ). list_any (flags_row race instance row) (flag_places race i bits)) (sym (from_none instance))
-          ∙ (bits-found (flags_row race instance row) (λ line. FlagsAt race instance (64 * line) (signs_on bits line)) bits row
+          ∙ (bits-found bit_sign is_sign (flags_row race instance row) (λ line. FlagsAt race instance (64 * line) (signs_on bits line)) bits row
           (λ line. rw (eq-eqb race race refl, eq-eqb instance instance refl) refl) (slice_get_within bits row bit found.2)
           ∙ bit-of bits row bit found.2)))))
         where
@@ -253,7 +254,7 @@ module _ (posted : Record) where
       ∙ (any-behind test flags (sets ++ totals) (of-none test flags (race_flags-of (FailsBy test) race (slice_index_or posted.flags race []) (λ i f signs. refl)))
       ∙ (any-before test sets totals (of-none test totals (race_totals-of (FailsBy test) race (slice_index_or posted.totals race []) (λ c n. refl)))
       ∙ (ap (λ (l : List Bool). list_any test (set_places race l)) bits_are
-      ∙ (bits-found test (λ line. PlacesAt race (64 * line) (signs_on bits line)) bits at (λ line. rw (eq-eqb race race refl) refl) (slice_get_within bits at bit found.2)
+      ∙ (bits-found bit_sign is_sign test (λ line. PlacesAt race (64 * line) (signs_on bits line)) bits at (λ line. rw (eq-eqb race race refl) refl) (slice_get_within bits at bit found.2)
       ∙ bit-of bits at bit found.2)))))
 
   total : (race candidate count : ℕ) → race < length posted.plan.races → item_in posted.totals race candidate ≡ Some count → first_given (totals_candidate race candidate) (places_in posted) ≡ Some count

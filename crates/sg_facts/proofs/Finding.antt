@@ -7,10 +7,9 @@ use Rattle.std.specs.Prelude.{slice_get}
 use Rattle.sg_grammar.specs.Due.{each, numbered}
 use Rattle.sg_record.specs.Lines.{indexed}
 use Rattle.sg_check.specs.Facts.{first_given}
-use Rattle.sg_post.proofs.Each.{EachOf, of-append, of-numbered}
-use Rattle.sg_accepted.proofs.Fronts.{any-before, any-behind, given-behind, given-none}
-use Rattle.sg_accepted.proofs.Given.{given-before}
+use Rattle.sg_check.proofs.Fronts.{any-before, any-behind, given-before, given-behind, given-none}
 use Rattle.sg_facts.specs.Items.{item_in, row_in}
+use Rattle.sg_facts.proofs.Each.{EachOf, of-append, of-numbered}
 
 -- PROPERTIES OF EACH ITEM
 

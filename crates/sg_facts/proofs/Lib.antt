@@ -1,4 +1,5 @@
 -- The proofs of facts.
+pub mod Each
 pub mod Facts
 pub mod Finding
 pub mod Sections

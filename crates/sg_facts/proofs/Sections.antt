@@ -23,7 +23,7 @@ use Rattle.sg_record.specs.declared.record.BlockFate.{BlockFate}
 use Rattle.sg_record.specs.declared.record.BlockFate.TheVariants as fate
 use Rattle.sg_record.specs.declared.record.DisputeBlock.{DisputeBlock}
 use Rattle.sg_record.specs.declared.record.Record.{Record}
-use Rattle.sg_post.proofs.Each.{EachOf, of-all, of-append}
+use Rattle.sg_facts.proofs.Each.{EachOf, of-all, of-append}
 use Rattle.sg_facts.proofs.Finding.{of-each, of-flat_map, of-indexed}
 
 module _ (P : Placed → Type 0) where

@@ -1,12 +1,13 @@
 -- How a table of codes is filled.
-use Rattle.std.proofs.Common.{◌≡◌, ◌≢◌, ℕ, zero, suc, ◌+◌, ◌-◌, ◌<◌, ◌==◌, ◌⊎◌, nat_lt, Bool, true, false, ◌&&◌, cond, inl, inr, List, [], ◌∷◌, ◌++◌, length, replicate, Option, Some, None, refl, sym, subst, ap, ◌∙◌, arith}
+use Rattle.std.proofs.Common.{◌≡◌, ◌≢◌, ℕ, zero, suc, ◌+◌, ◌-◌, ◌*◌, ◌<◌, ◌==◌, ◌⊎◌, nat_lt, Bool, true, false, ◌&&◌, cond, inl, inr, List, [], ◌∷◌, ◌++◌, length, replicate, Option, Some, None, refl, sym, subst, ap, ◌∙◌, arith}
 use Rattle.std.specs.Option.{option_and_then, option_map, option_map_or}
 use Rattle.std.specs.Prelude.{IsSome, slice_get, slice_set}
-use Rattle.std.proofs.lemmas.Bool.{and_parts, cases_eq, eq-eqb, eqb-true, lt-ltb, ne_eqb}
-use Rattle.std.proofs.lemmas.Option.{same_Some, slice_get_within}
+use Rattle.std.proofs.lemmas.Bool.{and_parts, cases_eq, cases_lt, eq-eqb, eqb-true, lt-ltb, ne_eqb}
+use Rattle.std.proofs.lemmas.Option.{same_Some, slice_get_past, slice_get_within}
 use Rattle.std.specs.List.{list_all}
-use Rattle.sg_plan.specs.Ballots.{ballot_has, candidates_of, entries_of, entry_at}
+use Rattle.sg_plan.specs.Ballots.{ballot_has, candidates_of, entries_of, entry_at, rows_of}
 use Rattle.sg_plan.specs.declared.plan.Plan.{Plan}
+use Rattle.sg_plan.specs.declared.plan.Race.{Race}
 use Rattle.sg_forms.specs.declared.line.CodeLine.{CodeLine}
 use Rattle.sg_grammar.specs.Due.{ballot_codes, code_line, each, race_codes}
 use Rattle.sg_grammar.specs.Walk.{in_order, is_column, is_later}
@@ -20,12 +21,23 @@ use Rattle.sg_record.specs.declared.record.BallotBlock.{BallotBlock}
 use Rattle.sg_record.specs.declared.record.BlockFate.TheVariants as fate
 use Rattle.sg_record.specs.declared.record.DisputeBlock.{DisputeBlock}
 use Rattle.sg_check.specs.Facts.{first_given}
-use Rattle.sg_post.proofs.Each.{EachOf, of-numbered}
 use Rattle.sg_facts.specs.Items.{item_in}
 use Rattle.sg_facts.specs.Listed.{code_shown}
 use Rattle.sg_facts.specs.Tables.{HasTable}
 use Rattle.sg_facts.specs.inside.Putting.{AreDisputes, AreFates, AreOwn, IsSized, Puts, or_code, put_at, told, with_first}
+use Rattle.sg_facts.proofs.Each.{EachOf, of-numbered}
 use Rattle.sg_facts.proofs.Finding.{given-append}
+
+-- only a race of the plan has entries
+pub has_entries : (plan : Plan) (race : ℕ) {entry : ℕ} → entry < entries_of plan race → race < length plan.races
+has_entries plan race below =
+    elim (cases_lt race (length plan.races)) [
+      | inl within ↦ within
+      | inr past ↦
+          let none : candidates_of plan race ≡ 0 = ap (λ o. option_map_or (λ (r : Race). length r.candidates) o 0) (slice_get_past plan.races race past) in
+          let empty : entries_of plan race ≡ rows_of plan race * 0 = ap (λ (count : ℕ). rows_of plan race * count) none in
+          absurd (omega (arith, empty, below))
+    ]
 
 -- ONE LIST
 

@@ -23,7 +23,7 @@ pub struct Claim {
 }
 
 /// All that an office keeps of an election.
-#[derive(Debug, Drop)]
+#[derive(Drop)]
 pub struct Kept {
     /// The plan, the seed and the stations' secrets.
     pub setup: Setup,

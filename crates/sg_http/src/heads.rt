@@ -44,11 +44,13 @@ fn count_feeds(bytes: &[u8]) -> usize
     bytes.iter().filter(|b| **b == b'\n').count()
 }
 
-/// Whether there is a line feed.
-fn has_feed(bytes: &[u8]) -> bool
-    ensures { result ≡ false → feeds bytes.now ≡ 0 }
+/// Whether the first `end` bytes are to be judged behind the read that brought the last of them: it brought a line feed, or
+/// they are twice as many as those that were judged before. So a head is judged as often as it has line feeds, and bytes that
+/// can begin none are not waited on for one.
+fn is_due(brought: &[u8], end: usize, judged: usize) -> bool
+    ensures { result ≡ false → feeds brought.now ≡ 0 }
 {
-    count_feeds(bytes) != 0
+    count_feeds(brought) != 0 || judged <= end / 2
 }
 
 /// What is found in bytes at whose front no head stands, if that is settled.
@@ -121,6 +123,7 @@ pub fn read_start<L: Links>(links: &mut L, buf: &mut [u8], headers: &mut [Header
     ensures opened { L.is_open links.new ≡ true }
 {
     let mut end = 0;
+    let mut judged = 0;
     loop {
         let Ok(count) = read_more(links, buf, end, HEAD_LIMIT) else {
             return Start {
@@ -136,10 +139,10 @@ pub fn read_start<L: Links>(links: &mut L, buf: &mut [u8], headers: &mut [Header
                 is_ended: true,
             };
         }
-        let brought = has_feed(&buf[end..end + count]);
+        let due = is_due(&buf[end..end + count], end + count, judged);
         end += count;
         let is_full = end == HEAD_LIMIT;
-        if brought || is_full {
+        if due || is_full {
             if let Some(found) = judge(&buf[..end], headers, is_full) {
                 return Start {
                     found,
@@ -147,6 +150,7 @@ pub fn read_start<L: Links>(links: &mut L, buf: &mut [u8], headers: &mut [Header
                     is_ended: false,
                 };
             }
+            judged = end;
         }
     }
 }

@@ -1,6 +1,7 @@
 //! The verdict on a text in memory, in one pass.
 ghost use Rattle.std.specs.Prelude.{◌≡◌, ◌≤◌, List, IfOk, length, true};
 ghost use Rattle.sg_outside.specs.TextLines.{lines_of};
+ghost use Rattle.sg_check.specs.Bounds.{IsSoundIfYes};
 ghost use Rattle.sg_check.specs.Verdict.{IsVerdict};
 ghost use Rattle.sg_pass.specs.Pass.{is_ready};
 ghost use Rattle.sg_judge.specs.inside.Feeding.{IsFed};
@@ -11,9 +12,19 @@ use sg_pass::{Pass, Step};
 use sg_plan::NoMemory;
 use std::alloc::Global;
 
-/// The verdict on the bytes of a record, as `sg_check::verdict` has it, in time linear in their number. Only want of
-/// memory is refused.
+/// The verdict on the bytes of a record, with what a yes promises, in time linear in their number. Only want of memory is
+/// refused.
+///
+/// A line ends at each line feed, and bytes behind the last one are a line of their own.
 pub fn judge(alloc: Global, text: &[u8]) -> Result<Judged, NoMemory>
+    ensures verdict { IfOk result (λ judged. IsVerdict (lines_of text.now) judged) }
+    ensures sound { IfOk result (λ judged. IsSoundIfYes (lines_of text.now) judged) }
+{
+    judge_lines(alloc, text)
+}
+
+/// The verdict on the bytes, line by line.
+fn judge_lines(alloc: Global, text: &[u8]) -> Result<Judged, NoMemory>
     ensures { IfOk result (λ judged. IsVerdict (lines_of text.now) judged) }
 {
     let mut pass = Pass::new(alloc)?;

@@ -18,6 +18,14 @@ fn behind(text: &[u8], count: usize) -> &[u8] {
     &text[count..]
 }
 
+/// So many bytes at the text's front.
+fn front(text: &[u8], count: usize) -> &[u8] {
+    if count > text.len() {
+        return text;
+    }
+    &text[..count]
+}
+
 /// The text without its last byte.
 fn cut(text: &[u8]) -> &[u8] {
     match text.split_last() {
@@ -69,6 +77,9 @@ fn other_texts_get_no(rt: HostRuntime) -> Result<(), Fail> {
             3,
             Kind::Form,
         ),
+        (front(record(), 10), 1, Kind::Form),
+        (front(record(), 16), 2, Kind::Form),
+        (front(record(), 1000), 24, Kind::Form),
         (cut(record()), 24, Kind::Form),
         (behind(record(), 15), 1, Kind::Form),
     ] {

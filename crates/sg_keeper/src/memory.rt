@@ -19,7 +19,7 @@ use std::marker::Model;
 /// A change takes the same time however many rows are kept: its rows go behind those that came before. They are put in
 /// their places by their keys when the rows are loaded. This takes the time of a sort, where no row that the keeper was
 /// given has a lower key than the one before it, and else time linear in the rows for each of them.
-#[derive(Debug, Drop)]
+#[derive(Drop)]
 pub struct MemoryKeeper {
     alloc: Global,
     /// The rows that it was given, with the setup.

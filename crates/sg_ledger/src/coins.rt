@@ -8,7 +8,7 @@ use std::marker::Model;
 
 /// The coins of a seed, seen as the seed. The coin of one row is drawn ahead, by a reader that stands behind it: rows
 /// that follow one another take their coins from one walk of their instance's stream.
-#[derive(Debug, Drop)]
+#[derive(Drop)]
 pub struct Walk {
     seed: Seed,
     race: u32,

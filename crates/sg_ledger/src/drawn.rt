@@ -15,7 +15,7 @@ use sg_plan::limits::MOST_PUBLIC_BYTES;
 use sg_streams::{Seed, coin_key};
 
 /// Whether both sides of each row are drawn, and the coins, where public bytes were drawn.
-#[derive(Debug, Drop)]
+#[derive(Drop)]
 pub struct Drawn {
     /// Both sides of each row are opened.
     pub full: bool,

@@ -39,7 +39,7 @@ const CANDIDATES: usize = MOST_CANDIDATES;
 const INSTANCES: usize = MOST_INSTANCES as usize;
 
 /// What the lines of a record have said so far.
-#[derive(Debug, Drop)]
+#[derive(Drop)]
 pub struct Ledger {
     sizes: Sizes,
     /// The ballots of the plan.

@@ -2,20 +2,18 @@
 #![tactic(auto)]
 
 mod causes;
-mod file_keeper;
-#[cfg(test)]
-mod file_keeper_tests;
-mod streams;
-mod tcp_links;
+mod status;
+mod words;
 
 use causes::say_why;
-use file_keeper::FileKeeper;
 use sg_app::run;
-use sg_plan::{Items, NoMemory, Word};
+use sg_file::FileKeeper;
+use sg_plan::{Items, Word};
+use sg_system::{Descriptors, StdSink, StdSource, TcpLinks};
+use sg_words::command_of;
+use status::ending;
 use std::process::ExitCode;
-use std::{env, io};
-use streams::{StdSink, StdSource};
-use tcp_links::TcpLinks;
+use words::{WordFault, words_of};
 
 /// The status for words that are no command's.
 const BAD_WORDS: u8 = 2;
@@ -23,54 +21,35 @@ const BAD_WORDS: u8 = 2;
 /// The status for want of memory.
 const WANT_OF_MEMORY: u8 = 9;
 
-/// Why the words after the program's name were not had.
-enum WordFault {
-    /// A word is not UTF-8.
-    NotText,
-    /// Memory was wanted and not found.
-    NoMemory,
-}
-
-impl From<NoMemory> for WordFault {
-    ghost use Rattle.std.specs.Prelude.{◌≡◌};
-    ghost use Rattle.sg_main.specs.declared.WordFault.TheVariants.{NoMemory};
-
-    ghost from_gives = { λ _ e. e ≡ NoMemory };
-
-    fn from(_: NoMemory) -> WordFault {
-        WordFault::NoMemory
+/// Whether the words are a command's whose output may be held.
+fn may_hold(rt: &HostRuntime, words: &Items<Word>) -> bool {
+    match command_of(rt.alloc(), words) {
+        Ok(Some(command)) => command.may_hold_output(),
+        _ => false,
     }
 }
 
-impl From<io::Error> for WordFault {
-    fn from(error: io::Error) -> WordFault {
-        match error.kind() {
-            io::ErrorKind::OutOfMemory => WordFault::NoMemory,
-            _ => WordFault::NotText,
-        }
+/// Standard output, held where that is wanted and there is memory for it. Else each line is written at once, which takes
+/// longer and changes nothing else.
+fn output(rt: &HostRuntime, is_held: bool) -> StdSink {
+    if is_held && let Ok(sink) = StdSink::held(rt.alloc(), rt.stdout()) {
+        return sink;
     }
-}
-
-/// The words after the program's name.
-fn words_of(rt: &HostRuntime) -> Result<Items<Word>, WordFault> {
-    let mut words = Items::new(rt.alloc());
-    for text in env::args(rt)?.skip(1) {
-        let mut word = Word::new(rt.alloc());
-        word.extend(text.as_bytes())?;
-        words.push(word)?;
-    }
-    Ok(words)
+    StdSink::at_once(rt.alloc(), rt.stdout())
 }
 
 fn main(rt: HostRuntime) -> ExitCode {
+    let _descriptors = Descriptors::hold(&rt);
+    let words = words_of(&rt);
+    let is_held = words.as_ref().is_ok_and(|words| may_hold(&rt, words));
     let mut input = StdSource::new(rt.stdin());
     let mut keeper = FileKeeper::new(&rt);
     let mut links = TcpLinks::new(&rt);
-    let mut out = StdSink::new(rt.stdout());
-    let status = match words_of(&rt) {
+    let mut out = output(&rt, is_held);
+    let status = match &words {
         Ok(words) => run(
             rt.alloc(),
-            &words,
+            words,
             &mut input,
             &mut keeper,
             &mut links,
@@ -79,6 +58,8 @@ fn main(rt: HostRuntime) -> ExitCode {
         Err(WordFault::NotText) => BAD_WORDS,
         Err(WordFault::NoMemory) => WANT_OF_MEMORY,
     };
-    say_why(&rt, status, &input, &links, &out);
+    links.close();
+    let status = ending(status, out.flush());
+    say_why(&rt, status, &input, &keeper, &links, &out);
     ExitCode::from(status)
 }

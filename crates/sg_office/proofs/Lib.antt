@@ -10,5 +10,4 @@ mod Stands
 mod Turns
 mod NoStore
 mod Told
-mod Totals
 mod NothingKept

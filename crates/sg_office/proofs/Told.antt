@@ -14,8 +14,8 @@ use Rattle.sg_tables.specs.Posts.{right_word}
 use Rattle.sg_tables.proofs.Lists.{map_below-none, map_below-push}
 use Rattle.sg_keeper.specs.declared.asks.Act.TheVariants as act
 use Rattle.sg_keeper.specs.declared.setup.Setup.{Setup}
-use Rattle.sg_post.specs.Posting.{IsPosting}
-use Rattle.sg_post.specs.declared.posting.Posting.{Posting}
+use Rattle.sg_post.proofs.Stories.{story-parts}
+use Rattle.sg_post.specs.Fits.{fates_fit, story_fits}
 use Rattle.sg_post.specs.declared.story.Claimed.{Claimed}
 use Rattle.sg_post.specs.declared.story.Story.{Story}
 use Rattle.sg_post.specs.declared.story.Told.{Told}
@@ -128,7 +128,8 @@ story_told kept history stands =
     with_all : List Told → Stage → List Claimed → Story
     with_all fates stage answers = record { fates = fates; stage = stage; claims = answers }
 
-pub posting_now : (kept : Kept) (history : List Entry) (posting : Posting) → StandsFor kept history → IsPosting kept.setup.plan kept.setup.seed.0 (story_of kept.setup history).fates posting
-    → IsPosting kept.setup.plan kept.setup.seed.0 (told_fates kept.setup.plan (fate_at kept.slots)) posting
-posting_now kept history posting stands is =
-    subst (λ (fates : List Told). IsPosting kept.setup.plan kept.setup.seed.0 fates posting) (sym (ap (λ (s : Story). s.fates) (story_told kept history stands))) is
+-- and its fates fit the plan, as those of the story do
+pub fates_fit_now : (kept : Kept) (history : List Entry) → StandsFor kept history → story_fits kept.setup.plan (story_of kept.setup history) ≡ true
+    → fates_fit kept.setup.plan 0 (told_fates kept.setup.plan (fate_at kept.slots)) ≡ true
+fates_fit_now kept history stands fit =
+    subst (λ (s : Story). fates_fit kept.setup.plan 0 s.fates ≡ true) (sym (story_told kept history stands)) (story-parts kept.setup.plan (story_of kept.setup history) fit).fates

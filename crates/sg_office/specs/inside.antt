@@ -1,4 +1,3 @@
 -- What only private clauses cite. Nobody need believe it.
-pub mod Looks
 pub mod Now
 pub mod Ready

@@ -22,7 +22,7 @@ use sg_plan::{NoMemory, Stage, Word};
 use std::alloc::Global;
 
 impl Office {
-    /// Keeps an act on a ballot.
+    /// Keeps an act on a ballot. Totals that were counted are let go, since a fate changes.
     fn keep_ballot<K: Keeper>(
         &mut self,
         alloc: Global,
@@ -45,6 +45,7 @@ impl Office {
     {
         match keep(alloc, &mut self.dones, keeper, change) {
             Ok(()) => {
+                self.totals = None;
                 self.slots.replace(ballot as usize - 1, slot);
                 Ok(())
             }

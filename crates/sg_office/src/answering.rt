@@ -12,7 +12,7 @@ ghost use Rattle.sg_histories.specs.Lawful.{IsAskable};
 ghost use Rattle.sg_histories.specs.Standing.{StandsFor};
 ghost use Rattle.sg_office.specs.inside.Now.{FitsBody, fate_at as fate_in, refusal_now};
 
-use crate::looks::{all_totals, receipt};
+use crate::looks::{copy_totals, receipt};
 use crate::office::Office;
 use crate::refusals::{
     audit_refusal, claim_refusal, close_refusal, draw_refusal, early_refusal, is_ballot,
@@ -20,10 +20,13 @@ use crate::refusals::{
 };
 use crate::slots::{fate_at, phase_word, scanner_at, word_at};
 use crate::stamps::knows_secret;
+use crate::stories::tell_fates;
 use sg_desks::laws::texts_law;
 use sg_desks::{act_text, claim_word, paper_matches};
+use sg_histories::laws::stories_law;
 use sg_keeper::{Act, Body, Look, Phase, Reply, Stamp};
-use sg_plan::{ClaimWord, Fate, NoMemory, Word};
+use sg_plan::{ClaimWord, Fate, Items, NoMemory, Word};
+use sg_post::total_fates;
 use std::alloc::Global;
 
 impl Office {
@@ -170,19 +173,35 @@ impl Office {
         Ok(Reply::Done(Body::Receipt(receipt)))
     }
 
-    /// The reply to a look at the totals, once votes are counted: those that are posted.
-    fn totals(&self, alloc: Global) -> Result<Reply, NoMemory>
-        ensures { IfOk result (λ reply. reply ≡ Reply.Done (body.Totals (totals_of self.now.setup.plan self.now.setup.seed.0 (fate_in self.now.slots)))) }
+    /// The totals that the fates of the ballots make. No flag is made for them, and no claim is answered.
+    fn count_totals(&self, alloc: Global) -> Result<Items<Items<u32>>, NoMemory>
+        ensures { IfOk result (λ totals. totals ≡ totals_of self.now.setup.plan self.now.setup.seed.0 (fate_in self.now.slots)) }
     {
         self.office_law();
-        let posting = self.posting(alloc)?;
-        let totals = all_totals(alloc, self.tables(), &posting)?;
-        Ok(Reply::Done(Body::Totals(totals)))
+        stories_law();
+        let fates = tell_fates(alloc, &self.index, &self.slots)?;
+        total_fates(alloc, &self.tables, &self.index, &fates)
     }
 
-    /// The reply to a look.
-    pub(crate) fn look(&self, alloc: Global, look: &Look) -> Result<Reply, NoMemory>
-        ensures { IfOk result (λ reply. reply ≡ look_reply self.now.setup (phase_now self.now.stage) (fate_in self.now.slots) look.now) }
+    /// The totals that the fates of the ballots make. They are counted where no look has done so since a fate changed, and
+    /// else copied from those that were.
+    fn totals(&mut self, alloc: Global) -> Result<Items<Items<u32>>, NoMemory>
+        ensures totals { IfOk result (λ totals. totals ≡ totals_of self.old.setup.plan self.old.setup.seed.0 (fate_in self.old.slots)) }
+        ensures same { self.new ≡ self.old }
+    {
+        if let Some(totals) = &self.totals {
+            return copy_totals(alloc, totals);
+        }
+        let totals = self.count_totals(alloc)?;
+        let copy = copy_totals(alloc, &totals)?;
+        self.totals = Some(totals);
+        Ok(copy)
+    }
+
+    /// The reply to a look. Votes are counted from the close on; what was counted for a look is kept for later ones.
+    pub(crate) fn look(&mut self, alloc: Global, look: &Look) -> Result<Reply, NoMemory>
+        ensures reply { IfOk result (λ reply. reply ≡ look_reply self.old.setup (phase_now self.old.stage) (fate_in self.old.slots) look.now) }
+        ensures same { self.new ≡ self.old }
     {
         match phase_word(&self.stage) {
             Phase::Voting => return Ok(Reply::Phase(Phase::Voting)),
@@ -191,7 +210,7 @@ impl Office {
         }
         match look {
             Look::Receipt(ballot) => self.receipt(alloc, *ballot),
-            Look::Totals => self.totals(alloc),
+            Look::Totals => Ok(Reply::Done(Body::Totals(self.totals(alloc)?))),
         }
     }
 }

@@ -21,7 +21,7 @@ use std::marker::Model;
 /// An office. It keeps no list of the acts in their order.
 ///
 /// Contracts see it as what it keeps, and speak of each history that it stands for.
-#[derive(Debug, Drop)]
+#[derive(Drop)]
 pub struct Office {
     pub(crate) tables: Tables,
     pub(crate) index: BallotIndex,
@@ -30,12 +30,15 @@ pub struct Office {
     pub(crate) stage: Stage,
     pub(crate) claims: Items<Claim>,
     pub(crate) dones: DoneList,
+    /// The totals of the fates that are kept, once they were counted for a look.
+    pub(crate) totals: Option<Items<Items<u32>>>,
 }
 
 impl Model for Office {
     ghost use Rattle.std.specs.Prelude.{◌≡◌};
     ghost use Rattle.sg_histories.specs.declared.kept.Kept.{Kept};
     ghost use Rattle.sg_histories.specs.Standing.{IsOffice};
+    ghost use Rattle.sg_office.specs.inside.Now.{AreTotals};
 
     ghost Value = { Kept };
 
@@ -53,7 +56,7 @@ impl Model for Office {
       stage = o.stage;
       claims = o.claims;
       dones = o.dones;
-    }) × (o.index ≡ o.tables.plan) };
+    }) × (o.index ≡ o.tables.plan) × AreTotals o.tables.plan o.tables.seed o.slots o.totals };
 }
 
 impl Office {
@@ -86,6 +89,7 @@ impl Office {
             stage,
             claims,
             dones,
+            totals: None,
         })
     }
 

@@ -33,7 +33,7 @@ pub enum Step {
 ///
 /// The lines of the plan and the first line behind them are taken by `header_line`, up to the answer `Ready`, and all
 /// later ones by `line`.
-#[derive(Debug, Drop)]
+#[derive(Drop)]
 pub struct Pass {
     alloc: Global,
     expect: Expect,

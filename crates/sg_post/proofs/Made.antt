@@ -1,9 +1,10 @@
 -- What is made from marks is what the definitions say of them.
-use Rattle.std.proofs.Common.{◌≡◌, ℕ, zero, suc, ◌+◌, ◌%◌, ◌<◌, ◌≤◌, ◌==◌, Bool, true, false, ◌&&◌, ◌||◌, cond, List, [], ◌∷◌, ◌++◌, length, map, set, refl, sym, ap, ◌∙◌, arith}
+use Rattle.std.proofs.Common.{◌≡◌, ◌≢◌, inl, inr, get_or, length-set, ℕ, zero, suc, ◌+◌, ◌%◌, ◌<◌, ◌≤◌, ◌==◌, Bool, true, false, ◌&&◌, ◌||◌, cond, List, [], ◌∷◌, ◌++◌, length, map, set, refl, sym, ap, ◌∙◌, arith}
 use Rattle.std.specs.Prelude.{count_by, replicate, slice_index_or}
 use Rattle.std.specs.List.{list_any, range_with_len}
+use Rattle.std.proofs.lemmas.Bool.{cases_eq, eq-eqb, ne_eqb}
 use Rattle.std.proofs.lemmas.Bool.Decides.{nat_tests}
-use Rattle.std.proofs.lemmas.List.{get_or-replicate, length-replicate, same_lists}
+use Rattle.std.proofs.lemmas.List.{get_or-replicate, get_or-set_other, get_or-set_same, length-replicate, same_lists}
 use Rattle.std.proofs.lemmas.List.Folds.{list_any-append}
 use Rattle.std.proofs.lemmas.List.Sums.{count_by-le-length, sum_by-cons}
 use Rattle.sg_plan.proofs.Counting.{count_by-append}
@@ -17,7 +18,7 @@ use Rattle.sg_tables.specs.Tables.{left_of, path_of}
 use Rattle.sg_post.specs.Marks.{flag_of, is_audit, is_marked, is_set, total_of}
 use Rattle.sg_post.specs.Posted.{by_candidate, by_entry, by_row}
 use Rattle.sg_post.specs.Posting.{IsPosting, is_audited_ballot}
-use Rattle.sg_post.specs.inside.Making.{HaveEntries, flags_by, has_bit, is_vote, leads_to, of_race, race_flags_by, race_places_by, race_totals_by, total_by}
+use Rattle.sg_post.specs.inside.Making.{HaveEntries, flags_by, has_bit, is_vote, leads_to, of_race, race_flags_by, race_places_by, race_totals_by, total_by, votes_by}
 use Rattle.sg_post.specs.declared.posting.Posting.{Posting}
 use Rattle.sg_post.specs.declared.story.Told.{Told}
 use Rattle.sg_post.proofs.Kept.{map-same}
@@ -104,21 +105,63 @@ totals-are plan seed fates =
     ∙ count-same (is_vote (of_race places race) (candidates_of plan race) candidate) (λ place. place % candidates_of plan race == candidate && is_set plan seed fates race place) (entries_of plan race)
     (λ place below. ap (λ (b : Bool). place % candidates_of plan race == candidate && b) (race-bit plan (is_set plan seed fates) race place within below))))
 
--- VOTES, one after another
+-- VOTES, place after place
 
-pub votes-none : (p : ℕ → Bool) → 0 ≡ count_by p (numbers_below 0)
-votes-none p = sym (ap (count_by p) numbers_below-none)
+and_false : (b : Bool) → (b && false) ≡ false
+and_false true = refl
+and_false false = refl
 
-votes-push : (p : ℕ → Bool) (n : ℕ) → count_by p (numbers_below (n + 1)) ≡ count_by p (numbers_below n) + tally (p n)
+pub votes-push : (p : ℕ → Bool) (n : ℕ) → count_by p (numbers_below (n + 1)) ≡ count_by p (numbers_below n) + tally (p n)
 votes-push p n =
     let one : count_by p (n ∷ []) ≡ tally (p n) + 0 = sum_by-cons (λ (k : ℕ). tally (p k)) n [] in
     ap (count_by p) (numbers_below-push n) ∙ (count_by-append p (numbers_below n) (n ∷ []) ∙ omega (arith, one))
 
-pub votes-more : (p : ℕ → Bool) (n count : ℕ) → p n ≡ true → count ≡ count_by p (numbers_below n) → count + 1 ≡ count_by p (numbers_below (n + 1))
-votes-more p n count is so_far = let here : tally (p n) ≡ 1 = ap tally is in omega (arith, votes-push p n, here, so_far)
+-- no place has no votes
+pub votes-none : (places : List Bool) (candidates : ℕ) → replicate candidates 0 ≡ votes_by places candidates 0
+votes-none places candidates =
+    let none : ℕ → ℕ = λ candidate. count_by (is_vote places candidates candidate) (numbers_below 0) in
+    same_lists (replicate candidates 0) (map none (numbers_below candidates)) (length-replicate {A = ℕ} candidates 0 ∙ sym (length-map_below none candidates))
+    (λ k d inside.
+    let less : k < candidates = omega (arith, inside, length-replicate {A = ℕ} candidates 0) in
+    get_or-replicate {A = ℕ} candidates k 0 d less ∙ (sym (ap (count_by (is_vote places candidates k)) numbers_below-none) ∙ sym (get_or-map_below none candidates k d less)))
 
-pub votes-same : (p : ℕ → Bool) (n count : ℕ) → p n ≡ false → count ≡ count_by p (numbers_below n) → count ≡ count_by p (numbers_below (n + 1))
-votes-same p n count is so_far = let here : tally (p n) ≡ 0 = ap tally is in omega (arith, votes-push p n, here, so_far)
+-- a place that is not set is no vote
+pub votes-unset : (places : List Bool) (candidates place : ℕ) → has_bit places place ≡ false → votes_by places candidates place ≡ votes_by places candidates (place + 1)
+votes-unset places candidates place unset =
+    map-same (λ candidate. count_by (is_vote places candidates candidate) (numbers_below place)) (λ candidate. count_by (is_vote places candidates candidate) (numbers_below (place + 1))) candidates 0
+    (λ candidate less.
+    let here : tally (is_vote places candidates candidate place) ≡ 0 = ap (λ (b : Bool). tally (place % candidates == candidate && b)) unset ∙ ap tally (and_false (place % candidates == candidate)) in
+    omega (arith, votes-push (is_vote places candidates candidate) place, here))
+
+-- an item that is put into a list made number by number
+set-item : (f g : ℕ → ℕ) (n at value : ℕ) → at < n → value ≡ g at → ((k : ℕ) → k ≢ at → f k ≡ g k) → set (map f (numbers_below n)) at value ≡ map g (numbers_below n)
+set-item f g n at value within own others =
+    let list = map f (numbers_below n) in
+    let long : length (set list at value) ≡ n = length-set list at value ∙ length-map_below f n in
+    same_lists (set list at value) (map g (numbers_below n)) (long ∙ sym (length-map_below g n))
+    (λ k d inside.
+    let less : k < n = omega (arith, inside, long) in
+    elim (cases_eq k at) [
+      | inl here ↦
+          ap (λ (j : ℕ). get_or (set list at value) j d) here
+          ∙ (get_or-set_same list at value d (omega (arith, within, length-map_below f n))
+          ∙ (own ∙ (ap g (sym here) ∙ sym (get_or-map_below g n k d less))))
+      | inr other ↦ get_or-set_other list at k value d other ∙ (get_or-map_below f n k d less ∙ (others k other ∙ sym (get_or-map_below g n k d less)))
+    ])
+
+-- a place that is set is a vote for the candidate of its column
+pub votes-set : (places : List Bool) (candidates place : ℕ) → has_bit places place ≡ true → place % candidates < candidates
+    → set (votes_by places candidates place) (place % candidates) (get_or (votes_by places candidates place) (place % candidates) 0 + 1) ≡ votes_by places candidates (place + 1)
+votes-set places candidates place is within =
+    let before : ℕ → ℕ = λ candidate. count_by (is_vote places candidates candidate) (numbers_below place) in
+    let after : ℕ → ℕ = λ candidate. count_by (is_vote places candidates candidate) (numbers_below (place + 1)) in
+    let at : ℕ = place % candidates in
+    let one : tally (is_vote places candidates at place) ≡ 1 = ap (λ (b : Bool). tally (at == at && b)) is ∙ ap (λ (b : Bool). tally (b && true)) (eq-eqb at at refl) in
+    ap (λ n. set (map before (numbers_below candidates)) at (n + 1)) (get_or-map_below before candidates at 0 within)
+    ∙ set-item before after candidates at (before at + 1) within (omega (arith, votes-push (is_vote places candidates at) place, one))
+    (λ k other.
+    let none : tally (is_vote places candidates k place) ≡ 0 = ap (λ (b : Bool). tally (b && has_bit places place)) (ne_eqb at k (λ same. other (sym same))) in
+    omega (arith, votes-push (is_vote places candidates k) place, none))
 
 -- AUDITED BALLOTS
 
@@ -149,10 +192,6 @@ audited-next fates told n false is below =
     ∙ ap (λ (b : Bool). is_audited_ballot fates k || ((told.ballot == k && b) || false)) (sym is)
     ∙ ap (λ (b : Bool). is_audited_ballot fates k || (b || false)) (and_false (told.ballot == k))
     ∙ or_false (is_audited_ballot fates k)))
-  where
-    and_false : (b : Bool) → (b && false) ≡ false
-    and_false true = refl
-    and_false false = refl
 
 pub audited-none : (n : ℕ) → replicate n false ≡ map (is_audited_ballot []) (numbers_below n)
 audited-none n =
@@ -185,6 +224,8 @@ posting-lists plan seed fates posting is =
           ∙ (ap length (get_or-map_below totals (length plan.races) race [] within) ∙ length-map_below (total_of plan seed fates race) (candidates_of plan race));
     }
 
--- no more votes than places
-pub votes-few : (p : ℕ → Bool) (n : ℕ) → count_by p (numbers_below n) ≤ n
-votes-few p n = omega (arith, count_by-le-length p (numbers_below n), length-numbers_below n)
+-- no candidate has more votes than there were places
+pub votes-few : (places : List Bool) (candidates place at : ℕ) → at < candidates → get_or (votes_by places candidates place) at 0 ≤ place
+votes-few places candidates place at within =
+    let votes : ℕ → ℕ = λ candidate. count_by (is_vote places candidates candidate) (numbers_below place) in
+    omega (arith, get_or-map_below votes candidates at 0 within, count_by-le-length (is_vote places candidates at) (numbers_below place), length-numbers_below place)

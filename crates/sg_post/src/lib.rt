@@ -13,9 +13,11 @@ mod openings;
 mod posting;
 mod results;
 mod story;
+mod totals;
 mod walks;
 mod write;
 
 pub use posting::Posting;
 pub use story::{Claimed, Story, Told};
+pub use totals::total_fates;
 pub use write::write_posted;

@@ -1,8 +1,8 @@
-//! Flags, places and totals, made from marks.
-ghost use Rattle.std.specs.Prelude.{◌≡◌, ◌<◌, ◌≤◌, ◌^◌, if◌then◌else◌, true, length, map, slice_set, IfOk};
+//! Flags and places, made from marks.
+ghost use Rattle.std.specs.Prelude.{◌≡◌, ◌<◌, ◌≤◌, if◌then◌else◌, true, length, map, slice_set, IfOk};
 ghost use Rattle.sg_plan.specs.Ballots.{entries_of};
 ghost use Rattle.sg_streams.specs.Numbers.{numbers_below};
-ghost use Rattle.sg_post.specs.inside.Making.{HaveEntries, flags_by, is_vote, places_by, race_flags_by, race_places_by, race_totals_by, total_by};
+ghost use Rattle.sg_post.specs.inside.Making.{HaveEntries, flags_by, places_by, race_flags_by, race_places_by};
 
 use crate::counts::{count_entries, count_instances, count_races};
 use sg_plan::{Items, NoMemory};
@@ -141,81 +141,4 @@ pub fn set_where(bits: &mut Items<bool>, at: usize, is_wanted: bool)
     if is_wanted {
         bits.replace(at, true);
     }
-}
-
-/// The totals of all races, by their places.
-pub fn total_races(
-    alloc: Global,
-    tables: &Tables,
-    places: &Items<Items<bool>>,
-) -> Result<Items<Items<u32>>, NoMemory>
-    requires { HaveEntries tables.now.plan places.now }
-    ensures { IfOk result (λ totals. totals ≡ map (race_totals_by tables.now.plan places.now) (numbers_below (length tables.now.plan.races))) }
-{
-    let count = count_races(tables);
-    let mut totals = Items::with_room(alloc, count as usize)?;
-    for race in 0..count {
-        totals.push(total_race(alloc, tables, race, places)?)?;
-    }
-    Ok(totals)
-}
-
-/// The totals of a race's candidates.
-fn total_race(
-    alloc: Global,
-    tables: &Tables,
-    race: u32,
-    places: &Items<Items<bool>>,
-) -> Result<Items<u32>, NoMemory>
-    requires race { race < length tables.now.plan.races }
-    requires places { HaveEntries tables.now.plan places.now }
-    ensures { IfOk result (λ totals. totals ≡ race_totals_by tables.now.plan places.now race) }
-{
-    let candidates = tables.plan().candidates(race) as u32;
-    let _ = count_entries(tables, race);
-    total_candidates(alloc, places.get(race as usize), candidates)
-}
-
-/// The totals of so many candidates.
-fn total_candidates(
-    alloc: Global,
-    places: &Items<bool>,
-    candidates: u32,
-) -> Result<Items<u32>, NoMemory>
-    requires few { length places.now < 2 ^ 32 }
-    ensures { IfOk result (λ totals. totals ≡ map (total_by places.now candidates) (numbers_below candidates)) }
-{
-    let mut totals = Items::with_room(alloc, candidates as usize)?;
-    for candidate in 0..candidates {
-        totals.push(count_votes(places, candidates, candidate))?;
-    }
-    Ok(totals)
-}
-
-/// How many of the places in a candidate's column are set.
-fn count_votes(places: &Items<bool>, candidates: u32, candidate: u32) -> u32
-    requires few { length places.now < 2 ^ 32 }
-    requires some { 0 < candidates }
-    ensures { result ≡ total_by places.now candidates candidate }
-{
-    let mut count = 0;
-    for place in 0..places.len() as u32 {
-        if !is_vote(places, candidates, candidate, place) {
-            continue;
-        }
-        count += 1;
-    }
-    count
-}
-
-/// The place is set, and in the candidate's column.
-fn is_vote(places: &Items<bool>, candidates: u32, candidate: u32, place: u32) -> bool
-    requires place { place < length places.now }
-    requires some { 0 < candidates }
-    ensures { result ≡ is_vote places.now candidates candidate place }
-{
-    if place % candidates != candidate {
-        return false;
-    }
-    *places.get(place as usize)
 }

@@ -45,7 +45,7 @@ fn is_audited(tables: &Tables, posting: &Posting, story: &Story, race: u32, entr
 }
 
 /// Walks over the openings of an instance's rows, and over the coins that say which side is opened.
-#[derive(Debug, Drop)]
+#[derive(Drop)]
 struct DrawnRows<'a> {
     openings: RowOpenings<'a>,
     coins: Coins,

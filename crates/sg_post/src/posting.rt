@@ -7,8 +7,9 @@ ghost use Rattle.sg_post.specs.Posting.{HasItem, HasItemIn, IsPosting};
 ghost use Rattle.sg_post.specs.declared.story.Told.{Told};
 
 use crate::ballot_marks::{audited_ballots, mark_races};
-use crate::making::{flag_races, place_races, total_races};
+use crate::making::{flag_races, place_races};
 use crate::story::Story;
+use crate::totals::total_races;
 use sg_plan::{BallotIndex, Items, NoMemory};
 use sg_tables::Tables;
 use std::alloc::Global;

@@ -9,7 +9,7 @@ use sg_record::RowOpening;
 use sg_tables::{LeftOpenings, RightOpenings, Tables};
 
 /// Walks over the openings of both pointers of an instance's rows.
-#[derive(Debug, Drop)]
+#[derive(Drop)]
 pub struct RowOpenings<'a> {
     pub lefts: LeftOpenings<'a>,
     pub rights: RightOpenings<'a>,

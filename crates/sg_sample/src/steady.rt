@@ -8,7 +8,7 @@ use std::alloc::Global;
 use std::marker::Model;
 
 /// A keeper in memory none of whose calls is told to fail. It refuses for want of memory alone.
-#[derive(Debug, Drop)]
+#[derive(Drop)]
 pub(crate) struct Steady {
     keeper: MemoryKeeper,
 }

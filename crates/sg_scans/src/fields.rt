@@ -13,7 +13,7 @@ use sg_plan::{NoMemory, Word};
 use std::alloc::Global;
 
 /// A record behind the first one.
-#[derive(Debug, Drop)]
+#[derive(Drop)]
 pub enum ScanLine {
     /// A scan.
     Good(Ask),

@@ -2,4 +2,5 @@
 pub mod Laws
 pub mod Tables
 pub mod Told
+pub mod Why
 pub mod inside

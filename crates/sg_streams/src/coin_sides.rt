@@ -36,7 +36,7 @@ pub fn side_of_word(word: u32) -> Side
 }
 
 /// A reader of an instance's coins, row after row.
-#[derive(Debug, Drop)]
+#[derive(Drop)]
 pub struct Coins {
     words: Words,
 }

@@ -7,7 +7,7 @@ use crate::seeds::Seed;
 use std::marker::Model;
 
 /// A reader of the keys of a stream in turn.
-#[derive(Debug, Drop)]
+#[derive(Drop)]
 pub struct Keys {
     words: Words,
 }

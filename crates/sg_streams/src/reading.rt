@@ -12,7 +12,7 @@ use std::marker::Model;
 /// A reader of the words of a stream in turn.
 ///
 /// Each block is computed once for its sixteen words, where [`word`] starts a generator for each word.
-#[derive(Debug, Drop)]
+#[derive(Drop)]
 pub struct Words {
     generator: ChaCha20Rng,
 }

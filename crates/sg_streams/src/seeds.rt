@@ -3,7 +3,7 @@ ghost use Rattle.std.specs.Prelude.{◌≡◌, ◌<◌, ◌≤◌, ◌^◌};
 ghost use Rattle.sg_streams.specs.Streams.{stream_number};
 
 /// What all words, keys, orders and codes of an office, or all coins of a draw, are made from.
-#[derive(Clone, Copy, Debug, PartialEq, Eq)]
+#[derive(Clone, Copy, PartialEq, Eq)]
 pub struct Seed(pub [u8; 32]);
 
 /// The number of a stream: `purpose · 2^48 + race · 2^32 + index`.

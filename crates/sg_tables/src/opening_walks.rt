@@ -12,7 +12,7 @@ use sg_streams::Keys;
 use std::marker::Model;
 
 /// A walk over what opens the commitments to the codes of a race's entries.
-#[derive(Debug, Drop)]
+#[derive(Drop)]
 pub struct QOpenings<'a> {
     tables: &'a Tables,
     race: u32,
@@ -66,7 +66,7 @@ impl<'a> QOpenings<'a> {
 }
 
 /// A walk over what opens the commitments to the left pointers of an instance's rows.
-#[derive(Debug, Drop)]
+#[derive(Drop)]
 pub struct LeftOpenings<'a> {
     tables: &'a Tables,
     race: u32,
@@ -125,7 +125,7 @@ impl<'a> LeftOpenings<'a> {
 }
 
 /// A walk over what opens the commitments to the right pointers of an instance's rows.
-#[derive(Debug, Drop)]
+#[derive(Drop)]
 pub struct RightOpenings<'a> {
     tables: &'a Tables,
     race: u32,

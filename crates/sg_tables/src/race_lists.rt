@@ -2,7 +2,7 @@
 use sg_plan::Items;
 
 /// What is kept of a race's tables. It has `K` candidates.
-#[derive(Debug, Drop)]
+#[derive(Drop)]
 pub struct RaceLists {
     /// `K`.
     pub candidates: u32,

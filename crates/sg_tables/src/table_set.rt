@@ -20,7 +20,7 @@ use std::marker::Model;
 /// The tables P, Q, R and S of an election.
 ///
 /// Contracts see them as the plan and the seed that they were made from.
-#[derive(Debug, Drop)]
+#[derive(Drop)]
 pub struct Tables {
     plan: Plan,
     seed: Seed,

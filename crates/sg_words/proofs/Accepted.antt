@@ -1,54 +1,52 @@
--- The accepted lists of words: `clap` takes each, and finds its command.
+-- The accepted lists of words: `clap` takes each, and finds its command; and each of its words is a text without a minus sign.
 use Rattle.std.specs.Option.{option_and_then, option_map}
-use Rattle.std.specs.Prelude.{if◌then◌else◌}
-use Rattle.std.proofs.Common.{◌≡◌, ℕ, ◌≤◌, Bool, true, false, List, [], ◌∷◌, codes, bytes_eq, Option, Some, None, IsSome, refl, sym, ap, ◌∙◌, subst}
+use Rattle.std.specs.Prelude.{if◌then◌else◌, nat_le, ◌&&◌}
+use Rattle.std.proofs.Common.{◌≡◌, ℕ, ◌≤◌, Bool, true, false, List, [], ◌∷◌, All, codes, bytes_eq, Option, Some, None, IsSome, refl, sym, ap, ◌∙◌, subst}
+use Rattle.std.proofs.lemmas.List.Elements.{All-cons, All-nil}
 use Rattle.std.proofs.lemmas.Slice.Eq.{bytes_eq-Decides}
 use Rattle.std.specs.Char.{encode_utf8}
 use Rattle.std.specs.Str.{chars, is_utf8}
 use Rattle.clap.specs.Words.{Row, Text, first_of, subcommand_of, takes}
 use Rattle.clap.proofs.OnLiterals.{clap_on_literals}
 use Rattle.sg_lines.specs.Words.{decimal_of}
-use Rattle.sg_words.specs.Command.{command_in, command_named, pair_named}
-use Rattle.sg_words.specs.Numbers.{sample_in, sample_with, service_in, service_with}
+use Rattle.sg_words.specs.Command.{Behind, Words, asked_behind, asked_in, command_in, commands, no_more, two_more}
+use Rattle.sg_words.specs.Numbers.{Range, ballots_range, count_range, number_in, pair_in, port_range, sample_in, sample_with, seed_range, service_in, service_with}
 use Rattle.sg_words.specs.declared.command.Command.{Command}
 use Rattle.sg_words.specs.declared.command.Command.TheVariants.{Sample, Serve}
 use Rattle.sg_words.specs.inside.App.{app}
-use Rattle.sg_words.specs.inside.Found.{are_three, command_found, rows_found, values_found}
+use Rattle.sg_words.specs.inside.Found.{are_two, command_found}
 use Rattle.sg_words.proofs.Digits.{by_digits, BeginsWithDigit, IsNumber, number-begins}
-use Rattle.sg_words.proofs.Plain.{IsPlain, literal}
-
--- ONE OF SEVERAL NAMES
-
--- a property of a word that has a command: it holds at the name, or the others say so
-pub named : (P : Text → Type 0) (name word : Text) (found rest : Option Command)
-    → (IsSome found → P name) → (IsSome rest → P word) → IsSome (if bytes_eq word name then found else rest) → P word
-named P name word found rest here others some = go (bytes_eq word name) refl some
-  where
-    go : (same : Bool) → bytes_eq word name ≡ same → IsSome (if same then found else rest) → P word
-    go true same some = subst P (sym ((bytes_eq-Decides word name).0 same)) (here some)
-    go false same some = others some
+use Rattle.sg_words.proofs.Plain.{IsPlain, literal, number_is_plain}
 
 -- TWO NUMBERS
 
-both_numbers : {X : Type 0} (make : ℕ → ℕ → Option X) (first second : Text)
-    → IsSome (option_and_then (λ n. option_and_then (make n) (decimal_of second)) (decimal_of first)) → IsNumber first × IsNumber second
-both_numbers make first second some = go (decimal_of first) (decimal_of second) refl refl some
+number_read : (range : Range) (word : Text) → IsSome (number_in range word) → IsNumber word
+number_read range word some = go (decimal_of word) refl some
   where
-    go : (left right : Option ℕ) → decimal_of first ≡ left → decimal_of second ≡ right
-        → IsSome (option_and_then (λ n. option_and_then (make n) right) left) → IsNumber first × IsNumber second
-    go None right left_is right_is some = cc some
-    go (Some n) None left_is right_is some = cc some
-    go (Some n) (Some m) left_is right_is some = ((n, left_is), (m, right_is))
+    go : (read : Option ℕ) → decimal_of word ≡ read
+        → IsSome (option_and_then (λ n. if nat_le range.least n && nat_le n range.most then Some n else None) read) → IsNumber word
+    go None is some = cc some
+    go (Some n) is some = (n, is)
+
+both_some : {X : Type 0} (made : ℕ → ℕ → X) (left right : Option ℕ) → IsSome (option_and_then (λ n. option_map (made n) right) left) → IsSome left × IsSome right
+both_some made None right some = cc some
+both_some made (Some n) None some = cc some
+both_some made (Some n) (Some m) some = (refl, refl)
+
+both_numbers : {X : Type 0} (first second : Range) (made : ℕ → ℕ → X) (left right : Text) → IsSome (pair_in first second made left right) → IsNumber left × IsNumber right
+both_numbers first second made left right some =
+    let both = both_some made (number_in first left) (number_in second right) some in
+    (number_read first left both.0, number_read second right both.1)
 
 before_map : {X Y : Type 0} (f : X → Y) (o : Option X) → IsSome (option_map f o) → IsSome o
 before_map f None some = cc some
 before_map f (Some x) some = refl
 
-pub service_numbers : (first second : Text) → IsSome (option_map Serve (service_in first second)) → IsNumber first × IsNumber second
-service_numbers first second some = both_numbers service_with first second (before_map Serve (service_in first second) some)
+service_numbers : (left right : Text) → IsSome (option_map Serve (service_in left right)) → IsNumber left × IsNumber right
+service_numbers left right some = both_numbers port_range count_range service_with left right (before_map Serve (service_in left right) some)
 
-pub sample_numbers : (first second : Text) → IsSome (option_map Sample (sample_in first second)) → IsNumber first × IsNumber second
-sample_numbers first second some = both_numbers sample_with first second (before_map Sample (sample_in first second) some)
+sample_numbers : (left right : Text) → IsSome (option_map Sample (sample_in left right)) → IsNumber left × IsNumber right
+sample_numbers left right some = both_numbers seed_range ballots_range sample_with left right (before_map Sample (sample_in left right) some)
 
 -- WHAT CLAP READS
 
@@ -56,24 +54,23 @@ sample_numbers first second some = both_numbers sample_with first second (before
 abbrev pub IsRead : List Text → Type 0
 IsRead words = (takes app words ≡ true) × (command_found words (subcommand_of app words) ≡ command_in words)
 
--- one word: it is a text without a minus sign too
+-- the words are read, and each is a text without a minus sign
+abbrev pub AreFine : List Text → Type 0
+AreFine words = IsRead words × All IsPlain words
 
-abbrev pub IsFine : Text → Type 0
-IsFine word = IsRead (word ∷ []) × IsPlain word
+-- all words that have this name, and ask for something by what stands behind it, are fine
+abbrev AreFineBehind : Text → Behind → Type 0
+AreFineBehind name (no_more command) = AreFine (name ∷ [])
+AreFineBehind name (two_more first second asked) = (left right : Text) → IsSome (asked left right) → AreFine (name ∷ left ∷ right ∷ [])
 
-pub words_are_fine : (word : Text) → IsSome (command_named word) → IsFine word
-unfolding clap_on_literals encode_utf8 chars is_utf8 app command_named rows_found
-words_are_fine word =
-    named IsFine (codes "audit") word _ _ (λ _. ((refl, refl), literal (codes "audit") refl (λ minus. cc minus)))
-    (named IsFine (codes "init") word _ _ (λ _. ((refl, refl), literal (codes "init") refl (λ minus. cc minus)))
-    (named IsFine (codes "sheet") word _ _ (λ _. ((refl, refl), literal (codes "sheet") refl (λ minus. cc minus)))
-    (named IsFine (codes "do") word _ _ (λ _. ((refl, refl), literal (codes "do") refl (λ minus. cc minus)))
-    (named IsFine (codes "record") word _ _ (λ _. ((refl, refl), literal (codes "record") refl (λ minus. cc minus)))
-    (named IsFine (codes "scans") word _ _ (λ _. ((refl, refl), literal (codes "scans") refl (λ minus. cc minus)))
-    (named IsFine (codes "recount") word _ _ (λ _. ((refl, refl), literal (codes "recount") refl (λ minus. cc minus)))
-    (named IsFine (codes "odds") word _ _ (λ _. ((refl, refl), literal (codes "odds") refl (λ minus. cc minus)))
-    (named IsFine (codes "county") word _ _ (λ _. ((refl, refl), literal (codes "county") refl (λ minus. cc minus)))
-    (λ none. cc none)))))))))
+abbrev EachIsFine : List Words → Type 0
+EachIsFine [] = Unit {0}
+EachIsFine (form ∷ forms) = AreFineBehind form.name form.behind × EachIsFine forms
+
+-- one word
+
+one_word : (name : Text) → IsPlain name → All IsPlain (name ∷ [])
+one_word name plain = All-cons IsPlain name [] plain (All-nil IsPlain)
 
 -- a name and two values
 
@@ -87,10 +84,10 @@ IsPairTaken name first second left right =
     × (values_in first second (subcommand_of app (name ∷ left ∷ right ∷ [])) ≡ Some (name, Some left, Some right))
 
 abbrev IsServeTaken : (p c : List ℕ) (d f : ℕ) → Type 0
-IsServeTaken p c d f = IsPairTaken (codes "serve") (codes "port") (codes "count") (d ∷ p) (f ∷ c)
+IsServeTaken p c d f = IsPairTaken (codes "serve") (codes "PORT") (codes "COUNT") (d ∷ p) (f ∷ c)
 
 serve_taken : (p c : List ℕ) (d f : ℕ) → 48 ≤ d → d ≤ 57 → 48 ≤ f → f ≤ 57 → IsServeTaken p c d f
-unfolding clap_on_literals app
+unfolding clap_on_literals app commands
 serve_taken p c d f low high low' high' =
     by_digits (λ x. IsServeTaken p c x f)
     (by_digits (IsServeTaken p c 48) (refl, refl) (refl, refl) (refl, refl) (refl, refl) (refl, refl) (refl, refl) (refl, refl) (refl, refl) (refl, refl) (refl, refl) f low' high')
@@ -106,10 +103,10 @@ serve_taken p c d f low high low' high' =
     d low high
 
 abbrev IsSampleTaken : (p c : List ℕ) (d f : ℕ) → Type 0
-IsSampleTaken p c d f = IsPairTaken (codes "sample") (codes "seed") (codes "ballots") (d ∷ p) (f ∷ c)
+IsSampleTaken p c d f = IsPairTaken (codes "sample") (codes "SEED") (codes "BALLOTS") (d ∷ p) (f ∷ c)
 
 sample_taken : (p c : List ℕ) (d f : ℕ) → 48 ≤ d → d ≤ 57 → 48 ≤ f → f ≤ 57 → IsSampleTaken p c d f
-unfolding clap_on_literals app
+unfolding clap_on_literals app commands
 sample_taken p c d f low high low' high' =
     by_digits (λ x. IsSampleTaken p c x f)
     (by_digits (IsSampleTaken p c 48) (refl, refl) (refl, refl) (refl, refl) (refl, refl) (refl, refl) (refl, refl) (refl, refl) (refl, refl) (refl, refl) (refl, refl) f low' high')
@@ -124,9 +121,9 @@ sample_taken p c d f low high low' high' =
     (by_digits (IsSampleTaken p c 57) (refl, refl) (refl, refl) (refl, refl) (refl, refl) (refl, refl) (refl, refl) (refl, refl) (refl, refl) (refl, refl) (refl, refl) f low' high')
     d low high
 
--- the three words are these
-three_here : (name left right : Text) → are_three (name ∷ left ∷ right ∷ []) name left right ≡ true
-three_here name left right = rw ((bytes_eq-Decides name name).1 refl, (bytes_eq-Decides left left).1 refl, (bytes_eq-Decides right right).1 refl) refl
+-- the two words are these
+two_here : (left right : Text) → are_two (left ∷ right ∷ []) left right ≡ true
+two_here left right = rw ((bytes_eq-Decides left left).1 refl, (bytes_eq-Decides right right).1 refl) refl
 
 nothing : {X : Type 0} (x : X) → None ≡ Some x → ⊥
 nothing x is = cc is
@@ -136,55 +133,124 @@ same_parts {X} {Y} a b c d e f is =
     let same : ◌≡◌ {A = X × Y × Y} (a, c, e) (b, d, f) = cc is in
     (ap (λ (p : X × Y × Y). p.0) same, ap (λ (p : X × Y × Y). p.1) same, ap (λ (p : X × Y × Y). p.2) same)
 
+-- what is found of the words of a name with two values
+abbrev Finds : Text → Text → Text → (Text → Text → Option Command) → Type 0
+Finds name first second asked = (left right : Text) (found : Text × List Row) → found.0 ≡ name → first_of first found.1 ≡ Some left
+    → first_of second found.1 ≡ Some right → command_found (name ∷ left ∷ right ∷ []) (Some found) ≡ asked left right
+
 -- the values that were found give the command of the three words
-pair_read : (name first second left right : Text) → ((words : List Text) (rows : List Row) → rows_found words name rows ≡ values_found words name first second rows)
-    → IsPairTaken name first second left right → IsRead (name ∷ left ∷ right ∷ [])
-pair_read name first second left right asks taken = (taken.0, go (subcommand_of app (name ∷ left ∷ right ∷ [])) taken.1)
+pair_read : (name first second left right : Text) (asked : Text → Text → Option Command) → Finds name first second asked
+    → command_in (name ∷ left ∷ right ∷ []) ≡ asked left right → IsPairTaken name first second left right → IsRead (name ∷ left ∷ right ∷ [])
+pair_read name first second left right asked finds asks taken = (taken.0, go (subcommand_of app (name ∷ left ∷ right ∷ [])) taken.1)
   where
     go : (found : Option (Text × List Row)) → values_in first second found ≡ Some (name, Some left, Some right)
-        → command_found (name ∷ left ∷ right ∷ []) found ≡ pair_named name left right
+        → command_found (name ∷ left ∷ right ∷ []) found ≡ command_in (name ∷ left ∷ right ∷ [])
     go None is = absurd (nothing _ is)
     go (Some found) is =
         let parts = same_parts found.0 name (first_of first found.1) (Some left) (first_of second found.1) (Some right) is in
-        let words : List Text = name ∷ left ∷ right ∷ [] in
-        ap (λ n. rows_found words n found.1) parts.0 ∙ asks words found.1
-        ∙ (rw (parts.1, parts.2, three_here name left right) refl)
+        finds left right found parts.0 parts.1 parts.2 ∙ sym asks
 
-serve_asks : (words : List Text) (rows : List Row) → rows_found words (codes "serve") rows ≡ values_found words (codes "serve") (codes "port") (codes "count") rows
-unfolding rows_found
-serve_asks words rows = refl
+serve_finds : Finds (codes "serve") (codes "PORT") (codes "COUNT") (λ port count. option_map Serve (service_in port count))
+unfolding commands
+serve_finds left right found name first second = rw (name, first, second, two_here left right) refl
 
-sample_asks : (words : List Text) (rows : List Row) → rows_found words (codes "sample") rows ≡ values_found words (codes "sample") (codes "seed") (codes "ballots") rows
-unfolding rows_found
-sample_asks words rows = refl
+sample_finds : Finds (codes "sample") (codes "SEED") (codes "BALLOTS") (λ seed ballots. option_map Sample (sample_in seed ballots))
+unfolding commands
+sample_finds left right found name first second = rw (name, first, second, two_here left right) refl
+
+serve_asks : (left right : Text) → command_in (codes "serve" ∷ left ∷ right ∷ []) ≡ option_map Serve (service_in left right)
+unfolding commands
+serve_asks left right = refl
+
+sample_asks : (left right : Text) → command_in (codes "sample" ∷ left ∷ right ∷ []) ≡ option_map Sample (sample_in left right)
+unfolding commands
+sample_asks left right = refl
 
 serve_is_read : (left right : Text) → BeginsWithDigit left → BeginsWithDigit right → IsRead (codes "serve" ∷ left ∷ right ∷ [])
 serve_is_read [] right begins begins' = absurd begins
 serve_is_read (d ∷ p) [] begins begins' = absurd begins'
 serve_is_read (d ∷ p) (f ∷ c) begins begins' =
-    pair_read (codes "serve") (codes "port") (codes "count") (d ∷ p) (f ∷ c) serve_asks (serve_taken p c d f begins.0 begins.1 begins'.0 begins'.1)
+    pair_read (codes "serve") (codes "PORT") (codes "COUNT") (d ∷ p) (f ∷ c) _ serve_finds (serve_asks (d ∷ p) (f ∷ c))
+    (serve_taken p c d f begins.0 begins.1 begins'.0 begins'.1)
 
 sample_is_read : (left right : Text) → BeginsWithDigit left → BeginsWithDigit right → IsRead (codes "sample" ∷ left ∷ right ∷ [])
 sample_is_read [] right begins begins' = absurd begins
 sample_is_read (d ∷ p) [] begins begins' = absurd begins'
 sample_is_read (d ∷ p) (f ∷ c) begins begins' =
-    pair_read (codes "sample") (codes "seed") (codes "ballots") (d ∷ p) (f ∷ c) sample_asks (sample_taken p c d f begins.0 begins.1 begins'.0 begins'.1)
+    pair_read (codes "sample") (codes "SEED") (codes "BALLOTS") (d ∷ p) (f ∷ c) _ sample_finds (sample_asks (d ∷ p) (f ∷ c))
+    (sample_taken p c d f begins.0 begins.1 begins'.0 begins'.1)
 
 begins_here : (word : Text) → IsNumber word → BeginsWithDigit word
 begins_here word number = number-begins word number.0 number.1
 
-pairs_are_read : (word left right : Text) → IsSome (pair_named word left right) → IsRead (word ∷ left ∷ right ∷ [])
-unfolding pair_named
-pairs_are_read word left right =
-    named (λ w. IsRead (w ∷ left ∷ right ∷ [])) (codes "serve") word _ _
-    (λ some. let both = service_numbers left right some in serve_is_read left right (begins_here left both.0) (begins_here right both.1))
-    (named (λ w. IsRead (w ∷ left ∷ right ∷ [])) (codes "sample") word _ _
-    (λ some. let both = sample_numbers left right some in sample_is_read left right (begins_here left both.0) (begins_here right both.1))
-    (λ none. cc none))
+-- a name and two numbers
+three_words : (name left right : Text) → IsPlain name → IsNumber left × IsNumber right → All IsPlain (name ∷ left ∷ right ∷ [])
+three_words name left right plain numbers =
+    All-cons IsPlain name (left ∷ right ∷ []) plain
+    (All-cons IsPlain left (right ∷ []) (number_is_plain left numbers.0) (All-cons IsPlain right [] (number_is_plain right numbers.1) (All-nil IsPlain)))
 
-pub accepted_are_read : (words : List Text) → IsSome (command_in words) → IsRead words
-accepted_are_read [] some = cc some
-accepted_are_read (word ∷ []) some = (words_are_fine word some).0
-accepted_are_read (word ∷ left ∷ []) some = cc some
-accepted_are_read (word ∷ left ∷ right ∷ []) some = pairs_are_read word left right some
-accepted_are_read (word ∷ left ∷ right ∷ next ∷ words) some = cc some
+serve_is_fine : (left right : Text) → IsSome (option_map Serve (service_in left right)) → AreFine (codes "serve" ∷ left ∷ right ∷ [])
+unfolding encode_utf8 chars is_utf8
+serve_is_fine left right some =
+    let both = service_numbers left right some in
+    (serve_is_read left right (begins_here left both.0) (begins_here right both.1), three_words (codes "serve") left right (literal (codes "serve") refl (λ minus. cc minus)) both)
+
+sample_is_fine : (left right : Text) → IsSome (option_map Sample (sample_in left right)) → AreFine (codes "sample" ∷ left ∷ right ∷ [])
+unfolding encode_utf8 chars is_utf8
+sample_is_fine left right some =
+    let both = sample_numbers left right some in
+    (sample_is_read left right (begins_here left both.0) (begins_here right both.1), three_words (codes "sample") left right (literal (codes "sample") refl (λ minus. cc minus)) both)
+
+-- EACH COMMAND
+
+each_is_fine : EachIsFine commands
+unfolding clap_on_literals encode_utf8 chars is_utf8 app commands
+each_is_fine = (
+  ((refl, refl), one_word (codes "audit") (literal (codes "audit") refl (λ minus. cc minus))),
+  (
+    ((refl, refl), one_word (codes "init") (literal (codes "init") refl (λ minus. cc minus))),
+    (
+      ((refl, refl), one_word (codes "sheet") (literal (codes "sheet") refl (λ minus. cc minus))),
+      (
+        ((refl, refl), one_word (codes "do") (literal (codes "do") refl (λ minus. cc minus))),
+        (
+          ((refl, refl), one_word (codes "record") (literal (codes "record") refl (λ minus. cc minus))),
+          (
+            ((refl, refl), one_word (codes "scans") (literal (codes "scans") refl (λ minus. cc minus))),
+            (
+              ((refl, refl), one_word (codes "recount") (literal (codes "recount") refl (λ minus. cc minus))),
+              (
+                ((refl, refl), one_word (codes "odds") (literal (codes "odds") refl (λ minus. cc minus))),
+                (
+                  ((refl, refl), one_word (codes "county") (literal (codes "county") refl (λ minus. cc minus))),
+                  (serve_is_fine, (sample_is_fine, tt)),
+                ),
+              ),
+            ),
+          ),
+        ),
+      ),
+    ),
+  ),
+)
+
+behind_is_fine : (name : Text) (behind : Behind) (words : List Text) → AreFineBehind name behind → IsSome (asked_behind behind words) → AreFine (name ∷ words)
+behind_is_fine name (no_more command) [] fine some = fine
+behind_is_fine name (no_more command) (word ∷ words) fine some = cc some
+behind_is_fine name (two_more first second asked) [] fine some = cc some
+behind_is_fine name (two_more first second asked) (left ∷ []) fine some = cc some
+behind_is_fine name (two_more first second asked) (left ∷ right ∷ []) fine some = fine left right some
+behind_is_fine name (two_more first second asked) (left ∷ right ∷ next ∷ words) fine some = cc some
+
+form_is_fine : (forms : List Words) (name : Text) (words : List Text) → EachIsFine forms → IsSome (asked_in forms name words) → AreFine (name ∷ words)
+form_is_fine [] name words fine some = cc some
+form_is_fine (form ∷ forms) name words fine some = go (bytes_eq name form.name) refl (form_is_fine forms name words fine.1) some
+  where
+    go : (same : Bool) → bytes_eq name form.name ≡ same → (IsSome (asked_in forms name words) → AreFine (name ∷ words))
+        → IsSome (if same then asked_behind form.behind words else asked_in forms name words) → AreFine (name ∷ words)
+    go true same others some = subst (λ n. AreFine (n ∷ words)) (sym ((bytes_eq-Decides name form.name).0 same)) (behind_is_fine form.name form.behind words fine.0 some)
+    go false same others some = others some
+
+pub accepted_are_fine : (words : List Text) → IsSome (command_in words) → AreFine words
+accepted_are_fine [] some = cc some
+accepted_are_fine (name ∷ words) some = form_is_fine commands name words each_is_fine some

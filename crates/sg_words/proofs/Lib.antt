@@ -3,3 +3,5 @@ pub mod Plain
 pub mod Accepted
 pub mod Reading
 pub mod Refusing
+pub mod Sized
+pub mod Having

@@ -1,3 +1,5 @@
 pub mod Command
+pub mod Laws
 pub mod Numbers
+pub mod Usage
 pub mod inside

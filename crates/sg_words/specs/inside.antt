@@ -2,3 +2,4 @@
 pub mod App
 pub mod Found
 pub mod Refused
+pub mod Table

@@ -2,8 +2,10 @@
 ghost use Rattle.std.specs.Prelude.{◌≡◌, IfErr, IfOk, false, map, true};
 ghost use Rattle.clap.specs.Words.{app_of, kind_of, rule_of, subcommand_of, subcommand_rows_of, takes};
 ghost use Rattle.clap.specs.declared.builder.command.Command.TheViews.{out-Command as fields_of};
-ghost use Rattle.sg_words.specs.inside.App.{app, pair_app, value_rule, with_pair, with_word};
+ghost use Rattle.sg_words.specs.inside.App.{app, pair_app, value_rule, with_form, with_forms, with_pair, with_word};
+ghost use Rattle.sg_words.specs.inside.Table.{words_of};
 
+use crate::table::{Form, Takes, commands};
 use clap::error::ErrorKind;
 use clap::{Arg, ArgAction, ArgMatches, Command, Error};
 use std::alloc::{AllocError, Global};
@@ -59,23 +61,39 @@ fn with_pair<'a>(
     Ok(command)
 }
 
+/// The command line with one more command.
+fn with_form<'a>(alloc: Global, above: Command<'a>, form: &Form) -> Result<Command<'a>, AllocError>
+    ensures { IfOk result (λ command. app_of command ≡ with_form (words_of form.now) (app_of above.entry)) }
+{
+    match form.takes {
+        Takes::Nothing(_) => with_word(alloc, above, form.name),
+        Takes::Two(first, second, _) => {
+            with_pair(alloc, above, form.name, first.name, second.name)
+        }
+    }
+}
+
+/// The command line with these commands.
+fn with_forms<'a>(
+    alloc: Global,
+    above: Command<'a>,
+    forms: &[Form],
+) -> Result<Command<'a>, AllocError>
+    ensures { IfOk result (λ command. app_of command ≡ with_forms (map words_of forms.now) (app_of above.entry)) }
+{
+    let mut command = above;
+    for form in forms {
+        command = with_form(alloc, command, form)?;
+    }
+    Ok(command)
+}
+
 /// The command line of the program.
 fn program<'a>(alloc: Global) -> Result<Command<'a>, AllocError>
     ensures { IfOk result (λ command. app_of command ≡ app) }
 {
     let command = Command::new(alloc, "voldkaumi").no_binary_name(true);
-    let command = with_word(alloc, command, "audit")?;
-    let command = with_word(alloc, command, "init")?;
-    let command = with_word(alloc, command, "sheet")?;
-    let command = with_word(alloc, command, "do")?;
-    let command = with_word(alloc, command, "record")?;
-    let command = with_pair(alloc, command, "serve", "port", "count")?;
-    let command = with_pair(alloc, command, "sample", "seed", "ballots")?;
-    let command = with_word(alloc, command, "scans")?;
-    let command = with_word(alloc, command, "recount")?;
-    let command = with_word(alloc, command, "odds")?;
-    let command = with_word(alloc, command, "county")?;
-    Ok(command)
+    with_forms(alloc, command, &commands())
 }
 
 /// Reads the words.

@@ -1,6 +1,6 @@
 //! What the program can be asked to do, and the words that ask for it.
 ghost use Rattle.std.specs.Prelude.{◌≡◌, IfOk, IfSome, map};
-ghost use Rattle.sg_words.specs.Command.{IsSized, command_in};
+ghost use Rattle.sg_words.specs.Command.{IsSized, command_in, may_hold_output};
 
 use crate::app::parse;
 use crate::found::command_found;
@@ -36,6 +36,25 @@ pub enum Command {
     Odds,
     /// Judges several records as one.
     County,
+}
+
+impl Command {
+    /// Whether nobody waits for a line of its output before the command ends, so that the lines may be held and written
+    /// together.
+    pub fn may_hold_output(self) -> bool
+        ensures { result ≡ may_hold_output self }
+    {
+        match self {
+            Command::Audit
+            | Command::Sheet
+            | Command::Record
+            | Command::Sample(_)
+            | Command::Recount
+            | Command::Odds
+            | Command::County => true,
+            Command::Init | Command::Do | Command::Serve(_) | Command::Scans => false,
+        }
+    }
 }
 
 /// The command that these texts ask for.

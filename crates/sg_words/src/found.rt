@@ -1,44 +1,22 @@
 //! The command of what `clap` found, where the words are just those of that command.
-ghost use Rattle.std.specs.Prelude.{◌≡◌, IfSome, bytes_eq, map, option_map};
+ghost use Rattle.std.specs.Prelude.{◌≡◌, bytes_eq, map, option_map};
 ghost use Rattle.clap.specs.Words.{first_of, found_of, rows_of, subcommand_rows_of};
-ghost use Rattle.sg_words.specs.Command.{IsSized, command_named, pair_named};
-ghost use Rattle.sg_words.specs.inside.Found.{are_three, command_found, is_one, pair_found, rows_found, values_found, word_found};
+ghost use Rattle.sg_words.specs.inside.Found.{are_two, behind_found, command_found, found_in, name_found, pair_found, values_found};
+ghost use Rattle.sg_words.specs.inside.Table.{asked_by, behind_of, range_of, words_of};
 
 use crate::command::Command;
 use crate::sample::sample_of;
 use crate::service::service_of;
+use crate::table::{Form, Number, Pair, Takes, commands};
 use clap::ArgMatches;
 
-/// The command of one word.
-#[tactic(auto, unfolding(crate::specs::Command::command_named))]
-fn command_by_name(name: &str) -> Option<Command>
-    ensures is { result ≡ command_named name.now }
-    ensures sized { IfSome result IsSized }
+/// The command that two words ask for.
+fn asked_by(pair: Pair, first: &str, second: &str) -> Option<Command>
+    ensures { result ≡ asked_by pair first.now second.now }
 {
-    match name {
-        "audit" => Some(Command::Audit),
-        "init" => Some(Command::Init),
-        "sheet" => Some(Command::Sheet),
-        "do" => Some(Command::Do),
-        "record" => Some(Command::Record),
-        "scans" => Some(Command::Scans),
-        "recount" => Some(Command::Recount),
-        "odds" => Some(Command::Odds),
-        "county" => Some(Command::County),
-        _ => None,
-    }
-}
-
-/// The command of three words.
-#[tactic(auto, unfolding(crate::specs::Command::pair_named))]
-fn command_by_pair(name: &str, first: &str, second: &str) -> Option<Command>
-    ensures is { result ≡ pair_named name.now first.now second.now }
-    ensures sized { IfSome result IsSized }
-{
-    match name {
-        "serve" => service_of(first.as_bytes(), second.as_bytes()).map(Command::Serve),
-        "sample" => sample_of(first.as_bytes(), second.as_bytes()).map(Command::Sample),
-        _ => None,
+    match pair {
+        Pair::Service => service_of(first.as_bytes(), second.as_bytes()).map(Command::Serve),
+        Pair::Sample => sample_of(first.as_bytes(), second.as_bytes()).map(Command::Sample),
     }
 }
 
@@ -49,47 +27,22 @@ fn is_text(text: &str, other: &str) -> bool
     text == other
 }
 
-/// The words are this one.
-fn is_one(words: &[&str], name: &str) -> bool
-    ensures { result ≡ is_one (map (λ s. s.now) words.now) name.now }
+/// The words are these two.
+fn are_two(words: &[&str], first: &str, second: &str) -> bool
+    ensures { result ≡ are_two (map (λ s. s.now) words.now) first.now second.now }
 {
     match words {
-        [word] => is_text(word, name),
+        [left, right] => is_text(left, first) && is_text(right, second),
         _ => false,
     }
 }
 
-/// The words are these three.
-fn are_three(words: &[&str], name: &str, first: &str, second: &str) -> bool
-    ensures { result ≡ are_three (map (λ s. s.now) words.now) name.now first.now second.now }
+/// The command with two values, where these are the words.
+fn pair_found(words: &[&str], pair: Pair, first: &str, second: &str) -> Option<Command>
+    ensures { result ≡ pair_found (map (λ s. s.now) words.now) (asked_by pair) first.now second.now }
 {
-    match words {
-        [word, left, right] => {
-            is_text(word, name) && is_text(left, first) && is_text(right, second)
-        }
-        _ => false,
-    }
-}
-
-/// The command of one word, where it is the only one.
-fn word_found(words: &[&str], name: &str) -> Option<Command>
-    ensures is { result ≡ word_found (map (λ s. s.now) words.now) name.now }
-    ensures sized { IfSome result IsSized }
-{
-    if is_one(words, name) {
-        command_by_name(name)
-    } else {
-        None
-    }
-}
-
-/// The command of three words, where they are the only ones.
-fn pair_found(words: &[&str], name: &str, first: &str, second: &str) -> Option<Command>
-    ensures is { result ≡ pair_found (map (λ s. s.now) words.now) name.now first.now second.now }
-    ensures sized { IfSome result IsSized }
-{
-    if are_three(words, name, first, second) {
-        command_by_pair(name, first, second)
+    if are_two(words, first, second) {
+        asked_by(pair, first, second)
     } else {
         None
     }
@@ -102,40 +55,57 @@ fn value_of<'a>(values: &ArgMatches<'a>, id: &str) -> Option<&'a str>
     values.get_str(id)
 }
 
-/// The command with the values under two names.
+/// The command with the values under the names of two numbers.
 fn values_found(
     words: &[&str],
-    name: &str,
+    first: &Number,
+    second: &Number,
+    pair: Pair,
     values: &ArgMatches<'_>,
-    first: &str,
-    second: &str,
 ) -> Option<Command>
-    ensures is { result ≡ values_found (map (λ s. s.now) words.now) name.now first.now second.now (rows_of (found_of values.now)) }
-    ensures sized { IfSome result IsSized }
+    ensures { result ≡ values_found (map (λ s. s.now) words.now) (range_of first.now) (range_of second.now) (asked_by pair) (rows_of (found_of values.now)) }
 {
-    let first = value_of(values, first)?;
-    let second = value_of(values, second)?;
-    pair_found(words, name, first, second)
+    let first = value_of(values, first.name)?;
+    let second = value_of(values, second.name)?;
+    pair_found(words, pair, first, second)
 }
 
-/// The command of a subcommand and its values.
-#[tactic(auto, unfolding(crate::specs::inside::Found::rows_found))]
-fn rows_found(words: &[&str], name: &str, values: &ArgMatches<'_>) -> Option<Command>
-    ensures is { result ≡ rows_found (map (λ s. s.now) words.now) name.now (rows_of (found_of values.now)) }
-    ensures sized { IfSome result IsSized }
+/// The command that the words behind a name ask for.
+fn behind_found(words: &[&str], takes: &Takes, values: &ArgMatches<'_>) -> Option<Command>
+    ensures { result ≡ behind_found (map (λ s. s.now) words.now) (behind_of takes.now) (rows_of (found_of values.now)) }
 {
-    match name {
-        "serve" => values_found(words, name, values, "port", "count"),
-        "sample" => values_found(words, name, values, "seed", "ballots"),
-        _ => word_found(words, name),
+    match takes {
+        Takes::Nothing(command) => words.is_empty().then_some(*command),
+        Takes::Two(first, second, pair) => values_found(words, first, second, *pair, values),
+    }
+}
+
+/// The command of a name, by the first of these forms that has it.
+fn found_in(forms: &[Form], words: &[&str], name: &str, values: &ArgMatches<'_>) -> Option<Command>
+    ensures { result ≡ found_in (map words_of forms.now) (map (λ s. s.now) words.now) name.now (rows_of (found_of values.now)) }
+{
+    for form in forms {
+        if is_text(name, form.name) {
+            return behind_found(words, &form.takes, values);
+        }
+    }
+    None
+}
+
+/// The command of a name that is the first word.
+fn name_found(words: &[&str], name: &str, values: &ArgMatches<'_>) -> Option<Command>
+    ensures { result ≡ name_found (map (λ s. s.now) words.now) name.now (rows_of (found_of values.now)) }
+{
+    match words {
+        [word, rest @ ..] if is_text(word, name) => found_in(&commands(), rest, name, values),
+        _ => None,
     }
 }
 
 /// The command of what was found.
 pub(crate) fn command_found(words: &[&str], matches: &ArgMatches<'_>) -> Option<Command>
-    ensures is { result ≡ command_found (map (λ s. s.now) words.now) (subcommand_rows_of matches.now) }
-    ensures sized { IfSome result IsSized }
+    ensures { result ≡ command_found (map (λ s. s.now) words.now) (subcommand_rows_of matches.now) }
 {
     let (name, values) = matches.subcommand()?;
-    rows_found(words, name, values)
+    name_found(words, name, values)
 }

@@ -1,17 +1,24 @@
-//! The words after the program's name, and the command that they ask for.
+//! The words after the program's name, the command that they ask for, and the line that names the words of all commands.
 //!
-//! `clap` reads them as one level of subcommands, and what it found is then compared with the words.
+//! One table has the words of each command. `clap` reads the words as one level of subcommands, which it is told from the
+//! table, and what it found is then compared with the words.
 #![tactic(auto)]
 
 mod app;
 mod command;
 mod found;
+mod laws;
+mod number;
 mod sample;
 mod service;
+mod table;
 #[cfg(test)]
 mod tests;
 mod texts;
+mod usage_line;
 
 pub use command::{Command, command_of};
+pub use laws::commands_have_words_law;
 pub use sample::{Sample, sample_of};
 pub use service::Service;
+pub use usage_line::usage;

@@ -1,5 +1,5 @@
-//! Words and the command that the rules of the command line give for them.
-use super::{Command, Sample, Service, command_of};
+//! Words and the command that the rules of the command line give for them, and the line that names them.
+use super::{Command, Sample, Service, command_of, usage};
 use sg_plan::{Items, NoMemory, Word};
 use std::alloc::Global;
 use std::test::Fail;
@@ -34,9 +34,9 @@ fn sample(seed: u32, ballots: u32) -> Option<Command> {
     Some(Command::Sample(Sample { seed, ballots }))
 }
 
-#[test]
-fn commands_are_found(rt: HostRuntime) -> Result<(), Fail> {
-    for (line, command) in [
+/// Lines of words that ask for a command.
+fn accepted() -> [(&'static str, Option<Command>); 15] {
+    [
         ("audit", Some(Command::Audit)),
         ("init", Some(Command::Init)),
         ("sheet", Some(Command::Sheet)),
@@ -52,8 +52,28 @@ fn commands_are_found(rt: HostRuntime) -> Result<(), Fail> {
         ("sample 0 1", sample(0, 1)),
         ("sample 7 300", sample(7, 300)),
         ("sample 4294967295 9000", sample(4_294_967_295, 9_000)),
-    ] {
+    ]
+}
+
+#[test]
+fn commands_are_found(rt: HostRuntime) -> Result<(), Fail> {
+    for (line, command) in accepted() {
         assert_eq!(rt; asked(rt.alloc(), line.as_bytes())?, command, "{line}");
+    }
+    Ok(())
+}
+
+#[test]
+fn each_command_is_named(rt: HostRuntime) -> Result<(), Fail> {
+    let line = usage(rt.alloc())?;
+    assert_eq!(rt;
+        line.as_str(),
+        "audit | init | sheet | do | record | scans | recount | odds | county | serve PORT COUNT (1 to 65535, 1 to 1000000) | sample SEED BALLOTS (0 to 4294967295, 1 to 9000)"
+    );
+    for (words, _) in accepted() {
+        let name = words.split(' ').next();
+        let is_named = line.split(" | ").any(|form| form.split(' ').next() == name);
+        assert!(rt; is_named, "{words}");
     }
     Ok(())
 }

@@ -1,6 +1,6 @@
 -- The office's answers from what it keeps, where the calls' contracts speak of histories.
 use Rattle.std.specs.Prelude.{◌≡◌, ℕ, ◌-◌, ◌==◌, if◌then◌else◌, true, List, length, map, slice_get, Option, None}
-use Rattle.std.specs.Option.{option_map_or}
+use Rattle.std.specs.Option.{IfSome, option_map_or}
 use Rattle.sg_plan.specs.Ballots.{ballot_has}
 use Rattle.sg_plan.specs.declared.plan.Fate.{Fate}
 use Rattle.sg_plan.specs.declared.plan.Fate.TheVariants as fate
@@ -13,7 +13,7 @@ use Rattle.sg_keeper.specs.declared.replies.Reply.{Reply}
 use Rattle.sg_post.specs.declared.story.Story.{Story}
 use Rattle.sg_histories.specs.declared.kept.Kept.{Kept}
 use Rattle.sg_histories.specs.declared.kept.Slot.{Slot}
-use Rattle.sg_histories.specs.Answers.{audit_refusal, claim_refusal, close_refusal, draw_refusal, early_refusal, is_ballot, scan_refusal, void_refusal}
+use Rattle.sg_histories.specs.Answers.{audit_refusal, claim_refusal, close_refusal, draw_refusal, early_refusal, is_ballot, scan_refusal, totals_of, void_refusal}
 use Rattle.sg_histories.specs.Histories.{fate_word, phase_word}
 use Rattle.sg_histories.specs.Stories.{answered, told_fates}
 
@@ -68,3 +68,9 @@ story_now kept = record {
   stage = kept.stage;
   claims = map (answered kept.setup.plan kept.setup.seed.0 (fate_at kept.slots)) kept.claims;
 }
+
+-- TOTALS
+
+-- totals that an office has counted are those of the fates that it keeps
+abbrev pub AreTotals : Plan → List ℕ → List Slot → Option (List (List ℕ)) → Type 0
+AreTotals plan seed slots totals = IfSome totals (λ counted. counted ≡ totals_of plan seed (fate_at slots))

@@ -47,6 +47,10 @@ is_vote places candidates candidate place = place % candidates == candidate && h
 abbrev pub total_by : List Bool → ℕ → ℕ → ℕ
 total_by places candidates candidate = count_by (is_vote places candidates candidate) (numbers_below (length places))
 
+-- the votes of each candidate among the first places
+abbrev pub votes_by : List Bool → ℕ → ℕ → List ℕ
+votes_by places candidates count = map (λ candidate. count_by (is_vote places candidates candidate) (numbers_below count)) (numbers_below candidates)
+
 -- the totals of a race by its places
 abbrev pub race_totals_by : Plan → List (List Bool) → ℕ → List ℕ
 race_totals_by plan places race = map (total_by (of_race places race) (candidates_of plan race)) (numbers_below (candidates_of plan race))

@@ -1,8 +1,9 @@
 -- The command line as `clap` is told it: one level of subcommands.
-use Rattle.std.specs.Prelude.{true, codes, Some}
+use Rattle.std.specs.Prelude.{true, List, [], ◌∷◌, codes, Some}
 use Rattle.clap.specs.Words.{App, Rule, Text, new_app, new_rule, with_rule, with_subcommand}
 use Rattle.clap.specs.Simple.{on_top}
 use Rattle.clap.specs.declared.builder.action.ArgAction.TheVariants.{Set}
+use Rattle.sg_words.specs.Command.{Behind, Words, commands, no_more, two_more}
 
 -- a value that must be there
 abbrev pub value_rule : Text → Rule
@@ -27,16 +28,18 @@ no_name = on_top (λ top. record top { no_binary_name = true })
 abbrev pub no_words : App
 no_words = no_name (new_app (codes "voldkaumi"))
 
+-- the command line with one more command
+abbrev pub with_behind : Text → Behind → App → App
+with_behind name (no_more command) above = with_word name above
+with_behind name (two_more first second asked) above = with_pair name first.name second.name above
+
+abbrev pub with_form : Words → App → App
+with_form form above = with_behind form.name form.behind above
+
+-- the command line with these commands
+abbrev pub with_forms : List Words → App → App
+with_forms [] above = above
+with_forms (form ∷ forms) above = with_forms forms (with_form form above)
+
 unfoldable pub app : App
-app =
-    with_word (codes "county")
-    (with_word (codes "odds")
-    (with_word (codes "recount")
-    (with_word (codes "scans")
-    (with_pair (codes "sample") (codes "seed") (codes "ballots")
-    (with_pair (codes "serve") (codes "port") (codes "count")
-    (with_word (codes "record")
-    (with_word (codes "do")
-    (with_word (codes "sheet")
-    (with_word (codes "init")
-    (with_word (codes "audit") no_words))))))))))
+app = with_forms commands no_words

@@ -63,9 +63,9 @@ returns-in-Ok-Some-clause-complete g c =
     (says_for c.in-Ok-Some.command other (command_in c.args.words.now) c.obey.result (g.K.Keeper.tells c.args.keeper.now) (g.K.Keeper.rows c.args.keeper.now) (g.K.Keeper.rows c.obey.new.keeper)
     before now here asked c.obey.ensures.says)
 
-pub returns-in-Err-clause-audit : goal.returns-in-Err-clause-audit
-returns-in-Err-clause-audit g c =
-    let now : Outside = record {
+pub returns-in-Ok-Some-clause-says : goal.returns-in-Ok-Some-clause-says
+returns-in-Ok-Some-clause-says g c =
+    let before : Outside = record {
       left = g.S.Source.left c.args.input.now;
       board = g.L.Links.board c.args.links.now;
       written = g.O.Sink.written c.args.out.now;
@@ -74,10 +74,21 @@ returns-in-Err-clause-audit g c =
       write_faults = g.O.Sink.faults c.args.out.now;
       keep_faults = g.K.Keeper.faults c.args.keeper.now;
     } in
-    λ asked. memory_says command.Audit (g.K.Keeper.tells c.args.keeper.now) (g.K.Keeper.rows c.args.keeper.now) now
+    let now : Outside = record {
+      left = g.S.Source.left c.obey.new.input;
+      board = g.L.Links.board c.obey.new.links;
+      written = g.O.Sink.written c.obey.new.out;
+      read_faults = g.S.Source.faults c.obey.new.input;
+      link_faults = g.L.Links.faults c.obey.new.links;
+      write_faults = g.O.Sink.faults c.obey.new.out;
+      keep_faults = g.K.Keeper.faults c.obey.new.keeper;
+    } in
+    let here : Some c.in-Ok-Some.command ≡ command_in c.args.words.now = cc (c.in-Ok-Some.field-0-is, c.in-Ok-Some.ensures.is) in
+    λ other asked. says_for c.in-Ok-Some.command other (command_in c.args.words.now) c.obey.result (g.K.Keeper.tells c.args.keeper.now) (g.K.Keeper.rows c.args.keeper.now) (g.K.Keeper.rows c.obey.new.keeper)
+    before now here asked c.obey.ensures.says
 
-pub returns-in-Err-clause-county : goal.returns-in-Err-clause-county
-returns-in-Err-clause-county g c =
+pub returns-in-Err-clause-says : goal.returns-in-Err-clause-says
+returns-in-Err-clause-says g c =
     let now : Outside = record {
       left = g.S.Source.left c.args.input.now;
       board = g.L.Links.board c.args.links.now;
@@ -87,4 +98,4 @@ returns-in-Err-clause-county g c =
       write_faults = g.O.Sink.faults c.args.out.now;
       keep_faults = g.K.Keeper.faults c.args.keeper.now;
     } in
-    λ asked. memory_says command.County (g.K.Keeper.tells c.args.keeper.now) (g.K.Keeper.rows c.args.keeper.now) now
+    λ asked is. memory_says asked (g.K.Keeper.tells c.args.keeper.now) (g.K.Keeper.rows c.args.keeper.now) now

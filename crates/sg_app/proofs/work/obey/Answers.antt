@@ -5,16 +5,11 @@ use Rattle.sg_clerk.specs.Sheet.{sheet_of}
 use Rattle.sg_clerk.specs.Shown.{posted_of}
 use Rattle.sg_clerk.proofs.Beginning.{init_says}
 use Rattle.sg_clerk.proofs.Showing.{show_says}
-use Rattle.sg_app.proofs.Endings.{ending_says}
 use Rattle.sg_app.proofs.Samples.{sample_says}
 use Rattle.sg_app.proofs.work.obey.Goals as goal
 
 pub returns-in-Audit-clause-says : goal.returns-in-Audit-clause-says
-returns-in-Audit-clause-says g c =
-    rw c.in-Audit.is
-    (rw c.status_of.ensures
-    (ending_says c.audit.result (seen (g.S.Source.left c.args.input.now) (g.S.Source.faults c.args.input.now)) (seen (g.S.Source.left c.audit.new.input) (g.S.Source.faults c.audit.new.input))
-    (seen (g.O.Sink.written c.args.out.now) (g.O.Sink.faults c.args.out.now)) (seen (g.O.Sink.written c.audit.new.out) (g.O.Sink.faults c.audit.new.out)) c.audit.ensures.ends))
+returns-in-Audit-clause-says g c = rw c.in-Audit.is c.answer_audit.ensures.says
 
 pub returns-in-Init-clause-says : goal.returns-in-Init-clause-says
 returns-in-Init-clause-says g c =

@@ -3,7 +3,7 @@ use Rattle.std.proofs.Common.{◌<◌, refl, subst, sym}
 use Rattle.std.proofs.lemmas.Bool.{and_parts, ltb-true}
 use Rattle.std.specs.Prelude.{nat_lt}
 use Rattle.sg_plan.specs.Ballots.{ballot_has, candidates_of, entries_of, entry_at}
-use Rattle.sg_post.proofs.Claims.{has-within}
+use Rattle.sg_facts.proofs.Tabling.{has_entries}
 use Rattle.sg_facts.proofs.codes.entry_of.Goals as goal
 
 pub returns-clause-entry : goal.returns-clause-entry
@@ -19,8 +19,4 @@ returns-clause-within c =
     subst (λ n. n < entries_of plan code.race) (sym (returns-clause-entry c)) below
 
 pub returns-clause-race : goal.returns-clause-race
-returns-clause-race c =
-    let plan = c.args.index.now in
-    let code = c.args.code.now in
-    let parts = and_parts (ballot_has plan c.args.ballot code.race) (nat_lt code.column (candidates_of plan code.race)) c.requires in
-    has-within plan c.args.ballot code.race c.plan-plan.ensures.good parts.0
+returns-clause-race c = has_entries c.args.index.now c.args.code.now.race (returns-clause-within c)

@@ -41,7 +41,7 @@ loop-count-preserved g c =
     let end = c.loop-count.end in
     let count = c.in-Ok.count in
     let grown = take_read c.loop-count.buf c.read_more.new.buf end count c.in-Ok.ensures.ok.front in
-    let unfed : feeds (slice_range c.read_more.new.buf end (end + count)) ≡ 0 = c.has_feed-brought.ensures c.if-brought.false in
+    let unfed : feeds (slice_range c.read_more.new.buf end (end + count)) ≡ 0 = c.is_due-due.ensures c.if-due.false in
     record {
       high = omega (arith, c.in-Ok.ensures.ok.bounds, c.if-is_full.false);
       same = search rules;

@@ -12,7 +12,7 @@ use Rattle.sg_parts.proofs.read.read_posted.Goals.{in-Yes+in_ok-posted-in-Yes+in
 
 pub unreachable-requires : goal.unreachable-requires
 unreachable-requires c =
-    record_there c.args.front.now c.in-Yes.field-0 (subst (λ (j : Judged). IsVerdict (lines_of c.args.front.now) j) c.in-Yes.is c.in_ok-judge.ensures)
+    record_there c.args.front.now c.in-Yes.field-0 (subst (λ (j : Judged). IsVerdict (lines_of c.args.front.now) j) c.in-Yes.is c.in_ok-judge.ensures.verdict)
     (λ posted of. sym c.in-None.is ∙ c.in_ok-posted-in-Yes.ensures.only posted of)
 
 pub returns-clause-ok : goal.returns-clause-ok
@@ -21,6 +21,6 @@ returns-clause-ok c = elim c.match-branch-2.branch [
       rw w.result-is
       (record_read c.args.front.now w.in-Some.posted w.in-Yes.field-0
       (subst (λ (o : Option Record). IfSome o (IsTextOf c.args.front.now)) w.in-Some.is w.in_ok-posted-in-Yes.ensures.found)
-      (subst (λ (j : Judged). IsVerdict (lines_of c.args.front.now) j) w.in-Yes.is c.in_ok-judge.ensures))
+      (subst (λ (j : Judged). IsVerdict (lines_of c.args.front.now) j) w.in-Yes.is c.in_ok-judge.ensures.verdict))
   | in-No w ↦ rw w.result-is tt
 ]

@@ -3,11 +3,12 @@ use Rattle.std.proofs.Common.{ap, refl, true, ◌≡◌, ◌∙◌, map, List}
 use Rattle.std.proofs.lemmas.Result.{IfErr-weaker, IfOk-weaker}
 use Rattle.clap.specs.Words.{App, Text, is_simple, subcommand_of, takes}
 use Rattle.clap.proofs.OnLiterals.{clap_on_literals}
+use Rattle.sg_words.specs.Command.{commands}
 use Rattle.sg_words.specs.inside.App.{app}
 use Rattle.sg_words.proofs.app.parse.Goals as goal
 
 is_simple_app : is_simple app ≡ true
-unfolding clap_on_literals app
+unfolding clap_on_literals app commands
 is_simple_app = refl
 
 pub returns : goal.returns

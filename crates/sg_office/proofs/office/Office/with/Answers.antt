@@ -19,4 +19,5 @@ invariant_of-result c = (
   })) (sym c.in_ok-tables.ensures)
       (subst (λ (d : List DoneRow). IsOffice (record c.args.kept { dones = d })) (sym c.in_ok-dones.ensures) c.requires),
   c.in_ok-index.ensures ∙ sym (ap (λ (t : MadeFrom). t.plan) c.in_ok-tables.ensures),
+  tt,
 )

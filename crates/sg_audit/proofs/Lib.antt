@@ -1,0 +1,6 @@
+-- The proofs.
+mod Endings
+mod Forms
+pub mod Judging
+pub mod Promises
+mod Taking

@@ -1,0 +1,4 @@
+-- The modules of definitions.
+pub mod Audit
+pub mod Promise
+pub mod inside

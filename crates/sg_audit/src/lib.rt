@@ -1,0 +1,6 @@
+//! `audit`: a record is judged while it is read, and the report of the verdict is written.
+#![tactic(auto)]
+
+mod audit;
+
+pub use audit::answer_audit;

@@ -1,0 +1,4 @@
+-- The proofs.
+mod Picking
+mod Spots
+mod Telling
