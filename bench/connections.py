@@ -105,7 +105,7 @@ def silent(port, count, limit):
 
 OUTPUT, INPUT, ERRORS, BROKEN = "output closed", "input closed", "errors closed", "output unread"
 
-HANDED_IN = ("club.record", b"printing\n", "club.sheet", b"completion\n", "club.openings")
+HANDED_IN = ("club.record", b"printing\n", "club.sheet", "club.openings")
 
 # each command: its words, what its input is made of (files of examples/club, and lines between them), and whether it needs an
 # office

@@ -129,7 +129,8 @@ try "$club/scans.csv" scans
 try_serve
 (cd start && "$program" do < "$folder/asks" > /dev/null)
 try /dev/null record
-(cat "$club/club.record" && echo printing && cat "$club/club.sheet" && echo completion && cat "$club/club.openings") > handed-in
+try /dev/null openings
+(cat "$club/club.record" && echo printing && cat "$club/club.sheet" "$club/club.openings") > handed-in
 try "$folder/handed-in" recount
 try "$folder/handed-in" odds
 (cat "$club/club.record" && echo next && cat "$club/north.record") > records

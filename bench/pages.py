@@ -11,7 +11,7 @@ What is run are the blocks fenced as `console`. In them a line that begins with 
 `> ` goes on with it. The lines behind a command are what it shows, on both outputs; a line `...` stands for any lines. The
 blocks of a page are run in order by one shell, at the top of a copy of the repository that has no crates.
 
-A page is README.md, docs/*.md, examples/*/README.md and vectors/README.md. Ends with status 1 where something is wrong.
+A page is README.md, docs/*.md, examples/*/README.md, page/README.md and vectors/README.md. Ends with status 1 where something is wrong.
 """
 import glob
 import os
@@ -32,7 +32,7 @@ SECONDS = 600
 
 def pages():
     found = ["README.md"] + sorted(glob.glob("docs/*.md")) + sorted(glob.glob("examples/*/README.md"))
-    return found + sorted(glob.glob("vectors/README.md"))
+    return found + sorted(glob.glob("page/README.md")) + sorted(glob.glob("vectors/README.md"))
 
 
 def prose_of(lines):

@@ -3,8 +3,8 @@
 
     vectors.py                          makes all files anew
     vectors.py check                    says which files are not as it makes them; status 1 where there are some
-    vectors.py stream STREAM REPORTS    writes the records but the longest behind a line with the name and the number of bytes
-                                        each, and their reports, as crates/audit_vectors reads and writes them
+    vectors.py stream STREAM REPORTS    writes the records, each after a line with its name in vectors/ and the number of its
+                                        bytes, and their reports, as crates/audit_vectors reads and writes them
 
 What must be reported is said here, beside what was changed, by the rules of docs/FORMAT.md: no auditor is asked. The
 tables, commitments and coins are those of record.py, the codes of the asks' elections those of office.py.
@@ -20,7 +20,6 @@ import record as made
 
 VECTORS = os.path.join(os.path.dirname(os.path.abspath(__file__)), "..", "vectors")
 FULL = "full"
-MOST_OF_STREAM = 1 << 20  # the plain verdict of a longer record takes too long
 
 
 class Election:
@@ -339,14 +338,14 @@ def word_records():
     put("form-empty", "no byte: the missing line is the first", b"", no(1))
     put("form-line-feed-alone", "one empty line", b"\n", no(1))
     put("form-last-line-feed", "the last line has no line feed: it is a line, and bad", text_of(small)[:-1], no(len(small)))
-    put("form-line-feed-behind", "an empty line behind a whole record", text_of(small) + b"\n", no(len(small) + 1))
-    put("form-bytes-behind", "a space behind the last line feed of a whole record", text_of(small) + b" ", no(len(small) + 1))
+    put("form-line-feed-behind", "an empty line after a whole record", text_of(small) + b"\n", no(len(small) + 1))
+    put("form-bytes-behind", "a space after the last line feed of a whole record", text_of(small) + b" ", no(len(small) + 1))
     put("form-line-too-long", "a name of 20,000 signs: a line that is too long is one line", text_of(lines[:1]) + b"election " + b"e" * 20000 + b"\n" + text_of(lines[2:9]), no(2))
     put("form-byte-order-mark", "a byte order mark before the first line", b"\xef\xbb\xbf" + text_of(small), no(1))
     for name, what, line in [
         ("two-spaces", "two spaces between two words", "cast  1"),
         ("space-before", "a space before the first word", " cast 1"),
-        ("space-behind", "a space behind the last word", "cast 1 "),
+        ("space-behind", "a space after the last word", "cast 1 "),
         ("tab", "a tab in place of the space", "cast\t1"),
         ("carriage-return", "a carriage return before the line feed", "cast 1\r"),
         ("no-break-space", "a byte that is no ASCII and a space in other alphabets", "cast\xa01"),
@@ -412,7 +411,7 @@ def plan_records():
         ("candidate-missing", "a race with a candidate too few", race + 2, lines[race + 3]),
         ("candidate-more", "a race with a candidate too many", race + 3, "cand Cyd"),
         ("run-before-style", "a run before any style", style, lines[run]),
-        ("race-behind-style", "a race behind a style", style + 1, "race Clerk 2 1"),
+        ("race-behind-style", "a race after a style", style + 1, "race Clerk 2 1"),
         ("style-word", "another word where a style is due", style, "Style All 0"),
         ("style-without-race", "a style without a race", style, "style All"),
         ("style-of-no-race", "a style with a race that there is not", style, "style All 0 2"),
@@ -420,8 +419,8 @@ def plan_records():
         ("style-race-twice", "a style with a race twice", style, "style All 1 1"),
         ("style-twice", "two styles of one name", style + 1, "style All 1"),
         ("33-styles", "a 33rd style", style, *["style s%d 0" % s for s in range(33)]),
-        ("run-missing", "commitments behind the styles, without any run", run, lines[at(lines, "code-commit")]),
-        ("style-behind-run", "a style behind a run", run + 1, "style Late 0"),
+        ("run-missing", "commitments after the styles, without any run", run, lines[at(lines, "code-commit")]),
+        ("style-behind-run", "a style after a run", run + 1, "style Late 0"),
         ("run-of-no-style", "a run of a style that there is not", run, "ballots 2 1"),
         ("run-of-no-ballot", "a run of no ballot", run, "ballots 0 0"),
         ("20001-ballots", "20,000 ballots in a run, and one in a second: the second run is bad", run, "ballots 1 19999", "ballots 1 1", "ballots 1 1"),
@@ -433,7 +432,7 @@ def plan_records():
     runs = ["ballots 0 12499", "ballots 1 7", "ballots 2 1"]
     put("plan-200001-rows", "races of 16, 2 and 3 candidates: 12,499, 7 and 1 ballots make 200,001 rows, and the third run is bad", wide[: at(wide, "ballots")] + runs, no(at(wide, "ballots") + 3))
     commit, rows = at(lines, "code-commit"), at(lines, "row-commit")
-    front("plan-run-behind-commitment", "a run behind the first commitment", lines, commit + 1, lines[run])
+    front("plan-run-behind-commitment", "a run after the first commitment", lines, commit + 1, lines[run])
     front("commit-of-later-race", "a commitment of race 1 where one of race 0 is due", lines, commit, lines[at(lines, "code-commit 1")])
     front("commit-entry-missing", "rows where an entry is due", lines, at(lines, "code-commit 1"), lines[rows])
     front("commit-entry-more", "an entry too many", lines, rows, lines[commit].replace("code-commit 0", "code-commit 1"))
@@ -449,7 +448,7 @@ def plan_records():
         changed("seal-%d" % which, "seal %d with one digit changed" % which, small, seal, other_digit(sealed[seal]), "seal")
         put("cut-before-seal-%d" % which, "a record that ends before seal %d: the missing line is bad" % which, small[:seal], no(seal + 1))
         if which < 3:
-            put("cut-behind-seal-%d" % which, "a record that ends behind seal %d, as it is posted before its end" % which, small[: seal + 1], no(seal + 2))
+            put("cut-behind-seal-%d" % which, "a record that ends after seal %d, as it is posted before its end" % which, small[: seal + 1], no(seal + 2))
     section = made.hashlib.sha256(text_of(small)[len(text_of(small[: at(small, "cast")])) : len(text_of(small[: at(small, "seal 2")]))])
     changed("seal-of-section", "a second seal of its section's bytes alone", small, at(small, "seal 2"), "seal 2 " + section.hexdigest(), "seal")
 
@@ -468,11 +467,11 @@ def block_records():
     first = e.code_line(1, 0, 0)
     front("ballot-0", "ballot 0", lines, cast, "cast 0")
     front("ballot-past-plan", "a ballot that the plan does not have", lines, cast, "cast 6")
-    front("ballots-fall", "a ballot behind a later one", lines, town, "cast 1")
+    front("ballots-fall", "a ballot after a later one", lines, town, "cast 1")
     front("ballot-twice", "a ballot twice, with two fates", lines, audited, "spoiled 1")
     front("ballot-voided-in-1", "`voided` in version 1", lines, at(lines, "spoiled"), "voided 3")
     front("ballot-spoiled-code", "a code in the block of a spoiled ballot", lines, town, first)
-    front("ballot-behind-results", "a ballot behind the first flags", lines, at(lines, "flags") + 1, "cast 5")
+    front("ballot-behind-results", "a ballot after the first flags", lines, at(lines, "flags") + 1, "cast 5")
     front("cast-column-past-candidates", "a column that the race does not have", lines, code, lines[code].replace("code 0 " + lines[code].split()[2], "code 0 2"))
     front("cast-columns-fall", "columns of a race that fall", lines, one, *reversed(lines[one : one + 2]))
     front("cast-column-twice", "a column twice", lines, one, lines[one], lines[one])
@@ -483,8 +482,8 @@ def block_records():
     front("cast-code-not-of-style", "a code of a race that the ballot does not have", lines, town + 1, first)
     front("cast-over-not-of-style", "an `over` of a race that the ballot does not have", lines, town + 1, "over 0")
     front("cast-over-twice", "an `over` twice", lines, town + 2, "over 1")
-    front("cast-code-behind-over", "a code behind the `over` of its race: form", lines, town + 2, e.code_line(4, 1, 0))
-    front("rule-over-behind-code", "an `over` behind a code of its race: rule", lines, code + 1, "over 0", kind="rule")
+    front("cast-code-behind-over", "a code after the `over` of its race: form", lines, town + 2, e.code_line(4, 1, 0))
+    front("rule-over-behind-code", "an `over` after a code of its race: rule", lines, code + 1, "over 0", kind="rule")
     front("form-before-opening", "a column twice, with a key that opens nothing: form comes first", lines, one + 1, wrong_key(lines[one]))
     paper = at(lines, "paper")
     front("audited-paper-missing", "a code where the second paper is due", lines, paper + 1, lines[paper + 2])
@@ -761,7 +760,7 @@ def print_records():
     left, right = ("%s %s" % opened for opened in zip(("left", "right"), race.openings(0, row)))
     lines = e.lines(blocks, to_right)
     first = at(lines, "draw") + 1
-    put("good-print", "a public draw behind a print audit", lines, e.yes())
+    put("good-print", "a public draw after a print audit", lines, e.yes())
     changed("side-before-print", "a row of an audited entry is opened on the left side alone, which is not its coin's: side comes first", lines, first + row, left, "side")
     lines[first + row] = right
     put("print-audited-right", "the same on the right side, its coin's: found at the last row of the instance, where a row opened on both sides is missing", lines, no(first + 8, "print"))
@@ -821,12 +820,12 @@ def dispute_records():
     front("dispute-codes-fall", "the codes of a dispute in another order", good, end + 1, good[end + 2])
     front("dispute-code-of-other-race", "a code of another race of the ballot", good, end + 1, e.code_line(1, 1, 0))
     front("dispute-code-more", "a code too many", good + [good[end + 2]], end + 3)
-    front("dispute-over", "an `over` behind a dispute", good + ["over 0"], end + 3)
+    front("dispute-over", "an `over` after a dispute", good + ["over 0"], end + 3)
     front("dispute-opening", "a code of a dispute that does not open its commitment", good, end + 1, wrong_key(good[end + 1]), kind="opening")
     put("dispute-cut", "a record that ends within a dispute: the missing line is bad", good[:-1], no(len(good)))
-    front("end-ballot", "a ballot behind the last seal", lines + ["cast 4"], end)
+    front("end-ballot", "a ballot after the last seal", lines + ["cast 4"], end)
     front("end-seal", "a fourth seal", lines + ["seal 4 " + "0" * 64], end)
-    front("end-record", "a second record behind the first", lines + lines[:1], end)
+    front("end-record", "a second record after the first", lines + lines[:1], end)
     e = Election(runs=[(0, 1)])
     lines = e.lines([])
     block = e.dispute(1, 0, e.code(1, 0, 0), "unposted")
@@ -838,7 +837,7 @@ def dispute_records():
 
 
 def ask_case(version):
-    """An election file, asks, and what must be replied to each by the tables of docs/FORMAT.md; the office of office.py must
+    """An election file, asks, and what must be replied to each by the tables of docs/OFFICE.md; the office of office.py must
     say the same."""
     plan = {
         "version": version,
@@ -976,10 +975,10 @@ def asks_of(election, secrets):
     yield ask("receipt", ballot=1), phase("voting")
     yield ask("receipt", ballot=99), phase("voting")
     yield ask("totals"), phase("voting")
-    # A number is free again behind a refusal.
+    # A number is free again after a refusal.
     yield ask("spoil", 1, ref=500, ballot=6), fate("spoiled")
     yield ask("scan", 1, ref=500, ballot=7, marks=[[0, 1]]), '{"over":[],"status":200}'
-    # The close, and what is answered behind it.
+    # The close, and what is answered after it.
     close = ask("close", 0)
     yield close, OK
     yield close, OK
@@ -1086,9 +1085,8 @@ def check(found):
 
 def write_stream(stream, reports):
     for name, (_, text, report) in RECORDS.items():
-        if len(text) <= MOST_OF_STREAM:
-            stream.write(b"%s %d\n" % (name.encode(), len(text)) + text)
-            reports.write("%s %d\n%s" % (name, 0 if report.startswith("yes") else 1, report))
+        stream.write(b"vectors/%s %d\n" % (name.encode(), len(text)) + text)
+        reports.write("vectors/%s %d\n%s" % (name, 0 if report.startswith("yes") else 1, report))
 
 
 def main():

@@ -27,7 +27,9 @@ done
 "$program" audit < posted-claims
 (cat posted-claims && echo next && cat "$club/north.record") | "$program" county > county
 step "both branches" county "$club/club.county"
-(cat posted-claims && echo printing && cat sheet && echo completion && cat "$club/club.openings") > handed-in
+"$program" openings > openings
+step "the openings for a court" openings "$club/club.openings"
+(cat posted-claims && echo printing && cat sheet openings) > handed-in
 for word in recount odds; do
     "$program" "$word" < handed-in > "$word"
     step "$word" "$word" "$club/club.$word"

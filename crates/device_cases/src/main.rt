@@ -2,20 +2,23 @@
 //! failing in turn, and prints how these runs ended. Then it gives `do` lines at its limits, and serves connections of
 //! which each call fails in turn.
 //!
-//! The input is the election file, an empty line, and the asks.
+//! The input is the election file, the asks, a scanner's file, what a court is handed behind the record, and a record of
+//! another town, with an empty line between two of them.
 #![tactic(auto)]
 
 mod connections;
 mod devices;
 mod fault;
 mod limits;
+mod parts;
 mod runs;
 
 use crate::connections::tell_links;
 use crate::devices::tell_case;
 use crate::fault::Fault;
 use crate::limits::tell_limits;
-use crate::runs::Case;
+use crate::parts::{Parts, joined, parts_of};
+use crate::runs::{Case, keeper_like};
 use sg_keeper::MemoryKeeper;
 use sg_plan::Items;
 use sg_steps::no_rows;
@@ -26,17 +29,6 @@ use std::process::ExitCode;
 /// How many bytes a command may write.
 const ROOM: usize = 32_768;
 
-/// The election file and the asks behind it.
-fn parts_of(input: &[u8]) -> Result<(&[u8], &[u8]), Fault> {
-    match input.windows(2).position(|two| matches!(two, b"\n\n")) {
-        None => Err(Fault::Stream),
-        Some(at) => {
-            let (file, rest) = input.split_at(at);
-            Ok((file, &rest[2..]))
-        }
-    }
-}
-
 /// A command with its input.
 fn case<'a>(words: &'a [u8], input: &'a [u8]) -> Case<'a> {
     Case {
@@ -46,6 +38,34 @@ fn case<'a>(words: &'a [u8], input: &'a [u8]) -> Case<'a> {
     }
 }
 
+/// Tells of the scanner's file, over a keeper with the rows of another.
+fn tell_scans<W: Write>(
+    alloc: Global,
+    file: &[u8],
+    keeper: &mut MemoryKeeper,
+    out: &mut W,
+) -> Result<(), Fault> {
+    let mut like = keeper_like(alloc, keeper, Items::new(alloc))?;
+    tell_case(alloc, &case(b"scans", file), &mut like, out)?;
+    Ok(())
+}
+
+/// Tells of the commands that read a record with something behind it.
+fn tell_readings<W: Write>(
+    alloc: Global,
+    record: &[u8],
+    parts: &Parts<'_>,
+    keeper: &mut MemoryKeeper,
+    out: &mut W,
+) -> Result<(), Fault> {
+    let handed = joined(alloc, &[record, parts.handed])?;
+    tell_case(alloc, &case(b"recount", &handed), keeper, out)?;
+    tell_case(alloc, &case(b"odds", &handed), keeper, out)?;
+    let towns = joined(alloc, &[record, b"next\n", parts.town])?;
+    tell_case(alloc, &case(b"county", &towns), keeper, out)?;
+    Ok(())
+}
+
 /// Tells of each command, over one keeper.
 fn tell_commands<W: Write>(
     alloc: Global,
@@ -53,12 +73,15 @@ fn tell_commands<W: Write>(
     keeper: &mut MemoryKeeper,
     out: &mut W,
 ) -> Result<(), Fault> {
-    let (file, asks) = parts_of(input)?;
-    tell_case(alloc, &case(b"init", file), keeper, out)?;
+    let parts = parts_of(input)?;
+    tell_case(alloc, &case(b"init", parts.file), keeper, out)?;
     tell_case(alloc, &case(b"sheet", b""), keeper, out)?;
-    tell_case(alloc, &case(b"do", asks), keeper, out)?;
+    tell_scans(alloc, parts.scans, keeper, out)?;
+    tell_case(alloc, &case(b"do", parts.asks), keeper, out)?;
     let came = tell_case(alloc, &case(b"record", b""), keeper, out)?;
+    tell_case(alloc, &case(b"openings", b""), keeper, out)?;
     tell_case(alloc, &case(b"audit", &came.output), keeper, out)?;
+    tell_readings(alloc, &came.output, &parts, keeper, out)?;
     tell_case(alloc, &case(b"sample 7 10", b""), keeper, out)?;
     Ok(())
 }

@@ -2,14 +2,13 @@
 -- words was wanted.
 use Rattle.std.proofs.Common.{◌≡◌, ℕ, Some, inl, inr, refl, subst}
 use Rattle.std.specs.Prelude.{Option}
-use Rattle.sg_outside.proofs.StreamLemmas.{Keeps-refl}
 use Rattle.sg_keeper.specs.declared.rows.Rows.{Rows}
-use Rattle.sg_towns.proofs.Answering.{took_nothing as took_no_lines}
 use Rattle.sg_words.specs.declared.command.Command.{Command}
 use Rattle.sg_words.specs.declared.command.Command.TheVariants as command
-use Rattle.sg_app.specs.Outside.{Outside}
+use Rattle.sg_app.specs.Outside.{Outside, input_at, output_at}
 use Rattle.sg_app.specs.Says.{CommandSays}
-use Rattle.sg_audit.proofs.Judging.{took_nothing}
+use Rattle.sg_reports.proofs.Reporting.{memory_reports}
+use Rattle.sg_reports.specs.declared.report.Report.TheVariants.{Audit, Recount, Odds, County}
 
 -- they are one
 pub asked_is : (here asked : Command) (found : Option Command) → Some here ≡ found → found ≡ Some asked → here ≡ asked
@@ -22,14 +21,15 @@ says_for here asked found status tells rows rows' before now is said says =
 
 -- where memory was wanted, and nothing was done
 pub memory_says : (asked : Command) (tells : Type 0) (rows : Rows) (now : Outside) → CommandSays asked 9 tells rows rows now now
-memory_says command.Audit tells rows now = inr (inr (inr (inr (refl, record { taken = took_nothing now.left; written = Keeps-refl now.written }))))
+memory_says command.Audit tells rows now = memory_reports Audit (input_at now) (output_at now)
 memory_says command.Init tells rows now = inr (inr (inr (inr (inr (refl, record { same = λ _. refl; quiet = refl })))))
 memory_says command.Sheet tells rows now = inr (inr (inr (inr (inr (refl, inl refl)))))
 memory_says command.Do tells rows now = inr (record { unread = refl; no_fault = refl; same = λ _. refl; says = inr (inr (inr (inr (refl, refl)))) })
 memory_says command.Scans tells rows now = inr (record { unread = refl; no_fault = refl; same = λ _. refl; says = inr (inr (inr (inr (refl, refl)))) })
 memory_says (command.Serve asked) tells rows now = inr (inr (record { board = refl; no_fault = refl; same = λ _. refl; says = inr (inr (inr (inr (refl, refl)))) }))
 memory_says command.Record tells rows now = inr (inr (inr (inr (inr (refl, inl refl)))))
+memory_says command.Openings tells rows now = inr (inr (inr (inr (inr (inr (refl, inl refl))))))
 memory_says (command.Sample asked) tells rows now = inr (inr (refl, refl))
-memory_says command.Recount tells rows now = inr (inr (inr (refl, refl)))
-memory_says command.Odds tells rows now = inr (inr (inr (refl, refl)))
-memory_says command.County tells rows now = inr (inr (inr (inr (inr (refl, record { taken = took_no_lines now.left; written = Keeps-refl now.written })))))
+memory_says command.Recount tells rows now = memory_reports Recount (input_at now) (output_at now)
+memory_says command.Odds tells rows now = memory_reports Odds (input_at now) (output_at now)
+memory_says command.County tells rows now = memory_reports County (input_at now) (output_at now)

@@ -1,5 +1,5 @@
 -- What each command does where nothing outside fails (this project's command line).
-use Rattle.std.specs.Prelude.{◌≡◌, ℕ, ◌⊎◌, List}
+use Rattle.std.specs.Prelude.{◌≡◌, ℕ, ◌⊎◌, true, List}
 use Rattle.std.specs.Io.KnownBytes.{Appends}
 use Rattle.sg_outside.specs.Faults.{Rose}
 use Rattle.sg_keeper.specs.declared.rows.Rows.{Rows}
@@ -10,26 +10,25 @@ use Rattle.sg_clerk.specs.Asked.{Talks}
 use Rattle.sg_clerk.specs.Begun.{Begins, IsRefused}
 use Rattle.sg_clerk.specs.Sheet.{sheet_of}
 use Rattle.sg_clerk.specs.Shown.{IsDamaged, IsEmpty, ShowsAll, posted_of}
+use Rattle.sg_handed.specs.Handed.{IsUndrawn, OpensAll}
 use Rattle.sg_batch.specs.DoesScans.{stores_of}
 use Rattle.sg_batch.specs.ScansAsked.{TalksOfScans}
 use Rattle.sg_sample.specs.Summary.{summary_text}
 use Rattle.sg_station.specs.Calls.{failures_in, stores_in as stores_among}
 use Rattle.sg_station.specs.Says.{HasServed}
-use Rattle.sg_court.specs.Odds.{OddsDue}
-use Rattle.sg_court.specs.Recounts.{RecountDue}
-use Rattle.sg_court.specs.Says.{Shows}
-use Rattle.sg_towns.specs.Counts.{SaysBad, SaysMany, SaysYes as SaysSums}
-use Rattle.sg_audit.specs.Audit.{SaysNo, SaysYes}
+use Rattle.sg_reports.specs.Reports.{Reports}
+use Rattle.sg_reports.specs.declared.report.Report.TheVariants as report
 use Rattle.sg_app.specs.Outside.{Outside, input_at, moment_of, output_at, scene_of}
+use Rattle.sg_app.specs.Touches.{asks_keeper, reads_input, takes_links}
 use Rattle.sg_words.specs.declared.service.Service.{Service}
 use Rattle.sg_words.specs.declared.command.Command.{Command}
 use Rattle.sg_words.specs.declared.command.Command.TheVariants as command
 
--- no count of faults rose: of the input, of the keeper, of the links, of the output
-pub record NothingFailed (before now : Outside) : Type 0 where
-  pub reads : ¬ Rose before.read_faults now.read_faults
-  pub keeps : ¬ Rose before.keep_faults now.keep_faults
-  pub links : ¬ Rose before.link_faults now.link_faults
+-- no count of faults rose of what the command touches: of the input, of the keeper, of the links, of the output
+pub record NothingFailed (asked : Command) (before now : Outside) : Type 0 where
+  pub reads : reads_input asked ≡ true → ¬ Rose before.read_faults now.read_faults
+  pub keeps : asks_keeper asked ≡ true → ¬ Rose before.keep_faults now.keep_faults
+  pub links : takes_links asked ≡ true → ¬ Rose before.link_faults now.link_faults
   pub writes : ¬ Rose before.write_faults now.write_faults
 
 -- no setup is kept, and that was written
@@ -63,16 +62,14 @@ pub record KeepsServing (status : ℕ) (asked : Service) (tells : Type 0) (rows 
   pub none_failed : failures_in served.serves.calls ≡ 0
   pub none_lost : stores_among served.serves.calls ≡ 0
 
--- The work of each command was done, by its status: `audit` reports the verdict; `init` sets an office up, or refuses;
--- `sheet` and `record` show what is kept; `do` answers all lines (0), or all before one that is refused (7), and no answer
--- says that the keeper failed; nor does one of `scans`, which answers all records of the file (0), or refuses it (7), or of
--- `serve`, which serves as many connections as were asked for, and none fails. These five say else that no setup is kept (7),
--- or which row is damaged (8). `sample` writes the summary of its run. `recount` and `odds` write what is due of the input, with its
--- status (0, 1 or 7), and `county` the answer on its records (0, 1 or 7).
+-- The work of each command was done, by its status: `audit`, `recount`, `odds` and `county` report; `init` sets an office up, or
+-- refuses; `sheet` and `record` show what is kept; `openings` writes the openings of all rows (0), or that the draw isn't made
+-- (7); `do` answers all lines (0), or all before one that is refused (7), and no answer says that the keeper failed; nor does
+-- one of `scans`, which answers all records of the file (0), or refuses it (7), or of `serve`, which serves as many connections
+-- as were asked for, and none fails. These six say else that no setup is kept (7), or which row is damaged (8). `sample` writes
+-- the summary of its run.
 abbrev pub DoesAll : Command → ℕ → (tells : Type 0) → Rows → Rows → Outside → Outside → Type 0
-DoesAll command.Audit status tells rows rows' before now =
-    ((status ≡ 0) × SaysYes (input_at before) (input_at now) (output_at before) (output_at now))
-    ⊎ ((status ≡ 1) × SaysNo (input_at before) (input_at now) (output_at before) (output_at now))
+DoesAll command.Audit status tells rows rows' before now = Reports report.Audit status (input_at before) (input_at now) (output_at before) (output_at now)
 DoesAll command.Init status tells rows rows' before now =
     ((status ≡ 0) × Begins (input_at before) (input_at now) tells rows rows' (output_at before) (output_at now))
     ⊎ ((status ≡ 7) × IsRefused (input_at before) tells rows rows' (output_at before) (output_at now))
@@ -92,14 +89,16 @@ DoesAll (command.Serve asked) status tells rows rows' before now =
     ⊎ SaysEmpty status tells rows before now
     ⊎ SaysDamaged status tells rows before now
 DoesAll command.Record status tells rows rows' before now = ShowsOffice posted_of status tells rows before now
+DoesAll command.Openings status tells rows rows' before now =
+    ((status ≡ 0) × OpensAll tells rows (output_at before) (output_at now))
+    ⊎ ((status ≡ 7) × IsUndrawn tells rows (output_at before) (output_at now))
+    ⊎ SaysEmpty status tells rows before now
+    ⊎ SaysDamaged status tells rows before now
 DoesAll (command.Sample asked) status tells rows rows' before now = (status ≡ 0) × Appends before.written now.written (summary_text asked.seed asked.ballots)
-DoesAll command.Recount status tells rows rows' before now = Shows RecountDue status (input_at before) (input_at now) (output_at before) (output_at now)
-DoesAll command.Odds status tells rows rows' before now = Shows OddsDue status (input_at before) (input_at now) (output_at before) (output_at now)
-DoesAll command.County status tells rows rows' before now =
-    ((status ≡ 0) × SaysSums (input_at before) (input_at now) (output_at before) (output_at now))
-    ⊎ ((status ≡ 1) × SaysBad (input_at before) (input_at now) (output_at before) (output_at now))
-    ⊎ ((status ≡ 7) × SaysMany (input_at before) (input_at now) (output_at before) (output_at now))
+DoesAll command.Recount status tells rows rows' before now = Reports report.Recount status (input_at before) (input_at now) (output_at before) (output_at now)
+DoesAll command.Odds status tells rows rows' before now = Reports report.Odds status (input_at before) (input_at now) (output_at before) (output_at now)
+DoesAll command.County status tells rows rows' before now = Reports report.County status (input_at before) (input_at now) (output_at before) (output_at now)
 
 -- where nothing failed, a command does all its work, but for want of memory
 abbrev pub IsComplete : Command → ℕ → (tells : Type 0) → Rows → Rows → Outside → Outside → Type 0
-IsComplete asked status tells rows rows' before now = NothingFailed before now → (status ≡ 9) ⊎ DoesAll asked status tells rows rows' before now
+IsComplete asked status tells rows rows' before now = NothingFailed asked before now → (status ≡ 9) ⊎ DoesAll asked status tells rows rows' before now

@@ -1,5 +1,6 @@
 -- The headline: what `audit` answers of the bytes that it reads, and what a yes promises of them.
-use Rattle.std.specs.Prelude.{◌≡◌, ◌≢◌, ℕ, List, None}
+use Rattle.std.specs.Prelude.{◌≡◌, ℕ, List, None}
+use Rattle.sg_outside.specs.Streams.{Seen}
 use Rattle.sg_outside.specs.TextLines.{lines_of}
 use Rattle.sg_plan.specs.Limits.{fault_of}
 use Rattle.sg_plan.specs.declared.plan.Plan.{Plan}
@@ -8,18 +9,22 @@ use Rattle.sg_post.specs.Posted.{posted_text}
 use Rattle.sg_post.specs.declared.story.Story.{Story}
 use Rattle.sg_histories.specs.Histories.{Entry}
 use Rattle.sg_histories.specs.Stories.{story_of}
+use Rattle.sg_accepted.specs.Totals.{told_totals}
 use Rattle.sg_accepted.specs.Unaltered.{IsUnaltered}
 use Rattle.sg_unaltered.specs.UnalteredHistories.{IsUnalteredHistory}
-use Rattle.sg_audit.specs.Promise.{Promise}
+use Rattle.sg_audit.specs.Promise.{IsAnsweredYes, Promise}
 
--- what the status says of the lines of the bytes that were read; 0 answers yes, and 1 no
-pub record Headline (lines : List (List ℕ)) (status : ℕ) : Type 0 where
+-- what the status says of the lines of the bytes that the input had; 0 answers yes, and 1 no
+pub record Headline (lines : List (List ℕ)) (status : ℕ) (input input' out out' : Seen) : Type 0 where
   -- `audit` answers yes exactly when the bytes read are a whole record whose openings match their commitments and whose
   -- opened halves agree; then, for every printing and every completion that opens no commitment twice, each R instance has
   -- at least as many rows altered in their unopened halves as any posted total of its race differs from the count of posted
   -- codes;
-  pub promise : Promise lines status
-  -- every unaltered office run gets yes: what is posted of it is not answered no
-  pub unaltered : (setup : Setup) (history : List Entry) → fault_of setup.plan ≡ None → IsUnalteredHistory setup history → lines ≡ lines_of (posted_text setup.plan setup.seed.0 (story_of setup history)) → status ≢ 1
-  -- nor is what is posted of any unaltered story, whether or not an office's acts made it
-  pub unaltered_story : (plan : Plan) (seed : List ℕ) (story : Story) → fault_of plan ≡ None → IsUnaltered plan seed story → lines ≡ lines_of (posted_text plan seed story) → status ≢ 1
+  pub promise : Promise lines status input input' out out'
+  -- every unaltered office run gets yes, with the votes as totals
+  pub unaltered : (setup : Setup) (history : List Entry) → fault_of setup.plan ≡ None → IsUnalteredHistory setup history
+      → lines ≡ lines_of (posted_text setup.plan setup.seed.0 (story_of setup history))
+      → IsAnsweredYes (told_totals setup.plan setup.seed.0 (story_of setup history).fates) status input input' out out'
+  -- so does what is posted of any unaltered story, whether or not an office's acts made it
+  pub unaltered_story : (plan : Plan) (seed : List ℕ) (story : Story) → fault_of plan ≡ None → IsUnaltered plan seed story
+      → lines ≡ lines_of (posted_text plan seed story) → IsAnsweredYes (told_totals plan seed story.fates) status input input' out out'

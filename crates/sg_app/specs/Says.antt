@@ -5,18 +5,18 @@ use Rattle.sg_clerk.specs.Asked.{DoSays}
 use Rattle.sg_clerk.specs.Begun.{InitSays}
 use Rattle.sg_clerk.specs.Sheet.{sheet_of}
 use Rattle.sg_clerk.specs.Shown.{ShowSays, posted_of}
+use Rattle.sg_handed.specs.Handed.{OpeningsSays}
 use Rattle.sg_batch.specs.ScansAsked.{ScansSay}
 use Rattle.sg_station.specs.Says.{ServeSays}
-use Rattle.sg_court.specs.Says.{OddsSays, RecountSays}
-use Rattle.sg_towns.specs.Counts.{CountySays}
-use Rattle.sg_audit.specs.Audit.{AuditSays}
+use Rattle.sg_reports.specs.Reports.{ReportSays}
+use Rattle.sg_reports.specs.declared.report.Report.TheVariants as report
 use Rattle.sg_app.specs.Outside.{Outside, input_at, moment_of, output_at, scene_of}
 use Rattle.sg_app.specs.Sampling.{SampleSays}
 use Rattle.sg_words.specs.declared.command.Command.{Command}
 use Rattle.sg_words.specs.declared.command.Command.TheVariants as command
 
 abbrev pub CommandSays : Command → ℕ → (tells : Type 0) → Rows → Rows → Outside → Outside → Type 0
-CommandSays command.Audit status tells rows rows' before now = AuditSays status (input_at before) (input_at now) (output_at before) (output_at now)
+CommandSays command.Audit status tells rows rows' before now = ReportSays report.Audit status (input_at before) (input_at now) (output_at before) (output_at now)
 CommandSays command.Init status tells rows rows' before now =
     InitSays status (input_at before) (input_at now) tells rows rows' before.keep_faults now.keep_faults (output_at before) (output_at now)
 CommandSays command.Sheet status tells rows rows' before now =
@@ -27,7 +27,9 @@ CommandSays (command.Serve asked) status tells rows rows' before now =
     ServeSays status asked.port asked.count tells rows rows' (scene_of before) (scene_of now)
 CommandSays command.Record status tells rows rows' before now =
     ShowSays posted_of status tells rows before.keep_faults now.keep_faults (output_at before) (output_at now)
+CommandSays command.Openings status tells rows rows' before now =
+    OpeningsSays status tells rows before.keep_faults now.keep_faults (output_at before) (output_at now)
 CommandSays (command.Sample asked) status tells rows rows' before now = SampleSays asked status (output_at before) (output_at now)
-CommandSays command.Recount status tells rows rows' before now = RecountSays status (input_at before) (input_at now) (output_at before) (output_at now)
-CommandSays command.Odds status tells rows rows' before now = OddsSays status (input_at before) (input_at now) (output_at before) (output_at now)
-CommandSays command.County status tells rows rows' before now = CountySays status (input_at before) (input_at now) (output_at before) (output_at now)
+CommandSays command.Recount status tells rows rows' before now = ReportSays report.Recount status (input_at before) (input_at now) (output_at before) (output_at now)
+CommandSays command.Odds status tells rows rows' before now = ReportSays report.Odds status (input_at before) (input_at now) (output_at before) (output_at now)
+CommandSays command.County status tells rows rows' before now = ReportSays report.County status (input_at before) (input_at now) (output_at before) (output_at now)

@@ -1,5 +1,6 @@
 //! The program over any source, keeper, links and sink: its words, and the status that it ends with.
 ghost use Rattle.std.specs.Prelude.{◌≡◌, ◌⊎◌, false, true, None, Some, IfSome};
+ghost use Rattle.sg_outside.specs.Streams.{seen};
 ghost use Rattle.sg_outside.specs.TextLines.{lines_of};
 ghost use Rattle.sg_words.specs.Command.{command_in};
 ghost use Rattle.sg_app.specs.Complete.{IsComplete};
@@ -35,7 +36,7 @@ pub fn run<S: Source, K: Keeper, L: Links, O: Sink>(
     ensures refused { command_in words.now ≡ None → (result ≡ 2) ⊎ (result ≡ 9) }
     ensures untouched { command_in words.now ≡ None → (input.new ≡ input.old) × (keeper.new ≡ keeper.old) × (links.new ≡ links.old) × (out.new ≡ out.old) }
     // Only `audit`, `init`, `do`, `scans`, `recount`, `odds` and `county` read the input; only `init`, `sheet`, `do`, `scans`,
-    // `serve` and `record` ask the keeper; and only `serve` takes connections.
+    // `serve`, `record` and `openings` ask the keeper; and only `serve` takes connections.
     ensures unread { (command : CommandSeen) → command_in words.now ≡ Some command → reads_input command ≡ false → input.new ≡ input.old }
     ensures unkept { (command : CommandSeen) → command_in words.now ≡ Some command → asks_keeper command ≡ false → keeper.new ≡ keeper.old }
     ensures unlinked { (command : CommandSeen) → command_in words.now ≡ Some command → takes_links command ≡ false → links.new ≡ links.old }
@@ -45,7 +46,8 @@ pub fn run<S: Source, K: Keeper, L: Links, O: Sink>(
     // openings match their commitments and whose opened halves agree; then, for every printing and every completion that
     // opens no commitment twice, each R instance has at least as many rows altered in their unopened halves as any posted
     // total of its race differs from the count of posted codes; every unaltered office run gets yes.
-    ensures headline { command_in words.now ≡ Some Command.Audit → IfSome (S.left input.old) (λ bytes. Headline (lines_of bytes) result) }
+    ensures headline { command_in words.now ≡ Some Command.Audit → IfSome (S.left input.old) (λ bytes. Headline (lines_of bytes) result (seen (S.left input.old) (S.faults input.old)) (seen (S.left input.new) (S.faults input.new))
+        (seen (O.written out.old) (O.faults out.old)) (seen (O.written out.new) (O.faults out.new))) }
     // The status says how the command ended, by a relation for each command: what was read, what the rows are, and what was
     // written.
     ensures says { (command : CommandSeen) → command_in words.now ≡ Some command → CommandSays command result (K.tells keeper.old) (K.rows keeper.old) (K.rows keeper.new)
@@ -57,8 +59,8 @@ pub fn run<S: Source, K: Keeper, L: Links, O: Sink>(
         (record { left = S.left input.new; board = L.board links.new; written = O.written out.new; read_faults = S.faults input.new; link_faults = L.faults links.new; write_faults = O.faults out.new; keep_faults = K.faults keeper.new }) }
     // After a read that failed, and where memory was wanted, `audit`, `recount`, `odds` and `county` leave the output as it was.
     ensures unwritten { (command : CommandSeen) → command_in words.now ≡ Some command → is_report command ≡ true → (result ≡ 3) ⊎ (result ≡ 9) → out.new ≡ out.old }
-    // `sheet` and `record` leave the rows as they are.
-    ensures same { (command_in words.now ≡ Some Command.Sheet) ⊎ (command_in words.now ≡ Some Command.Record) → K.tells keeper.old → K.rows keeper.new ≡ K.rows keeper.old }
+    // `sheet`, `record` and `openings` leave the rows as they are.
+    ensures same { (command_in words.now ≡ Some Command.Sheet) ⊎ (command_in words.now ≡ Some Command.Record) ⊎ (command_in words.now ≡ Some Command.Openings) → K.tells keeper.old → K.rows keeper.new ≡ K.rows keeper.old }
     // Where no office is opened, `serve` leaves the links as they were.
     ensures unopened { (asked : ServiceSeen) → command_in words.now ≡ Some (Command.Serve asked) → (result ≡ 5) ⊎ (result ≡ 7) ⊎ (result ≡ 8) → links.new ≡ links.old }
 {

@@ -7,16 +7,15 @@ ghost use Rattle.sg_app.specs.Says.{CommandSays};
 ghost use Rattle.sg_app.specs.inside.Obeying.{ShowsRows};
 ghost use Rattle.sg_words.specs.Command.{IsSized};
 
-use sg_audit::answer_audit;
 use sg_batch::answer_scans;
 use sg_clerk::{answer_asks, begun_status, init, record, sheet, shown_status};
-use sg_court::{answer_odds, answer_recount};
+use sg_handed::answer_openings;
 use sg_keeper::Keeper;
 use sg_links::Links;
 use sg_outside::{Sink, Source};
+use sg_reports::{Report, write_report};
 use sg_sample::{sample, sampled_status};
 use sg_station::serve;
-use sg_towns::count_county;
 use sg_words::Command;
 use std::alloc::Global;
 
@@ -45,16 +44,17 @@ pub(crate) fn obey<S: Source, K: Keeper, L: Links, O: Sink>(
     ensures same { ShowsRows command → K.tells keeper.old → K.rows keeper.new ≡ K.rows keeper.old }
 {
     match command {
-        Command::Audit => answer_audit(alloc, input, out),
+        Command::Audit => write_report(alloc, Report::Audit, input, out),
         Command::Init => begun_status(init(alloc, input, keeper, out)),
         Command::Sheet => shown_status(sheet(alloc, keeper, out)),
         Command::Do => answer_asks(alloc, input, keeper, out),
         Command::Scans => answer_scans(alloc, input, keeper, out),
         Command::Serve(asked) => serve(alloc, asked.port, asked.count, links, keeper, out),
         Command::Record => shown_status(record(alloc, keeper, out)),
+        Command::Openings => answer_openings(alloc, keeper, out),
         Command::Sample(asked) => sampled_status(sample(alloc, asked, out)),
-        Command::Recount => answer_recount(alloc, input, out),
-        Command::Odds => answer_odds(alloc, input, out),
-        Command::County => count_county(alloc, input, out),
+        Command::Recount => write_report(alloc, Report::Recount, input, out),
+        Command::Odds => write_report(alloc, Report::Odds, input, out),
+        Command::County => write_report(alloc, Report::County, input, out),
     }
 }

@@ -1,15 +1,16 @@
 -- How a record is judged line by line: what the pass has taken, and what its verdict says of the bytes of the source.
-use Rattle.std.proofs.Common.{◌≡◌, ℕ, ◌+◌, ◌<◌, ◌≤◌, List, [], ◌∷◌, ◌++◌, length, Some, None, true, refl, sym, subst, ap, ◌∙◌, append_assoc, append-nil, length-append, arith}
+use Rattle.std.proofs.Common.{◌≡◌, ℕ, ◌+◌, ◌<◌, ◌≤◌, List, [], ◌∷◌, ◌++◌, length, Some, None, true, refl, sym, subst, ap, ◌∙◌, append_assoc, length-append, arith}
 use Rattle.std.specs.Prelude.{Option, false}
 use Rattle.std.specs.List.{concat}
 use Rattle.std.specs.Option.{option_map_or}
 use Rattle.std.specs.Io.KnownBytes.{Consumes, IsAtEnd, prepend_known}
 use Rattle.sg_outside.specs.Cutting.{Cutting, to_come}
-use Rattle.sg_outside.specs.TextLines.{AreLines, HasNoFeed, IsLine, lines_of}
+use Rattle.sg_outside.specs.TextLines.{AreLines, HasNoFeed, IsLine}
 use Rattle.sg_grammar.proofs.Walking.{walk-empty}
 use Rattle.sg_grammar.specs.Walk.{Walked, start}
 use Rattle.sg_outside.proofs.LineLemmas.{AreLines-append}
-use Rattle.sg_outside.proofs.StreamLemmas.{Consumes-nil, Consumes-trans, Rose-later}
+use Rattle.sg_outside.specs.Streams.{Seen}
+use Rattle.sg_outside.proofs.StreamLemmas.{Consumes-nil, Consumes-trans}
 use Rattle.sg_check.proofs.OneMore.{fine-empty}
 use Rattle.sg_check.specs.Verdict.{AreFine, IsVerdict}
 use Rattle.sg_check.specs.declared.judged.Judged.{Judged}
@@ -18,38 +19,34 @@ use Rattle.sg_pass.specs.inside.Taking.{is_behind}
 use Rattle.sg_pass.specs.declared.pass.Pass.{Pass}
 use Rattle.sg_towns.proofs.Told.{end-told, line-taken, line-told, long-told, part-told}
 use Rattle.sg_audit.specs.Audit.{Judges, TookHeader}
-use Rattle.sg_audit.specs.inside.Ending.{Hears}
-use Rattle.sg_audit.specs.inside.Feeding.{IsFed}
-use Rattle.sg_audit.specs.declared.audit.Heard.{Heard}
-use Rattle.sg_audit.specs.declared.audit.Heard.TheVariants as heard
+use Rattle.sg_audit.specs.inside.Feeding.{IsFed, IsFedBehind}
+use Rattle.sg_audit.specs.inside.Stopping.{CutsLine}
 
--- the same of lines that are fine, and none of which is behind the plan
-pub record IsFedHeader (pass : Pass) (lines : Cutting) (before now : Option (List ℕ)) : Type 0 where
-  pub fed : IsFed pass lines before now
-  pub fine : AreFine fed.done
-  pub header : is_behind_plan fed.done ≡ false
-  pub unready : is_ready pass ≡ false
+later-self : (count : ℕ) → count ≤ count
+later-self count = omega arith
 
--- and so the pass has taken it
-pub fed-push : (pass next : Pass) (lines more : Cutting) (before mid after : Option (List ℕ)) → (fed : IsFed pass lines before mid) → IsLine more.text
-    → Consumes (to_come lines mid) (to_come more after) more.text → StandsFor next (fed.done ++ more.text ∷ []) → is_open next ≡ true → more.is_over ≡ false → more.limit ≡ lines.limit
-    → IsFed next more before after
-fed-push pass next lines more before mid after fed is_line cut stands unbroken goes_on limit = record {
-  done = fed.done ++ more.text ∷ [];
+-- failures are counted upwards
+later-still : (first mid last : ℕ) → first ≤ mid → mid ≤ last → first ≤ last
+later-still first mid last p q = omega (arith, p, q)
+
+-- one more line was taken
+pub fed-line : (pass next : Pass) (old new : Cutting) (first before now : Seen) → (fed : IsFed pass old first.bytes before.bytes) → CutsLine old new before now
+    → StandsFor next (fed.done ++ new.text ∷ []) → is_open next ≡ true → IsFed next new first.bytes now.bytes
+fed-line pass next old new first before now fed line stands unbroken = record {
+  done = fed.done ++ new.text ∷ [];
   stands = stands;
-  are_lines = AreLines-append fed.done (more.text ∷ []) fed.are_lines (is_line, tt);
-  taken = line-taken before (to_come lines mid) (to_come more after) fed.done more.text fed.taken cut;
+  are_lines = AreLines-append fed.done (new.text ∷ []) fed.are_lines (line.is_line, tt);
+  taken = line-taken first.bytes (to_come old before.bytes) (to_come new now.bytes) fed.done new.text fed.taken line.cut;
   unbroken = unbroken;
-  goes_on = goes_on;
-  limit = limit ∙ fed.limit;
+  goes_on = line.goes_on;
+  limit = line.limit ∙ fed.limit;
 }
 
--- what is heard later, where the source has failed as often or more by then
-pub hears-later : (heard : Heard) (known after : Option (List ℕ)) (first mid last : ℕ) → first ≤ mid
-    → Hears heard (record { bytes = known; faults = mid }) (record { bytes = after; faults = last }) → Hears heard (record { bytes = known; faults = first }) (record { bytes = after; faults = last })
-hears-later (heard.Verdict judged) known after first mid last le hears = hears
-hears-later heard.Fault known after first mid last le hears = (Rose-later first mid last le hears.0, hears.1)
-hears-later heard.NoMemory known after first mid last le hears = hears
+-- and it stands behind the plan
+pub behind-line : (pass next : Pass) (old new : Cutting) (first before now : Seen) → (fed : IsFed pass old first.bytes before.bytes) → first.faults ≤ before.faults
+    → CutsLine old new before now → StandsFor next (fed.done ++ new.text ∷ []) → is_open next ≡ true → is_ready next ≡ true → IsFedBehind next new first now
+behind-line pass next old new first before now fed later line stands unbroken ready =
+    record { fed = fed-line pass next old new first before now fed line stands unbroken; ready = ready; later = later-still first.faults before.faults now.faults later line.later }
 
 -- VERDICTS ON BYTES THAT MAY BE TOLD
 
@@ -110,30 +107,40 @@ took_lines before mid left lines done fine header few limit p q =
 
 -- THE LINES OF THE PLAN
 
+-- a pass was fed lines that are fine, and none of which is behind the plan
+pub record IsFedHeader (pass : Pass) (lines : Cutting) (first now : Seen) : Type 0 where
+  pub fed : IsFed pass lines first.bytes now.bytes
+  pub fine : AreFine fed.done
+  pub header : is_behind_plan fed.done ≡ false
+  pub unready : is_ready pass ≡ false
+  pub later : first.faults ≤ now.faults
+
 none-held : (known : Option (List ℕ)) → Consumes known (prepend_known [] known) []
 none-held None = tt
 none-held (Some bytes) = refl
 
 -- at first no line was taken
-pub header-start : (pass : Pass) (lines : Cutting) (known : Option (List ℕ)) → StandsFor pass [] → is_open pass ≡ true → is_ready pass ≡ false
-    → lines ≡ record { limit = 16384; text = []; ahead = []; is_over = false } → IsFedHeader pass lines known known
-header-start pass lines known stands unbroken unready fresh =
-    subst (λ (l : Cutting). IsFedHeader pass l known known) (sym fresh)
+pub header-start : (pass : Pass) (lines : Cutting) (now : Seen) → StandsFor pass [] → is_open pass ≡ true → is_ready pass ≡ false
+    → lines ≡ record { limit = 16384; text = []; ahead = []; is_over = false } → IsFedHeader pass lines now now
+header-start pass lines now stands unbroken unready fresh =
+    subst (λ (l : Cutting). IsFedHeader pass l now now) (sym fresh)
     (record {
-      fed = record { done = []; stands = stands; are_lines = tt; taken = none-held known; unbroken = unbroken; goes_on = refl; limit = refl };
+      fed = record { done = []; stands = stands; are_lines = tt; taken = none-held now.bytes; unbroken = unbroken; goes_on = refl; limit = refl };
       fine = fine-empty;
       header = none-behind;
       unready = unready;
+      later = later-self now.faults;
     })
 
 -- one more line of the plan is taken
-pub header-push : (pass next : Pass) (lines more : Cutting) (before mid after : Option (List ℕ)) → (fed : IsFed pass lines before mid) → IsLine more.text
-    → Consumes (to_come lines mid) (to_come more after) more.text → StandsFor next (fed.done ++ more.text ∷ []) → is_open next ≡ true → more.is_over ≡ false → more.limit ≡ lines.limit
-    → AreFine (fed.done ++ more.text ∷ []) → is_behind_plan (fed.done ++ more.text ∷ []) ≡ false → is_ready next ≡ false → IsFedHeader next more before after
-unfolding fed-push
-header-push pass next lines more before mid after fed is_line cut stands unbroken goes_on limit fine header unready = record {
-  fed = fed-push pass next lines more before mid after fed is_line cut stands unbroken goes_on limit;
+pub header-line : (pass next : Pass) (old new : Cutting) (first before now : Seen) → (at : IsFedHeader pass old first before) → CutsLine old new before now
+    → StandsFor next (at.fed.done ++ new.text ∷ []) → is_open next ≡ true → AreFine (at.fed.done ++ new.text ∷ []) → is_behind_plan (at.fed.done ++ new.text ∷ []) ≡ false
+    → is_ready next ≡ false → IsFedHeader next new first now
+unfolding fed-line
+header-line pass next old new first before now at line stands unbroken fine header unready = record {
+  fed = fed-line pass next old new first before now at.fed line stands unbroken;
   fine = fine;
   header = header;
   unready = unready;
+  later = later-still first.faults before.faults now.faults at.later line.later;
 }

@@ -3,4 +3,5 @@ mod Endings
 mod Forms
 pub mod Judging
 pub mod Promises
+mod Stopping
 mod Taking

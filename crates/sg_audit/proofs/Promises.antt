@@ -1,5 +1,6 @@
 -- What an audit says by its status is its promise.
-use Rattle.std.proofs.Common.{◌≡◌, ◌≢◌, ℕ, ◌<◌, inl, inr, List, Option, None, Some, refl, sym, subst, arith}
+use Rattle.std.proofs.Common.{◌≡◌, ◌≢◌, ℕ, inl, inr, List, Option, None, Some, refl, sym, subst, arith}
+use Rattle.std.specs.Io.KnownBytes.{Appends}
 use Rattle.std.specs.Prelude.{IfSome}
 use Rattle.sg_outside.specs.Streams.{Seen}
 use Rattle.sg_outside.specs.TextLines.{lines_of}
@@ -15,8 +16,8 @@ use Rattle.sg_check.specs.declared.judged.Judged.TheVariants.{Yes, No}
 use Rattle.sg_check.specs.declared.judged.Kind.{Kind}
 use Rattle.sg_check.specs.declared.judged.Total.{Total}
 use Rattle.sg_audit.specs.Audit.{AuditSays}
-use Rattle.sg_audit.specs.Promise.{IsWholeAndAgrees, Promise}
-use Rattle.sg_audit.specs.inside.Ending.{status_of_verdict}
+use Rattle.sg_audit.specs.Promise.{IsAnsweredYes, IsWholeAndAgrees, Promise}
+use Rattle.sg_report.specs.Report.{report_of}
 
 -- a whole record that agrees has the verdict yes
 right_is_good : (lines : List (List ℕ)) → IsWholeAndAgrees lines → IsVerdict lines (Yes (totals_of lines))
@@ -26,45 +27,43 @@ right_is_good lines right = good_end lines (totals_of lines) (none_bad_are_fine 
 pub not_no : (totals : List Total) (number : ℕ) (broken : Kind) → Yes totals ≢ No number broken
 not_no totals number broken same = subst IsNo (sym same) tt
 
--- the status of a verdict says the promise
-pub verdict_promise : (lines : List (List ℕ)) (judged : Judged) (status : ℕ) → IsVerdict lines judged → status ≡ status_of_verdict judged → Promise lines status
-verdict_promise lines (Yes totals) status good is =
-    let good_of : IsVerdict lines (Yes (totals_of lines)) = record { fine = good.fine; whole = good.whole; totals_are = refl } in
-    let sound : IsSound lines (totals_of lines) = yes_is_sound lines (totals_of lines) good_of in
+-- what is said of the bytes of a source that tells them
+at_bytes : (known : Option (List ℕ)) (bytes : List ℕ) (P : List ℕ → Type 0) → known ≡ Some bytes → IfSome known P → P bytes
+at_bytes known bytes P same told = subst (λ (k : Option (List ℕ)). IfSome k P) same told
+
+-- after status 0 the verdict on the input's bytes is yes
+yes_verdict : (bytes : List ℕ) (status : ℕ) (input input' out out' : Seen) → input.bytes ≡ Some bytes → AuditSays status input input' out out' → status ≡ 0
+    → IsVerdict (lines_of bytes) (Yes (totals_of (lines_of bytes)))
+yes_verdict bytes status input input' out out' same (inl says) is =
+    let good : IsVerdict (lines_of bytes) (Yes says.1.totals) = at_bytes input.bytes bytes (λ b. IsVerdict (lines_of b) (Yes says.1.totals)) same says.1.judged in
+    record { fine = good.fine; whole = good.whole; totals_are = refl }
+yes_verdict bytes status input input' out out' same (inr (inl says)) is = absurd (omega (arith, says.0, is))
+yes_verdict bytes status input input' out out' same (inr (inr (inl says))) is = absurd (omega (arith, says.0, is))
+yes_verdict bytes status input input' out out' same (inr (inr (inr (inl says)))) is = absurd (omega (arith, says.0, is))
+yes_verdict bytes status input input' out out' same (inr (inr (inr (inr says)))) is = absurd (omega (arith, says.0, is))
+
+-- where the verdict on the input's bytes is yes, that is the answer
+pub answers_yes : (totals : List Total) (bytes : List ℕ) (status : ℕ) (input input' out out' : Seen) → input.bytes ≡ Some bytes → IsVerdict (lines_of bytes) (Yes totals)
+    → AuditSays status input input' out out' → IsAnsweredYes totals status input input' out out'
+answers_yes totals bytes status input input' out out' same good (inl says) =
+    let found : IsVerdict (lines_of bytes) (Yes says.1.totals) = at_bytes input.bytes bytes (λ b. IsVerdict (lines_of b) (Yes says.1.totals)) same says.1.judged in
+    inl (says.0, subst (λ (j : Judged). Appends out.bytes out'.bytes (report_of j)) (one_verdict (lines_of bytes) (Yes says.1.totals) (Yes totals) found good) says.1.written)
+answers_yes totals bytes status input input' out out' same good (inr (inl says)) =
+    let bad : IsVerdict (lines_of bytes) (No says.1.line says.1.broken) = at_bytes input.bytes bytes (λ b. IsVerdict (lines_of b) (No says.1.line says.1.broken)) same says.1.judged in
+    absurd (not_no totals says.1.line says.1.broken (one_verdict (lines_of bytes) (Yes totals) (No says.1.line says.1.broken) good bad))
+answers_yes totals bytes status input input' out out' same good (inr (inr (inl says))) = inr (inl (says.0, says.1.cause))
+answers_yes totals bytes status input input' out out' same good (inr (inr (inr (inl says)))) = inr (inr (inl (says.0, says.1.cause)))
+answers_yes totals bytes status input input' out out' same good (inr (inr (inr (inr says)))) = inr (inr (inr says.0))
+
+-- how an audit ended says the promise, where its input told its bytes
+pub promise_of : (known : Option (List ℕ)) (status : ℕ) (input input' out out' : Seen) → input.bytes ≡ known → AuditSays status input input' out out'
+    → IfSome known (λ bytes. Promise (lines_of bytes) status input input' out out')
+promise_of None status input input' out out' same says = tt
+promise_of (Some bytes) status input input' out out' same says =
+    let sound : status ≡ 0 → IsSound (lines_of bytes) (totals_of (lines_of bytes))
+    = λ is. yes_is_sound (lines_of bytes) (totals_of (lines_of bytes)) (yes_verdict bytes status input input' out out' same says is) in
     record {
-      yes = λ e. record { whole = good.whole; openings = sound.openings; agree = sound.agree };
-      exactly = λ right e. absurd (omega (arith, e, is));
-      bound = λ e. sound;
+      yes = λ is. record { whole = (yes_verdict bytes status input input' out out' same says is).whole; openings = (sound is).openings; agree = (sound is).agree };
+      exactly = λ right. answers_yes (totals_of (lines_of bytes)) bytes status input input' out out' same (right_is_good (lines_of bytes) right) says;
+      bound = sound;
     }
-verdict_promise lines (No number broken) status bad is =
-    record {
-      yes = λ e. absurd (omega (arith, e, is));
-      exactly = λ right e. not_no (totals_of lines) number broken (one_verdict lines (Yes (totals_of lines)) (No number broken) (right_is_good lines right) bad);
-      bound = λ e. absurd (omega (arith, e, is));
-    }
-
--- another status says nothing of the lines
-pub other_promise : (lines : List (List ℕ)) (status : ℕ) → 1 < status → Promise lines status
-other_promise lines status other = record {
-  yes = λ e. absurd (omega (arith, e, other));
-  exactly = λ right e. absurd (omega (arith, e, other));
-  bound = λ e. absurd (omega (arith, e, other));
-}
-
--- both, where a source tells its bytes
-told_promise : (known : Option (List ℕ)) (judged : Judged) (status : ℕ) → IfSome known (λ bytes. IsVerdict (lines_of bytes) judged) → status ≡ status_of_verdict judged
-    → IfSome known (λ bytes. Promise (lines_of bytes) status)
-told_promise None judged status told is = tt
-told_promise (Some bytes) judged status told is = verdict_promise (lines_of bytes) judged status told is
-
-untold_promise : (known : Option (List ℕ)) (status : ℕ) → 1 < status → IfSome known (λ bytes. Promise (lines_of bytes) status)
-untold_promise None status other = tt
-untold_promise (Some bytes) status other = other_promise (lines_of bytes) status other
-
--- how an audit ended says the promise
-pub audit_promise : (status : ℕ) (input input' out out' : Seen) → AuditSays status input input' out out' → IfSome input.bytes (λ bytes. Promise (lines_of bytes) status)
-audit_promise status input input' out out' (inl says) = told_promise input.bytes (Yes says.1.totals) status says.1.judged says.0
-audit_promise status input input' out out' (inr (inl says)) = told_promise input.bytes (No says.1.line says.1.broken) status says.1.judged says.0
-audit_promise status input input' out out' (inr (inr (inl says))) = untold_promise input.bytes status (omega (arith, says.0))
-audit_promise status input input' out out' (inr (inr (inr (inl says)))) = untold_promise input.bytes status (omega (arith, says.0))
-audit_promise status input input' out out' (inr (inr (inr (inr says)))) = untold_promise input.bytes status (omega (arith, says.0))

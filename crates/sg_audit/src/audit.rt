@@ -1,31 +1,16 @@
-//! The audit of a record: its lines, fed to a pass one by one, and the report of the verdict.
-ghost use Rattle.std.specs.Prelude.{◌≡◌, ◌⊎◌, ℕ, List, [], Option, false, true, IfSome};
-ghost use Rattle.sg_outside.specs.Cutting.{Cutting};
-ghost use Rattle.sg_pass.specs.Pass.{StandsFor, is_open, is_ready};
+//! The command `audit`: what is heard of the input, and the report of the verdict.
+ghost use Rattle.std.specs.Prelude.{◌≡◌, ◌⊎◌, ℕ, List, Option, false, true, IfSome};
 ghost use Rattle.sg_outside.specs.Streams.{Seen, seen};
 ghost use Rattle.sg_outside.specs.TextLines.{lines_of};
 ghost use Rattle.sg_audit.specs.Audit.{AuditSays};
 ghost use Rattle.sg_audit.specs.Promise.{Promise};
-ghost use Rattle.sg_audit.specs.inside.Ending.{AuditEnds, Hears, Writes, is_quiet, status_in, status_of_verdict};
-ghost use Rattle.sg_audit.specs.inside.Feeding.{IsFed, IsFedSome};
+ghost use Rattle.sg_audit.specs.inside.Ending.{AuditEnds, Writes, is_quiet, status_in, status_of_verdict};
 
+use crate::hearing::{Heard, hear};
 use sg_check::Judged;
-use sg_outside::{Got, Lines, Sink, Source};
-use sg_pass::{Pass, Step};
-use sg_plan::limits::LONGEST_LINE;
+use sg_outside::{Sink, Source};
 use sg_report::write_report;
 use std::alloc::Global;
-
-/// What was heard of a source.
-#[derive(Debug, Drop)]
-pub enum Heard {
-    /// The verdict on its bytes.
-    Verdict(Judged),
-    /// It failed.
-    Fault,
-    /// Memory was wanted and not found.
-    NoMemory,
-}
 
 /// How an audit ended.
 #[derive(Debug, Drop)]
@@ -47,7 +32,8 @@ pub enum Ending {
 pub fn answer_audit<S: Source, O: Sink>(alloc: Global, input: &mut S, out: &mut O) -> u8
     ensures says { AuditSays result (seen (S.left input.old) (S.faults input.old)) (seen (S.left input.new) (S.faults input.new))
         (seen (O.written out.old) (O.faults out.old)) (seen (O.written out.new) (O.faults out.new)) }
-    ensures promise { IfSome (S.left input.old) (λ bytes. Promise (lines_of bytes) result) }
+    ensures promise { IfSome (S.left input.old) (λ bytes. Promise (lines_of bytes) result (seen (S.left input.old) (S.faults input.old)) (seen (S.left input.new) (S.faults input.new))
+        (seen (O.written out.old) (O.faults out.old)) (seen (O.written out.new) (O.faults out.new))) }
     ensures quiet { (result ≡ 3) ⊎ (result ≡ 9) → out.new ≡ out.old }
 {
     status_of(&audit(alloc, input, out))
@@ -96,71 +82,5 @@ fn told<O: Sink>(judged: Judged, out: &mut O) -> Ending
     match write_report(out, &judged) {
         Ok(()) => Ending::Done(judged),
         Err(_) => Ending::WriteFault(judged),
-    }
-}
-
-/// Judges the record that the input gives.
-fn hear<S: Source>(alloc: Global, input: &mut S) -> Heard
-    ensures { Hears result (record { bytes = S.left input.old; faults = S.faults input.old }) (record { bytes = S.left input.new; faults = S.faults input.new }) }
-{
-    let Ok(lines) = Lines::new(alloc, LONGEST_LINE) else {
-        return Heard::NoMemory;
-    };
-    let Ok(pass) = Pass::new(alloc) else {
-        return Heard::NoMemory;
-    };
-    judge(pass, lines, input)
-}
-
-/// Feeds the lines to a pass, up to the first that is bad: here those of the plan and the first behind them. All
-/// memory is taken here.
-fn judge<S: Source>(pass: Pass, lines: Lines, input: &mut S) -> Heard
-    requires stands { StandsFor pass [] }
-    requires open { is_open pass ≡ true }
-    requires before { is_ready pass ≡ false }
-    requires fresh { lines ≡ record { limit = 16384; text = []; ahead = []; is_over = false } }
-    ensures { Hears result (record { bytes = S.left input.old; faults = S.faults input.old }) (record { bytes = S.left input.new; faults = S.faults input.new }) }
-{
-    let mut pass = pass;
-    let mut lines = lines;
-    loop {
-        match lines.next(input) {
-            Got::Line => {}
-            Got::Part => return Heard::Verdict(pass.end_at_no_line()),
-            Got::Long => return Heard::Verdict(pass.end_at_no_line()),
-            Got::End => return Heard::Verdict(pass.end()),
-            Got::ReadFault => return Heard::Fault,
-        }
-        match pass.header_line(lines.text()) {
-            Ok(Step::More) => {}
-            Ok(Step::Ready) => return judge_behind(pass, lines, input),
-            Ok(Step::Over) => return Heard::Verdict(pass.end()),
-            Err(_) => return Heard::NoMemory,
-        }
-    }
-}
-
-/// Feeds the lines behind those to the pass. It takes no memory.
-fn judge_behind<S: Source>(pass: Pass, lines: Lines, input: &mut S) -> Heard
-    requires fed { IsFedSome pass lines (S.left input.old) }
-    requires ready { is_ready pass ≡ true }
-    ensures { (before : Option (List ℕ)) → IsFed pass lines before (S.left input.old)
-        → Hears result (record { bytes = before; faults = S.faults input.old }) (record { bytes = S.left input.new; faults = S.faults input.new }) }
-{
-    let mut pass = pass;
-    let mut lines = lines;
-    loop {
-        match lines.next(input) {
-            Got::Line => {}
-            Got::Part => return Heard::Verdict(pass.end_at_no_line()),
-            Got::Long => return Heard::Verdict(pass.end_at_no_line()),
-            Got::End => return Heard::Verdict(pass.end()),
-            Got::ReadFault => return Heard::Fault,
-        }
-        match pass.line(lines.text()) {
-            Step::More => {}
-            Step::Ready => unreachable!(),
-            Step::Over => return Heard::Verdict(pass.end()),
-        }
     }
 }

@@ -2,5 +2,6 @@
 #![tactic(auto)]
 
 mod audit;
+mod hearing;
 
 pub use audit::answer_audit;

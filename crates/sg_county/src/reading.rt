@@ -19,8 +19,13 @@ pub fn county(alloc: Global, bytes: &[u8]) -> Result<CountyVerdict, NoMemory>
     ensures { IfOk result (λ verdict. IsCounty (lines_of bytes.now) verdict) }
 {
     let mut tally = Tally::new(alloc)?;
-    take_lines(&mut tally, alloc, bytes)?;
-    Ok(tally.end())
+    match take_lines(&mut tally, alloc, bytes) {
+        Ok(()) => Ok(tally.end()),
+        Err(NoMemory) => {
+            drop(tally);
+            Err(NoMemory)
+        }
+    }
 }
 
 /// Takes the lines of the bytes, up to the first that settles an answer other than yes.

@@ -1,8 +1,9 @@
 //! The answer on a county in one pass: what is kept of the lines so far, and what is said of them.
 ghost use Rattle.std.specs.Prelude.{◌≡◌, ◌<◌, ◌==◌, if◌then◌else◌, ℕ, List, [], ◌∷◌, ◌++◌, not, true, false, IfOk, None, Ok, OnErr, OnOk};
 ghost use Rattle.sg_check.specs.Verdict.{IsVerdict};
-ghost use Rattle.sg_county.specs.County.{IsCounty, is_next, most_parts};
+ghost use Rattle.sg_county.specs.County.{IsCounty, IsFirstSettled, is_next, most_parts};
 ghost use Rattle.sg_county.specs.Tally.{IsRefusal, Says, StandsFor, StandsForSome, is_more, is_open, left_in};
+ghost use Rattle.sg_county.specs.inside.Ending.{IsLast, IsSomeLast};
 ghost use Rattle.sg_county.specs.inside.Going.{closed, settled_by, step_behind};
 ghost use Rattle.sg_county.specs.inside.Keeping.{Fits};
 ghost use Rattle.sg_pass.specs.Pass.{StandsFor as HasTaken, StandsForSome as HasTakenSome, SaysBehind, is_fine, is_open as is_fine_so_far, left_in as lines_left_in};
@@ -40,9 +41,10 @@ impl Tally {
         ensures stands { IfOk result (λ tally. StandsFor tally []) }
         ensures open { IfOk result (λ tally. is_open tally ≡ true) }
     {
+        let kept = Kept::new(alloc, MOST_PARTS as usize)?;
         Ok(Tally {
-            pass: Pass::new(alloc)?,
-            kept: Kept::new(alloc, MOST_PARTS as usize)?,
+            pass: fresh_pass(alloc),
+            kept,
             over: false,
             settled: None,
         })
@@ -79,9 +81,8 @@ impl Tally {
         ensures falls { IfOk result (λ step. is_more step ≡ true → left_in self.new < left_in self.old) }
         ensures err { OnErr result (self.new ≡ self.old) }
     {
-        let fresh = Pass::new(alloc)?;
         let found = self.kept.note_part(alloc, &self.pass)?;
-        let judged = end_and_replace(&mut self.pass, fresh);
+        let judged = end_and_replace(&mut self.pass, fresh_pass(alloc));
         Ok(self.close_part(alloc, found.number, end_of(&found, judged)))
     }
 
@@ -144,15 +145,13 @@ impl Tally {
         ensures over { is_open self ≡ false → (lines more : List (List ℕ)) → StandsFor self lines → IsCounty (lines ++ more) result }
         ensures refuses { is_open self ≡ false → IsRefusal result }
     {
-        let Tally {
-            pass,
-            kept,
-            over: _,
-            settled,
-        } = self;
-        match settled {
-            Some(verdict) => verdict,
-            None => end_last(pass, kept),
+        let mut tally = self;
+        match tally.settled.take() {
+            Some(verdict) => {
+                drop(tally);
+                verdict
+            }
+            None => end_open(tally),
         }
     }
 
@@ -167,6 +166,28 @@ impl Tally {
         let Tally { pass, kept, .. } = self;
         end_last_at_no_line(pass, kept)
     }
+}
+
+/// The answer where the last part ends, and none before it settled one.
+fn end_open(tally: Tally) -> CountyVerdict
+    requires { IsSomeLast tally.pass tally.kept }
+    ensures all { (before : List (List (List ℕ))) (last : List (List ℕ)) → IsLast tally.pass tally.kept before last → IsFirstSettled before (last ∷ []) result }
+    ensures over { is_fine_so_far tally.pass ≡ false → (before rest : List (List (List ℕ))) (last more : List (List ℕ)) → IsLast tally.pass tally.kept before last → IsFirstSettled before ((last ++ more) ∷ rest) result }
+    ensures refuses { is_fine_so_far tally.pass ≡ false → IsRefusal result }
+{
+    let Tally { pass, kept, .. } = tally;
+    end_last(pass, kept)
+}
+
+/// A pass over no lines yet, which takes no memory.
+fn fresh_pass(alloc: Global) -> Pass
+    ensures stands { HasTaken result [] }
+    ensures open { is_fine_so_far result ≡ true }
+{
+    let Ok(pass) = Pass::new(alloc) else {
+        unreachable!()
+    };
+    pass
 }
 
 /// Ends a pass, and begins a fresh one in its place.

@@ -1,11 +1,11 @@
 -- What is due of the same lines for the odds (this project's rules for the odds).
-use Rattle.std.specs.Prelude.{◌≡◌, ℕ, ◌*◌, ◌^◌, ◌<◌, ◌≤◌, ◌⊎◌, List, [], ◌∷◌, length, codes}
+use Rattle.std.specs.Prelude.{◌≡◌, ℕ, ◌<◌, ◌⊎◌, List, [], ◌∷◌, length, codes}
 use Rattle.sg_grammar.specs.Due.{each}
 use Rattle.sg_record.specs.Places.{places_in}
 use Rattle.sg_parts.specs.Given.{AreParts, Given, IsGiven, completion_of}
 use Rattle.sg_odds.specs.Answers.{IsFirstLacking, IsRaceFull}
+use Rattle.sg_odds.specs.Coins.{FewGetYes, before_draw}
 use Rattle.sg_odds.specs.Odds.{exponent}
-use Rattle.sg_odds.specs.Opened.{rows_due, ways}
 use Rattle.sg_court.specs.Recounts.{IsFaulty}
 use Rattle.sg_court.specs.Texts.{numbers_line}
 
@@ -22,14 +22,14 @@ abbrev pub exponents_text : Given → ℕ → List ℕ
 exponents_text given count = each (λ race. numbers_line (codes "exponent") (race ∷ exponent_of given race ∷ [])) 0 count
 
 -- the lines are those of a recount, and no row of any race is lacking; the text is the exponents; and at most one in two to
--- each of them, of all lists of coins, opens the record with no rule broken
+-- each of them, of all lists of coins, gets yes behind the record's first two sections, with these openings
 pub record FindsOdds (lines : List (List ℕ)) (text : List ℕ) : Type 0 where
   pub given : Given
   pub is_given : IsGiven lines given
   pub parts : AreParts given
   pub full : (race : ℕ) → race < length given.posted.plan.races → IsFullRace given race
   pub bound : (race : ℕ) → race < length given.posted.plan.races
-      → ways given.posted.plan (places_in given.posted) (completion_of given.rows) * 2 ^ exponent_of given race ≤ 2 ^ length (rows_due given.posted.plan)
+      → FewGetYes given.posted.plan (before_draw (places_in given.posted)) (completion_of given.rows) (exponent_of given race)
   pub text_is : text ≡ exponents_text given (length given.posted.plan.races)
 
 -- the lines are those of a recount, and this is the first row of the first race that has one lacking

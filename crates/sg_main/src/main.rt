@@ -2,18 +2,14 @@
 #![tactic(auto)]
 
 mod causes;
-mod status;
-mod words;
 
 use causes::say_why;
 use sg_app::run;
 use sg_file::FileKeeper;
 use sg_plan::{Items, Word};
-use sg_system::{Descriptors, StdSink, StdSource, TcpLinks};
+use sg_system::{Descriptors, StdSource, TcpLinks, WordFault, ending, output, words_of};
 use sg_words::command_of;
-use status::ending;
 use std::process::ExitCode;
-use words::{WordFault, words_of};
 
 /// The status for words that are no command's.
 const BAD_WORDS: u8 = 2;
@@ -27,15 +23,6 @@ fn may_hold(rt: &HostRuntime, words: &Items<Word>) -> bool {
         Ok(Some(command)) => command.may_hold_output(),
         _ => false,
     }
-}
-
-/// Standard output, held where that is wanted and there is memory for it. Else each line is written at once, which takes
-/// longer and changes nothing else.
-fn output(rt: &HostRuntime, is_held: bool) -> StdSink {
-    if is_held && let Ok(sink) = StdSink::held(rt.alloc(), rt.stdout()) {
-        return sink;
-    }
-    StdSink::at_once(rt.alloc(), rt.stdout())
 }
 
 fn main(rt: HostRuntime) -> ExitCode {

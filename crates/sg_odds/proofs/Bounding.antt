@@ -1,5 +1,5 @@
 -- Where a race is full, its exponent is one of the law of the odds.
-use Rattle.std.proofs.Common.{ℕ, ◌*◌, ◌^◌, ◌<◌, ◌≤◌, false, List, length, Option, sym, subst, ap, ◌∙◌}
+use Rattle.std.proofs.Common.{ℕ, ◌<◌, false, List, length, Option, sym, subst, ap, ◌∙◌}
 use Rattle.std.specs.Option.{option_map_or}
 use Rattle.sg_grammar.specs.Lines.{placed_of}
 use Rattle.sg_grammar.specs.Placed.{Placed}
@@ -11,8 +11,8 @@ use Rattle.sg_record.specs.Places.{places_in, walk_of}
 use Rattle.sg_parts.proofs.Accepting.{placed, walks}
 use Rattle.sg_parts.specs.Given.{AreParts, Given, completion_of}
 use Rattle.sg_odds.specs.Answers.{IsBound, IsFound}
+use Rattle.sg_odds.specs.Coins.{FewGetYes, before_draw}
 use Rattle.sg_odds.specs.Odds.{IsFullCompletion, exponent}
-use Rattle.sg_odds.specs.Opened.{rows_due, ways}
 use Rattle.sg_odds.specs.declared.found.OddsFound.{OddsFound}
 use Rattle.sg_odds.specs.declared.found.OddsFound.TheVariants as odds
 use Rattle.sg_odds.proofs.Exponent.{exponent_bound}
@@ -32,5 +32,5 @@ found_is_bound given race (odds.Exponent value) parts race_in is = λ all_full.
       full = λ of instance of_in instance_in. all_full of of_in instance instance_in;
     } in
     let bound = exponent_bound (texts_in given.posted) (walk_of given.posted) over whole completion full race race_in in
-    subst (λ (e : ℕ). ways plan (places_in given.posted) completion * 2 ^ e ≤ 2 ^ length (rows_due plan)) (sym is.1)
-    (subst (λ (l : List Placed). ways plan l completion * 2 ^ exponent plan l completion race ≤ 2 ^ length (rows_due plan)) same bound)
+    subst (λ (e : ℕ). FewGetYes plan (before_draw (places_in given.posted)) completion e) (sym is.1)
+    (subst (λ (l : List Placed). FewGetYes plan (before_draw l) completion (exponent plan l completion race)) same bound)

@@ -18,10 +18,9 @@ use Rattle.sg_check.proofs.Votes.{is_vote}
 use Rattle.sg_check.specs.Bounds.{DifferByAtMost}
 use Rattle.sg_check.specs.Completions.{Completion, any_below}
 use Rattle.sg_check.specs.Printings.{count_below}
-use Rattle.sg_odds.specs.Odds.{IsInstanceFull, distance, is_half_lacking, is_led, led}
-use Rattle.sg_odds.specs.Opened.{half_of, no_opening}
+use Rattle.sg_odds.specs.Odds.{IsInstanceFull, distance, half_of, is_half_lacking, is_led, led, no_opening}
 use Rattle.sg_odds.proofs.Halving.{is_barred}
-use Rattle.sg_odds.proofs.Wrong.{bars}
+use Rattle.sg_odds.proofs.Barred.{bars}
 
 -- COUNTING
 

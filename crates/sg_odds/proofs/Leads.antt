@@ -13,8 +13,7 @@ use Rattle.sg_check.specs.Facts.{is_marked}
 use Rattle.sg_facts.specs.Items.{item_in}
 use Rattle.sg_recount.proofs.Counting.{count_most}
 use Rattle.sg_odds.proofs.Lacks.{values_filled}
-use Rattle.sg_odds.specs.Odds.{is_led, led}
-use Rattle.sg_odds.specs.Opened.{half_of}
+use Rattle.sg_odds.specs.Odds.{half_of, is_led, led}
 use Rattle.sg_odds.specs.inside.Gaps.{HasLed, led_by}
 use Rattle.sg_odds.specs.inside.Values.{HasValues}
 

@@ -1,10 +1,14 @@
--- The proofs of the law of the odds, and of what is found of a race.
+-- The proofs of the laws of the odds, and of what is found of a race.
+pub mod Barred
 pub mod Bounding
 pub mod Examples
 pub mod Exponent
 pub mod Few
 pub mod Gapping
+pub mod Getting
 pub mod Halving
+pub mod InOrder
+pub mod Kept
 pub mod Lacks
 pub mod Leading
 pub mod Leads
@@ -13,5 +17,7 @@ pub mod Literal
 pub mod OddsLaw
 pub mod Powers
 pub mod Rows
+pub mod SamePlan
 pub mod Sections
-pub mod Wrong
+pub mod Twice
+pub mod Verdicts

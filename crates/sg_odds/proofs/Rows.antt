@@ -9,7 +9,7 @@ use Rattle.sg_grammar.specs.Due.{instance_rows, numbered, race_rows, row_opening
 use Rattle.sg_grammar.specs.declared.state.Slot.{Slot}
 use Rattle.sg_grammar.specs.declared.state.Slot.TheVariants as slot
 use Rattle.sg_check.specs.Printings.{count_below}
-use Rattle.sg_odds.specs.Opened.{rows_due}
+use Rattle.sg_odds.specs.Coins.{rows_due}
 
 module _ {A : Type 0} (p : A → Bool) where
   -- in one of the lists are no more than in all

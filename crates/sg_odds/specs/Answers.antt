@@ -1,13 +1,13 @@
 -- What is found of a race: the exponent of its odds, or the first row whose pointers aren't full (this project's rules for
 -- the odds).
-use Rattle.std.specs.Prelude.{◌≡◌, ℕ, ◌*◌, ◌^◌, ◌<◌, ◌≤◌, true, false, ◌⊎◌, List, length}
+use Rattle.std.specs.Prelude.{◌≡◌, ℕ, ◌<◌, true, false, ◌⊎◌, List, length}
 use Rattle.sg_plan.specs.declared.plan.Plan.{Plan}
 use Rattle.sg_grammar.specs.Placed.{Placed}
 use Rattle.sg_record.specs.Places.{places_in}
 use Rattle.sg_check.specs.Completions.{Completion, IsHalfOf}
 use Rattle.sg_parts.specs.Given.{Given, completion_of}
+use Rattle.sg_odds.specs.Coins.{FewGetYes, before_draw}
 use Rattle.sg_odds.specs.Odds.{IsInstanceFull, exponent, is_lacking}
-use Rattle.sg_odds.specs.Opened.{rows_due, ways}
 use Rattle.sg_odds.specs.declared.found.OddsFound.{OddsFound}
 use Rattle.sg_odds.specs.declared.found.OddsFound.TheVariants as odds
 
@@ -26,11 +26,10 @@ abbrev pub IsFoundIn : Plan → List Placed → Completion → ℕ → OddsFound
 IsFoundIn plan lines completion race (odds.Exponent value) = IsRaceFull plan completion race × (value ≡ exponent plan lines completion race)
 IsFoundIn plan lines completion race (odds.NotFull instance row) = IsFirstLacking plan completion race instance row
 
--- where no row of any race is lacking, at most one in two to the exponent of all lists of coins opens the record with no
--- rule broken
+-- where no row of any race is lacking, at most one in two to the exponent of all lists of coins gets yes
 abbrev pub IsBoundIn : Plan → List Placed → Completion → OddsFound → Type 0
-IsBoundIn plan lines completion (odds.Exponent value) = ((race : ℕ) → race < length plan.races → IsRaceFull plan completion race)
-    → ways plan lines completion * 2 ^ value ≤ 2 ^ length (rows_due plan)
+IsBoundIn plan lines completion (odds.Exponent value) =
+    ((race : ℕ) → race < length plan.races → IsRaceFull plan completion race) → FewGetYes plan (before_draw lines) completion value
 IsBoundIn plan lines completion (odds.NotFull instance row) = Unit {0}
 
 -- of a record's lines in their places, and of what is given of its rows

@@ -1,5 +1,5 @@
 pub mod Answers
 pub mod Coins
+pub mod Examples
 pub mod Odds
-pub mod Opened
 pub mod inside

@@ -1,6 +1,7 @@
--- The law of the odds: how many lists of coins a record with wrong totals passes by (this project's rules for the record).
-use Rattle.std.specs.Prelude.{◌≡◌, ℕ, zero, suc, ◌+◌, ◌-◌, ◌*◌, ◌^◌, ◌%◌, ◌<◌, ◌≤◌, ◌==◌, nat_le, min, max, Bool, true, false, ◌&&◌, ◌||◌, List, length, Some}
+-- The law of the odds: how many lists of coins get yes with wrong totals (this project's rules for the record).
+use Rattle.std.specs.Prelude.{◌≡◌, ◌≢◌, ℕ, zero, suc, ◌+◌, ◌-◌, ◌*◌, ◌%◌, ◌<◌, ◌≤◌, ◌==◌, ◌⊎◌, nat_le, min, max, Bool, true, false, ◌&&◌, ◌||◌, List, [], length, Some}
 use Rattle.std.specs.Option.{option_map_or}
+use Rattle.sg_commit.specs.declared.Opening.{Opening}
 use Rattle.sg_plan.specs.Ballots.{candidates_of, entries_of}
 use Rattle.sg_plan.specs.declared.plan.Plan.{Plan}
 use Rattle.sg_plan.specs.declared.plan.Side.{Side}
@@ -8,13 +9,15 @@ use Rattle.sg_plan.specs.declared.plan.Side.TheVariants as side
 use Rattle.sg_grammar.specs.Placed.{Placed}
 use Rattle.sg_grammar.specs.Placed.Placed.{TotalAt}
 use Rattle.sg_grammar.specs.Walk.{Walked, is_whole, start, walk}
-use Rattle.sg_check.specs.Facts.{is_marked, points_to}
-use Rattle.sg_grammar.specs.Lines.{placed_of}
-use Rattle.sg_grammar.specs.Lines.{IsAmong}
-use Rattle.sg_check.specs.Completions.{Completion, IsCompletion, any_below, is_row_misprinted}
+use Rattle.sg_grammar.specs.Lines.{IsAmong, placed_of}
+use Rattle.sg_check.specs.Completions.{Completion, IsCompletion, OpensNoneTwice, any_below, half_commitment, half_kind, is_row_misprinted}
+use Rattle.sg_check.specs.Facts.{is_full_draw, is_marked, points_to, public_bytes}
+use Rattle.sg_check.specs.Kinds.{opens_digest}
+use Rattle.sg_check.specs.Laws.{IsAccepted}
 use Rattle.sg_check.specs.Printings.{IsPrinting, Printing, count_below, posted_codes}
+use Rattle.sg_check.specs.declared.judged.Total.{Total}
 use Rattle.sg_facts.specs.Totals.{total_of}
-use Rattle.sg_odds.specs.Opened.{half_of, rows_due, ways}
+use Rattle.sg_odds.specs.Coins.{FewGetYes, GetsYes, before_draw, coins_of, rows_due}
 
 -- the completion has no pointer at this half, or one of n or more, or one that an earlier row has on this side
 abbrev pub is_half_lacking : Plan → Completion → Side → ℕ → ℕ → ℕ → Bool
@@ -32,6 +35,13 @@ IsInstanceFull plan completion race instance = (row : ℕ) → row < entries_of 
 pub record IsFullCompletion (plan : Plan) (lines : List Placed) (completion : Completion) : Type 0 where
   pub is_completion : IsCompletion plan lines completion
   pub full : (race instance : ℕ) → race < length plan.races → instance < plan.instances → IsInstanceFull plan completion race instance
+
+-- what the completion opens a half with; a full one opens each
+abbrev pub no_opening : Opening
+no_opening = record { key = record { 0 = [] }; value = 0 }
+
+abbrev pub half_of : Completion → Side → ℕ → ℕ → ℕ → Opening
+half_of completion on race instance row = option_map_or (λ opening. opening) (completion on race instance row) no_opening
 
 -- the row has the left pointer of a marked entry, and a right pointer to a place of the candidate
 abbrev pub is_led : Plan → List Placed → Completion → ℕ → ℕ → ℕ → ℕ → Bool
@@ -53,13 +63,13 @@ IsOffBy plan lines completion race candidate count least =
     (instance : ℕ) → instance < plan.instances → least ≤ distance count (led plan lines completion race instance candidate)
 
 -- with a full completion, where a total is off by so much in each instance, at most one in two to this power, for each
--- instance, of all lists of coins opens the record with no rule broken
+-- instance, of all lists of coins gets yes
 abbrev pub OddsBound : Type 0
 OddsBound = (lines : List (List ℕ)) (walked : Walked) → walk start lines ≡ Some walked
     → (completion : Completion) → IsFullCompletion walked.next.plan (placed_of walked.posted) completion
     → (race candidate count least : ℕ) → IsAmong (placed_of walked.posted) (TotalAt race candidate count)
     → IsOffBy walked.next.plan (placed_of walked.posted) completion race candidate count least
-    → ways walked.next.plan (placed_of walked.posted) completion * 2 ^ (least * walked.next.plan.instances) ≤ 2 ^ length (rows_due walked.next.plan)
+    → FewGetYes walked.next.plan (before_draw (placed_of walked.posted)) completion (least * walked.next.plan.instances)
 
 -- where each marked entry's code is printed beside the candidate that its row leads to, as many are led to a candidate as
 -- codes are posted for it
@@ -95,15 +105,54 @@ least_gap plan lines completion race candidate = least_with (gap plan lines comp
 abbrev pub exponent : Plan → List Placed → Completion → ℕ → ℕ
 exponent plan lines completion race = plan.instances * greatest_below (least_gap plan lines completion race) (candidates_of plan race)
 
--- with a full completion a record passes by at most one in two to this power of all lists of coins
+-- with a full completion at most one in two to this power of all lists of coins gets yes
 abbrev pub ExponentBound : Type 0
 ExponentBound = (lines : List (List ℕ)) (walked : Walked) → walk start lines ≡ Some walked → is_whole walked.next ≡ true
     → (completion : Completion) → IsFullCompletion walked.next.plan (placed_of walked.posted) completion
     → (race : ℕ) → race < length walked.next.plan.races
-    → ways walked.next.plan (placed_of walked.posted) completion * 2 ^ exponent walked.next.plan (placed_of walked.posted) completion race ≤ 2 ^ length (rows_due walked.next.plan)
+    → FewGetYes walked.next.plan (before_draw (placed_of walked.posted)) completion (exponent walked.next.plan (placed_of walked.posted) completion race)
+
+-- A VERDICT OF YES
+
+-- where the verdict on a record is yes and public bytes are drawn, their coins get yes, with each completion that it opens by
+abbrev pub YesGetsYes : Type 0
+YesGetsYes = (lines : List (List ℕ)) (totals : List Total) (walked : Walked) → IsAccepted lines totals walked
+    → (public : List ℕ) → public_bytes (placed_of walked.posted) ≡ Some public
+    → (completion : Completion) → OpensNoneTwice (placed_of walked.posted) completion
+    → GetsYes (before_draw (placed_of walked.posted)) completion (coins_of public (placed_of walked.posted))
+
+-- and where all is drawn, all lists of coins do
+abbrev pub FullGetsYes : Type 0
+FullGetsYes = (lines : List (List ℕ)) (totals : List Total) (walked : Walked) → IsAccepted lines totals walked → is_full_draw (placed_of walked.posted) ≡ true
+    → (completion : Completion) → OpensNoneTwice (placed_of walked.posted) completion
+    → (coins : List Side) → length coins ≡ length (rows_due walked.next.plan) → GetsYes (before_draw (placed_of walked.posted)) completion coins
+
+-- two openings of the commitment of one half
+pub record IsOpenedTwice (lines : List Placed) : Type 0 where
+  pub on : Side
+  pub race : ℕ
+  pub instance : ℕ
+  pub row : ℕ
+  pub one : Opening
+  pub other : Opening
+  pub differ : one ≢ other
+  pub opens_one : opens_digest (half_commitment lines on race instance row) (half_kind on) race instance row one ≡ true
+  pub opens_other : opens_digest (half_commitment lines on race instance row) (half_kind on) race instance row other ≡ true
+
+-- and a record with the first two sections of another, on which the verdict is yes, opens by each full completion of that one,
+-- or a commitment is opened twice
+abbrev pub YesOpensSo : Type 0
+YesOpensSo = (lines : List (List ℕ)) (walked : Walked) → walk start lines ≡ Some walked
+    → (completion : Completion) → IsFullCompletion walked.next.plan (placed_of walked.posted) completion
+    → (texts : List (List ℕ)) (totals : List Total) (other : Walked) → IsAccepted texts totals other
+    → before_draw (placed_of other.posted) ≡ before_draw (placed_of walked.posted)
+    → OpensNoneTwice (placed_of other.posted) completion ⊎ IsOpenedTwice (placed_of walked.posted)
 
 -- all of these laws
 pub record OddsLaw : Type 0 where
   pub bound : OddsBound
   pub posted : LedIsPosted
   pub exponent : ExponentBound
+  pub verdict : YesGetsYes
+  pub drawn : FullGetsYes
+  pub opens : YesOpensSo

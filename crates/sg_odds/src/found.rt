@@ -17,8 +17,8 @@ use std::alloc::Global;
 /// What is found of a race.
 #[derive(Clone, Copy, Debug, PartialEq, Eq)]
 pub enum OddsFound {
-    /// Of all lists of coins, one for each row of the record, at most one in two to this power opens the record with no
-    /// rule broken, where the completion is full in every race.
+    /// Of all lists of coins, one for each row of the record, at most one in two to this power gets yes behind the record's
+    /// first two sections, where the completion is full in every race.
     Exponent(u32),
     /// The first row of the race that isn't full: a pointer is missing, or isn't below the count of rows, or is an earlier
     /// row's on its side.

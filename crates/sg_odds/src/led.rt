@@ -3,8 +3,7 @@ ghost use Rattle.std.specs.Prelude.{◌≡◌, ℕ, ◌+◌, ◌<◌, ◌≤◌,
 ghost use Rattle.sg_check.specs.Printings.{marked_code as code_marked};
 ghost use Rattle.sg_facts.specs.Tables.{HasTable};
 ghost use Rattle.sg_odds.specs.Answers.{IsRaceFull};
-ghost use Rattle.sg_odds.specs.Odds.{IsInstanceFull, led};
-ghost use Rattle.sg_odds.specs.Opened.{half_of};
+ghost use Rattle.sg_odds.specs.Odds.{IsInstanceFull, half_of, led};
 ghost use Rattle.sg_odds.specs.inside.Gaps.{HasLed};
 ghost use Rattle.sg_odds.specs.inside.Values.{HasValues};
 ghost use Rattle.sg_parts.specs.Given.{completion_of};

@@ -1,5 +1,5 @@
 //! A line of the plan, or the first behind it, taken behind lines that are fine.
-ghost use Rattle.std.specs.Prelude.{◌≡◌, ℕ, ◌<◌, is_some, List, IfOk, IsSome, OnErr, None};
+ghost use Rattle.std.specs.Prelude.{◌≡◌, ℕ, ◌<◌, is_some, List, IfOk, IsSome, OnErr, None, Some};
 ghost use Rattle.sg_pass.specs.inside.Taking.{Advances, IsNoPlanLine, Stands, StandsSome, is_behind, next_seal, opened_by, or_seal};
 ghost use Rattle.sg_plan.specs.Limits.{fault_of};
 ghost use Rattle.sg_grammar.specs.Left.{lines_left};
@@ -11,6 +11,7 @@ use sg_grammar::{Expect, read_line};
 use sg_ledger::Ledger;
 use sg_plan::NoMemory;
 use std::alloc::Global;
+use std::mem;
 
 /// Takes the next line, with its line feed, behind fine lines of the plan, and answers what it is bad in.
 ///
@@ -74,7 +75,16 @@ fn advance_behind(
 fn keep_opened(ledger: &mut Option<Ledger>, opened: Ledger, broken: Option<Kind>)
     ensures { ledger.new ≡ opened_by broken opened ledger.old }
 {
-    if broken.is_none() {
-        *ledger = Some(opened);
+    match broken {
+        None => put_opened(ledger, opened),
+        Some(_) => drop(opened),
     }
+}
+
+/// Puts a ledger in the place of what was kept.
+fn put_opened(ledger: &mut Option<Ledger>, opened: Ledger)
+    ensures { ledger.new ≡ Some opened }
+{
+    let before = mem::replace(ledger, Some(opened));
+    drop(before);
 }

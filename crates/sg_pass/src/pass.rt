@@ -158,6 +158,18 @@ impl Pass {
         ensures no { is_open self ≡ false → IsNo result }
         ensures over { is_open self ≡ false → (lines more : List (List ℕ)) → StandsFor self lines → IsVerdict (lines ++ more) result }
     {
+        let mut pass = self;
+        let judged = pass.take_verdict();
+        drop(pass);
+        judged
+    }
+
+    /// The verdict on the lines so far. The ledger gives its totals away.
+    fn take_verdict(&mut self) -> Judged
+        ensures all { (lines : List (List ℕ)) → StandsFor self.old lines → IsVerdict lines result }
+        ensures no { is_open self.old ≡ false → IsNo result }
+        ensures over { is_open self.old ≡ false → (lines more : List (List ℕ)) → StandsFor self.old lines → IsVerdict (lines ++ more) result }
+    {
         if let Some(kind) = self.broken {
             return Judged::No {
                 line: self.number,
@@ -165,7 +177,8 @@ impl Pass {
             };
         }
         if self.expect.whole() {
-            return Judged::Yes(totals_told(self.alloc, self.ledger));
+            let ledger = self.ledger.take();
+            return Judged::Yes(totals_told(self.alloc, ledger));
         }
         Judged::No {
             line: self.number.saturating_add(1),
@@ -179,8 +192,10 @@ impl Pass {
         ensures all { (lines more : List (List ℕ)) (text : List ℕ) → StandsFor self lines → ((version : ℕ) → line_of version text ≡ None) → IsVerdict (lines ++ text ∷ more) result }
         ensures no { IsNo result }
     {
+        let line = self.number.saturating_add(1);
+        drop(self);
         Judged::No {
-            line: self.number.saturating_add(1),
+            line,
             kind: Kind::Form,
         }
     }

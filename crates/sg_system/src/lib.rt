@@ -1,18 +1,25 @@
-//! The system: standard input and output, connections of this machine, and the descriptors that they stand on.
+//! The system: standard input and output, the words after the program's name, the status to end with, connections of this
+//! machine, and the descriptors that all of these stand on.
 //!
 //! What stands here counts its faults and keeps the cause of the last one. It tells nothing of its bytes.
 #![tactic(auto)]
 
 mod descriptors;
 mod gate;
+mod held_output;
 mod leaving;
+mod status;
 mod streams;
 mod talk;
 mod tcp_links;
 #[cfg(test)]
 mod tests;
 mod watch;
+mod words;
 
 pub use crate::descriptors::Descriptors;
+pub use crate::held_output::output;
+pub use crate::status::ending;
 pub use crate::streams::{StdSink, StdSource};
 pub use crate::tcp_links::TcpLinks;
+pub use crate::words::{WordFault, words_of};

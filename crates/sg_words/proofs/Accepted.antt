@@ -218,12 +218,15 @@ each_is_fine = (
           (
             ((refl, refl), one_word (codes "scans") (literal (codes "scans") refl (λ minus. cc minus))),
             (
-              ((refl, refl), one_word (codes "recount") (literal (codes "recount") refl (λ minus. cc minus))),
+              ((refl, refl), one_word (codes "openings") (literal (codes "openings") refl (λ minus. cc minus))),
               (
-                ((refl, refl), one_word (codes "odds") (literal (codes "odds") refl (λ minus. cc minus))),
+                ((refl, refl), one_word (codes "recount") (literal (codes "recount") refl (λ minus. cc minus))),
                 (
-                  ((refl, refl), one_word (codes "county") (literal (codes "county") refl (λ minus. cc minus))),
-                  (serve_is_fine, (sample_is_fine, tt)),
+                  ((refl, refl), one_word (codes "odds") (literal (codes "odds") refl (λ minus. cc minus))),
+                  (
+                    ((refl, refl), one_word (codes "county") (literal (codes "county") refl (λ minus. cc minus))),
+                    (serve_is_fine, (sample_is_fine, tt)),
+                  ),
                 ),
               ),
             ),

@@ -3,7 +3,7 @@ use Rattle.std.specs.Option.{option_map}
 use Rattle.std.specs.Prelude.{ℕ, ◌≤◌, Bool, true, false, List, [], ◌∷◌, if◌then◌else◌, bytes_eq, codes, Option, Some, None}
 use Rattle.sg_words.specs.Numbers.{IsService, Range, ballots_range, count_range, port_range, sample_in, seed_range, service_in}
 use Rattle.sg_words.specs.declared.command.Command.{Command}
-use Rattle.sg_words.specs.declared.command.Command.TheVariants.{Audit, County, Do, Init, Odds, Record, Recount, Sample, Scans, Serve, Sheet}
+use Rattle.sg_words.specs.declared.command.Command.TheVariants.{Audit, County, Do, Init, Odds, Openings, Record, Recount, Sample, Scans, Serve, Sheet}
 
 -- what stands behind a command's name: nothing, or two numbers, with the command that two words ask for there
 pub data Behind : Type 0 where
@@ -21,18 +21,35 @@ alone name command = record { name = name; behind = no_more command }
 abbrev pub with_two : List ℕ → Range → Range → (List ℕ → List ℕ → Option Command) → Words
 with_two name first second asked = record { name = name; behind = two_more first second asked }
 
+-- the words of the commands that report on what they read, and open no office
+abbrev pub audit_words : Words
+audit_words = alone (codes "audit") Audit
+
+abbrev pub recount_words : Words
+recount_words = alone (codes "recount") Recount
+
+abbrev pub odds_words : Words
+odds_words = alone (codes "odds") Odds
+
+abbrev pub county_words : Words
+county_words = alone (codes "county") County
+
+abbrev pub reports : List Words
+reports = audit_words ∷ recount_words ∷ odds_words ∷ county_words ∷ []
+
 -- the words of each command
 unfoldable pub commands : List Words
 commands =
-    alone (codes "audit") Audit
+    audit_words
     ∷ alone (codes "init") Init
     ∷ alone (codes "sheet") Sheet
     ∷ alone (codes "do") Do
     ∷ alone (codes "record") Record
     ∷ alone (codes "scans") Scans
-    ∷ alone (codes "recount") Recount
-    ∷ alone (codes "odds") Odds
-    ∷ alone (codes "county") County
+    ∷ alone (codes "openings") Openings
+    ∷ recount_words
+    ∷ odds_words
+    ∷ county_words
     ∷ with_two (codes "serve") port_range count_range (λ port count. option_map Serve (service_in port count))
     ∷ with_two (codes "sample") seed_range ballots_range (λ seed ballots. option_map Sample (sample_in seed ballots))
     ∷ []
@@ -66,6 +83,7 @@ may_hold_output (Serve asked) = false
 may_hold_output Record = true
 may_hold_output (Sample asked) = true
 may_hold_output Scans = false
+may_hold_output Openings = true
 may_hold_output Recount = true
 may_hold_output Odds = true
 may_hold_output County = true
@@ -80,6 +98,7 @@ IsSized Sheet = Unit {0}
 IsSized Do = Unit {0}
 IsSized Record = Unit {0}
 IsSized Scans = Unit {0}
+IsSized Openings = Unit {0}
 IsSized Recount = Unit {0}
 IsSized Odds = Unit {0}
 IsSized County = Unit {0}

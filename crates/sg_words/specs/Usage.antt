@@ -1,6 +1,6 @@
 -- The line that names the words of all commands.
 use Rattle.std.specs.Prelude.{ℕ, List, [], ◌∷◌, ◌++◌, codes, decimal}
-use Rattle.sg_words.specs.Command.{Behind, Words, commands, no_more, two_more}
+use Rattle.sg_words.specs.Command.{Behind, Words, commands, no_more, reports, two_more}
 use Rattle.sg_words.specs.Numbers.{Range}
 
 -- from the least to the most
@@ -29,6 +29,10 @@ shown_more (form ∷ forms) = codes " | " ++ shown_words form ++ shown_more form
 abbrev pub shown_all : List Words → List ℕ
 shown_all [] = []
 shown_all (form ∷ forms) = shown_words form ++ shown_more forms
+
+-- the words of the commands that open no office
+abbrev pub report_usage_text : List ℕ
+report_usage_text = shown_all reports
 
 -- the words of all commands
 abbrev pub usage_text : List ℕ

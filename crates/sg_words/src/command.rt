@@ -30,6 +30,8 @@ pub enum Command {
     Sample(Sample),
     /// Turns files of scanners into asks.
     Scans,
+    /// Writes what opens both halves of each row.
+    Openings,
     /// Lists the altered rows of a record's completion.
     Recount,
     /// Tells how unlikely the totals of a record's completion are.
@@ -49,6 +51,7 @@ impl Command {
             | Command::Sheet
             | Command::Record
             | Command::Sample(_)
+            | Command::Openings
             | Command::Recount
             | Command::Odds
             | Command::County => true,

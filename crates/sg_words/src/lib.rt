@@ -21,4 +21,4 @@ pub use command::{Command, command_of};
 pub use laws::commands_have_words_law;
 pub use sample::{Sample, sample_of};
 pub use service::Service;
-pub use usage_line::usage;
+pub use usage_line::{report_usage, usage};

@@ -1,7 +1,7 @@
 //! The table of the commands: the words of each. The command line that `clap` is told, the command of a name and the line that
 //! names all commands are read off it.
 ghost use Rattle.std.specs.Prelude.{◌≡◌, map};
-ghost use Rattle.sg_words.specs.Command.{commands as all_words};
+ghost use Rattle.sg_words.specs.Command.{commands as all_words, reports as report_words};
 ghost use Rattle.sg_words.specs.inside.Table.{words_of};
 
 use crate::command::Command;
@@ -72,12 +72,33 @@ pub(crate) const BALLOTS: Number = Number {
     most: 9_000,
 };
 
+/// Judges a record.
+const AUDIT: Form = Form {
+    name: "audit",
+    takes: Takes::Nothing(Command::Audit),
+};
+
+/// Lists the altered rows of a record's completion.
+const RECOUNT: Form = Form {
+    name: "recount",
+    takes: Takes::Nothing(Command::Recount),
+};
+
+/// Tells how unlikely its totals are.
+const ODDS: Form = Form {
+    name: "odds",
+    takes: Takes::Nothing(Command::Odds),
+};
+
+/// Judges several records as one.
+const COUNTY: Form = Form {
+    name: "county",
+    takes: Takes::Nothing(Command::County),
+};
+
 /// The words of each command, in the order in which a user meets them.
-const COMMANDS: [Form; 11] = [
-    Form {
-        name: "audit",
-        takes: Takes::Nothing(Command::Audit),
-    },
+const COMMANDS: [Form; 12] = [
+    AUDIT,
     Form {
         name: "init",
         takes: Takes::Nothing(Command::Init),
@@ -99,17 +120,12 @@ const COMMANDS: [Form; 11] = [
         takes: Takes::Nothing(Command::Scans),
     },
     Form {
-        name: "recount",
-        takes: Takes::Nothing(Command::Recount),
+        name: "openings",
+        takes: Takes::Nothing(Command::Openings),
     },
-    Form {
-        name: "odds",
-        takes: Takes::Nothing(Command::Odds),
-    },
-    Form {
-        name: "county",
-        takes: Takes::Nothing(Command::County),
-    },
+    RECOUNT,
+    ODDS,
+    COUNTY,
     Form {
         name: "serve",
         takes: Takes::Two(PORT, COUNT, Pair::Service),
@@ -122,8 +138,15 @@ const COMMANDS: [Form; 11] = [
 
 /// The table.
 #[tactic(auto, unfolding(crate::specs::Command::commands))]
-pub(crate) fn commands() -> [Form; 11]
+pub(crate) fn commands() -> [Form; 12]
     ensures { map words_of result ≡ all_words }
 {
     COMMANDS
+}
+
+/// The rows of the commands that report on what they read, and open no office.
+pub(crate) fn reports() -> [Form; 4]
+    ensures { map words_of result ≡ report_words }
+{
+    [AUDIT, RECOUNT, ODDS, COUNTY]
 }

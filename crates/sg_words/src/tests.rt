@@ -1,5 +1,5 @@
 //! Words and the command that the rules of the command line give for them, and the line that names them.
-use super::{Command, Sample, Service, command_of, usage};
+use super::{Command, Sample, Service, command_of, report_usage, usage};
 use sg_plan::{Items, NoMemory, Word};
 use std::alloc::Global;
 use std::test::Fail;
@@ -35,7 +35,7 @@ fn sample(seed: u32, ballots: u32) -> Option<Command> {
 }
 
 /// Lines of words that ask for a command.
-fn accepted() -> [(&'static str, Option<Command>); 15] {
+fn accepted() -> [(&'static str, Option<Command>); 16] {
     [
         ("audit", Some(Command::Audit)),
         ("init", Some(Command::Init)),
@@ -43,6 +43,7 @@ fn accepted() -> [(&'static str, Option<Command>); 15] {
         ("do", Some(Command::Do)),
         ("record", Some(Command::Record)),
         ("scans", Some(Command::Scans)),
+        ("openings", Some(Command::Openings)),
         ("recount", Some(Command::Recount)),
         ("odds", Some(Command::Odds)),
         ("county", Some(Command::County)),
@@ -68,8 +69,10 @@ fn each_command_is_named(rt: HostRuntime) -> Result<(), Fail> {
     let line = usage(rt.alloc())?;
     assert_eq!(rt;
         line.as_str(),
-        "audit | init | sheet | do | record | scans | recount | odds | county | serve PORT COUNT (1 to 65535, 1 to 1000000) | sample SEED BALLOTS (0 to 4294967295, 1 to 9000)"
+        "audit | init | sheet | do | record | scans | openings | recount | odds | county | serve PORT COUNT (1 to 65535, 1 to 1000000) | sample SEED BALLOTS (0 to 4294967295, 1 to 9000)"
     );
+    let reports = report_usage(rt.alloc())?;
+    assert_eq!(rt; reports.as_str(), "audit | recount | odds | county");
     for (words, _) in accepted() {
         let name = words.split(' ').next();
         let is_named = line.split(" | ").any(|form| form.split(' ').next() == name);
@@ -91,6 +94,8 @@ fn other_words_are_none(rt: HostRuntime) -> Result<(), Fail> {
         "do do",
         "record 1 2",
         "scans now",
+        "openings now",
+        "opening",
         "recount 0",
         "recounts",
         "odds 0",

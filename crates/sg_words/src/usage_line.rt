@@ -1,9 +1,9 @@
 //! The line that names the words of all commands.
 ghost use Rattle.std.specs.Prelude.{◌≡◌, ◌++◌, IfOk, codes, map, string_bytes};
-ghost use Rattle.sg_words.specs.Usage.{shown_all, shown_behind, shown_more, shown_words, usage_text};
+ghost use Rattle.sg_words.specs.Usage.{report_usage_text, shown_all, shown_behind, shown_more, shown_words, usage_text};
 ghost use Rattle.sg_words.specs.inside.Table.{behind_of, words_of};
 
-use crate::table::{Form, Takes, commands};
+use crate::table::{Form, Takes, commands, reports};
 use sg_plan::NoMemory;
 use std::alloc::Global;
 
@@ -65,4 +65,11 @@ pub fn usage(alloc: Global) -> Result<String, NoMemory>
     ensures { IfOk result (λ text. string_bytes text ≡ usage_text) }
 {
     usage_of(alloc, &commands())
+}
+
+/// The words of the commands that report on what they read and open no office, as [`usage`] tells those of all.
+pub fn report_usage(alloc: Global) -> Result<String, NoMemory>
+    ensures { IfOk result (λ text. string_bytes text ≡ report_usage_text) }
+{
+    usage_of(alloc, &reports())
 }

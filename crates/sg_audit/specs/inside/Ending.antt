@@ -9,8 +9,8 @@ use Rattle.sg_audit.specs.Audit.{HasRead, Judges, TookFine, TookHeader}
 use Rattle.sg_report.specs.Report.{report_of}
 use Rattle.sg_audit.specs.declared.audit.Ending.{Ending}
 use Rattle.sg_audit.specs.declared.audit.Ending.TheVariants as ending
-use Rattle.sg_audit.specs.declared.audit.Heard.{Heard}
-use Rattle.sg_audit.specs.declared.audit.Heard.TheVariants as heard
+use Rattle.sg_audit.specs.declared.hearing.Heard.{Heard}
+use Rattle.sg_audit.specs.declared.hearing.Heard.TheVariants as heard
 
 -- what was heard of a source
 abbrev pub Hears : Heard → Seen → Seen → Type 0

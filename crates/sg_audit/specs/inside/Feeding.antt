@@ -1,10 +1,11 @@
 -- How far a pass has gone in the bytes of a source.
-use Rattle.std.specs.Prelude.{◌≡◌, ℕ, true, false, List, Option}
+use Rattle.std.specs.Prelude.{◌≡◌, ◌≤◌, ℕ, true, false, List, Option}
 use Rattle.std.specs.List.{concat}
 use Rattle.std.specs.Io.KnownBytes.{Consumes}
 use Rattle.sg_outside.specs.Cutting.{Cutting, to_come}
+use Rattle.sg_outside.specs.Streams.{Seen}
 use Rattle.sg_outside.specs.TextLines.{AreLines}
-use Rattle.sg_pass.specs.Pass.{StandsFor, is_open}
+use Rattle.sg_pass.specs.Pass.{StandsFor, is_open, is_ready}
 use Rattle.sg_pass.specs.declared.pass.Pass.{Pass}
 
 -- the pass has taken whole lines, and the bytes that are still to come are the others
@@ -17,5 +18,11 @@ pub record IsFed (pass : Pass) (lines : Cutting) (before now : Option (List ℕ)
   pub goes_on : lines.is_over ≡ false
   pub limit : lines.limit ≡ 16384
 
-abbrev pub IsFedSome : Pass → Cutting → Option (List ℕ) → Type 0
-IsFedSome pass lines now = (before : Option (List ℕ)) × IsFed pass lines before now
+-- the same of lines that go on behind the plan, where the source failed as often at first as it has by now, or less often
+pub record IsFedBehind (pass : Pass) (lines : Cutting) (first now : Seen) : Type 0 where
+  pub fed : IsFed pass lines first.bytes now.bytes
+  pub ready : is_ready pass ≡ true
+  pub later : first.faults ≤ now.faults
+
+abbrev pub IsFedBehindSome : Pass → Cutting → Seen → Type 0
+IsFedBehindSome pass lines now = (first : Seen) × IsFedBehind pass lines first now

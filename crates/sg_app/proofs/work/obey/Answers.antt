@@ -9,7 +9,7 @@ use Rattle.sg_app.proofs.Samples.{sample_says}
 use Rattle.sg_app.proofs.work.obey.Goals as goal
 
 pub returns-in-Audit-clause-says : goal.returns-in-Audit-clause-says
-returns-in-Audit-clause-says g c = rw c.in-Audit.is c.answer_audit.ensures.says
+returns-in-Audit-clause-says g c = rw c.in-Audit.is c.write_report.ensures.says
 
 pub returns-in-Init-clause-says : goal.returns-in-Init-clause-says
 returns-in-Init-clause-says g c =
@@ -42,6 +42,9 @@ returns-in-Record-clause-says g c =
     (show_says posted_of c.record.result (g.K.Keeper.tells c.args.keeper.now) (g.K.Keeper.rows c.args.keeper.now) (g.K.Keeper.faults c.args.keeper.now) (g.K.Keeper.faults c.record.new.keeper)
     (seen (g.O.Sink.written c.args.out.now) (g.O.Sink.faults c.args.out.now)) (seen (g.O.Sink.written c.record.new.out) (g.O.Sink.faults c.record.new.out)) c.record.ensures.ends))
 
+pub returns-in-Openings-clause-says : goal.returns-in-Openings-clause-says
+returns-in-Openings-clause-says g c = rw c.in-Openings.is c.answer_openings.ensures.says
+
 pub returns-in-Sample-clause-says : goal.returns-in-Sample-clause-says
 returns-in-Sample-clause-says g c =
     rw c.in-Sample.is
@@ -50,10 +53,10 @@ returns-in-Sample-clause-says g c =
     c.sample.ensures.ends (λ e. ap (λ o. seen (g.O.Sink.written o) (g.O.Sink.faults o)) (c.sample.ensures.quiet e))))
 
 pub returns-in-Recount-clause-says : goal.returns-in-Recount-clause-says
-returns-in-Recount-clause-says g c = rw c.in-Recount.is c.answer_recount.ensures.says
+returns-in-Recount-clause-says g c = rw c.in-Recount.is c.write_report-in-Recount.ensures.says
 
 pub returns-in-Odds-clause-says : goal.returns-in-Odds-clause-says
-returns-in-Odds-clause-says g c = rw c.in-Odds.is c.answer_odds.ensures.says
+returns-in-Odds-clause-says g c = rw c.in-Odds.is c.write_report-in-Odds.ensures.says
 
 pub returns-in-County-clause-says : goal.returns-in-County-clause-says
-returns-in-County-clause-says g c = rw c.in-County.is c.count_county.ensures.says
+returns-in-County-clause-says g c = rw c.in-County.is c.write_report-in-County.ensures.says

@@ -11,7 +11,7 @@ use Rattle.sg_parts.specs.Given.{completion_of}
 use Rattle.sg_recount.proofs.Facing.{mark_is}
 use Rattle.sg_odds.proofs.Leading.{pointers_once}
 use Rattle.sg_odds.proofs.Leads.{leads_few, leads_more, leads_start}
-use Rattle.sg_odds.specs.Opened.{half_of}
+use Rattle.sg_odds.specs.Odds.{half_of}
 use Rattle.sg_odds.proofs.led.instance_led.Goals as goal
 
 pub overflow_cast-candidates : goal.overflow_cast-candidates

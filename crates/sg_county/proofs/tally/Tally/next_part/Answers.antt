@@ -19,8 +19,8 @@ note_part-requires c = few_parts c.args.self.now c.requires.open c.requires.stan
 pub close_part-requires : goal.close_part-requires
 close_part-requires c =
     let fresh : Pass = c.end_and_replace-judged.new.pass in
-    let fresh_stands : HasTaken fresh [] = subst (λ (p : Pass). HasTaken p []) (sym c.end_and_replace-judged.ensures.fresh) c.in_ok-fresh.ensures.stands in
-    let fresh_open = ap is_fine_so_far c.end_and_replace-judged.ensures.fresh ∙ c.in_ok-fresh.ensures.open in
+    let fresh_stands : HasTaken fresh [] = subst (λ (p : Pass). HasTaken p []) (sym c.end_and_replace-judged.ensures.fresh) c.fresh_pass.ensures.stands in
+    let fresh_open = ap is_fine_so_far c.end_and_replace-judged.ensures.fresh ∙ c.fresh_pass.ensures.open in
     record {
       fits = subst (λ (e : Close). Fits c.in_ok-found.found.number c.note_part.new.self.sums e) (sym c.end_of.ensures)
           (next_fits c.args.self.now fresh c.note_part.new.self c.in_ok-found.found c.end_and_replace-judged.result (codes "next\n") c.requires.open refl fresh_stands fresh_open
@@ -31,8 +31,8 @@ pub returns-clause-adds : goal.returns-clause-adds
 returns-clause-adds c = λ lines line next stands.
     let fresh : Pass = c.end_and_replace-judged.new.pass in
     let begun : Tally = record { pass = fresh; kept = c.note_part.new.self; over = c.args.self.now.over; settled = c.args.self.now.settled } in
-    let fresh_stands : HasTaken fresh [] = subst (λ (p : Pass). HasTaken p []) (sym c.end_and_replace-judged.ensures.fresh) c.in_ok-fresh.ensures.stands in
-    let fresh_open = ap is_fine_so_far c.end_and_replace-judged.ensures.fresh ∙ c.in_ok-fresh.ensures.open in
+    let fresh_stands : HasTaken fresh [] = subst (λ (p : Pass). HasTaken p []) (sym c.end_and_replace-judged.ensures.fresh) c.fresh_pass.ensures.stands in
+    let fresh_open = ap is_fine_so_far c.end_and_replace-judged.ensures.fresh ∙ c.fresh_pass.ensures.open in
     subst (λ (t : Tally). StandsFor t (lines ++ line ∷ [])) (sym (c.close_part.ensures.closed ∙ ap (λ (e : Close). closed begun c.in_ok-found.found.number e) c.end_of.ensures))
     (next_stands c.args.self.now fresh c.note_part.new.self c.in_ok-found.found c.end_and_replace-judged.result line c.requires.open next fresh_stands fresh_open
     c.in_ok-found.ensures.found c.in_ok-found.ensures.noted c.end_and_replace-judged.ensures.judges lines stands)
@@ -40,8 +40,8 @@ returns-clause-adds c = λ lines line next stands.
 pub returns-clause-says : goal.returns-clause-says
 returns-clause-says c = λ lines line next stands.
     let fresh : Pass = c.end_and_replace-judged.new.pass in
-    let fresh_stands : HasTaken fresh [] = subst (λ (p : Pass). HasTaken p []) (sym c.end_and_replace-judged.ensures.fresh) c.in_ok-fresh.ensures.stands in
-    let fresh_open = ap is_fine_so_far c.end_and_replace-judged.ensures.fresh ∙ c.in_ok-fresh.ensures.open in
+    let fresh_stands : HasTaken fresh [] = subst (λ (p : Pass). HasTaken p []) (sym c.end_and_replace-judged.ensures.fresh) c.fresh_pass.ensures.stands in
+    let fresh_open = ap is_fine_so_far c.end_and_replace-judged.ensures.fresh ∙ c.fresh_pass.ensures.open in
     subst (λ (s : Step). Says s (lines ++ line ∷ [])) (sym (c.close_part.ensures.step ∙ ap (λ (e : Close). step_behind c.in_ok-found.found.number e) c.end_of.ensures))
     (next_says c.args.self.now fresh c.note_part.new.self c.in_ok-found.found c.end_and_replace-judged.result line c.requires.open next fresh_stands fresh_open
     c.in_ok-found.ensures.found c.in_ok-found.ensures.noted c.end_and_replace-judged.ensures.judges lines stands)
@@ -54,8 +54,8 @@ returns-clause-open c =
 pub returns-clause-falls : goal.returns-clause-falls
 returns-clause-falls c = λ more.
     let fresh : Pass = c.end_and_replace-judged.new.pass in
-    let fresh_stands : HasTaken fresh [] = subst (λ (p : Pass). HasTaken p []) (sym c.end_and_replace-judged.ensures.fresh) c.in_ok-fresh.ensures.stands in
-    let fresh_open = ap is_fine_so_far c.end_and_replace-judged.ensures.fresh ∙ c.in_ok-fresh.ensures.open in
+    let fresh_stands : HasTaken fresh [] = subst (λ (p : Pass). HasTaken p []) (sym c.end_and_replace-judged.ensures.fresh) c.fresh_pass.ensures.stands in
+    let fresh_open = ap is_fine_so_far c.end_and_replace-judged.ensures.fresh ∙ c.fresh_pass.ensures.open in
     subst (λ (t : Tally). left_in t < left_in c.args.self.now) (sym c.close_part.ensures.closed)
     (next_falls c.args.self.now fresh c.note_part.new.self c.in_ok-found.found.number c.end_of.result c.in_ok-found.ensures.count
     (few_parts c.args.self.now c.requires.open c.requires.stands)

@@ -1,0 +1,53 @@
+//! The parts of the input.
+use crate::fault::Fault;
+use std::alloc::Global;
+
+/// What the commands are given.
+#[derive(Clone, Copy)]
+pub(crate) struct Parts<'a> {
+    /// The election file.
+    pub file: &'a [u8],
+    /// The asks.
+    pub asks: &'a [u8],
+    /// A scanner's file.
+    pub scans: &'a [u8],
+    /// What a court is handed behind the record.
+    pub handed: &'a [u8],
+    /// The record of another town.
+    pub town: &'a [u8],
+}
+
+/// What stands in front of the first empty line, with its last feed, and what stands behind that line.
+fn part_of(input: &[u8]) -> Result<(&[u8], &[u8]), Fault> {
+    match input.windows(2).position(|two| matches!(two, b"\n\n")) {
+        None => Err(Fault::Stream),
+        Some(at) => {
+            let (part, rest) = input.split_at(at + 1);
+            Ok((part, &rest[1..]))
+        }
+    }
+}
+
+/// The parts of the input.
+pub(crate) fn parts_of(input: &[u8]) -> Result<Parts<'_>, Fault> {
+    let (file, rest) = part_of(input)?;
+    let (asks, rest) = part_of(rest)?;
+    let (scans, rest) = part_of(rest)?;
+    let (handed, town) = part_of(rest)?;
+    Ok(Parts {
+        file,
+        asks,
+        scans,
+        handed,
+        town,
+    })
+}
+
+/// The bytes of these parts, one behind another.
+pub(crate) fn joined(alloc: Global, parts: &[&[u8]]) -> Result<Vec<u8>, Fault> {
+    let mut bytes = Vec::new(alloc);
+    for part in parts {
+        bytes.extend_from_slice(part)?;
+    }
+    Ok(bytes)
+}

@@ -1,0 +1,135 @@
+-- Each count of posted codes is the total.
+use Rattle.std.proofs.Common.{◌≡◌, ℕ, zero, suc, ◌+◌, ◌/◌, ◌%◌, ◌<◌, ◌==◌, Bool, true, false, ◌&&◌, cond, count_by, inl, inr, List, [], ◌∷◌, length, map, Option, Some, None, is_some, refl, sym, ap, ◌∙◌, arith}
+use Rattle.std.specs.List.{list_all}
+use Rattle.std.specs.Option.{option_map_or}
+use Rattle.std.proofs.lemmas.Bool.{cases_eq, eq-eqb, ne_eqb}
+use Rattle.std.proofs.lemmas.List.Sorted.{sum_by-IsPermutation}
+use Rattle.std.proofs.lemmas.List.Sums.{sum_by-cons}
+use Rattle.sg_plan.proofs.Counting.{count_by-append}
+use Rattle.sg_plan.specs.Ballots.{candidates_of, entries_of}
+use Rattle.sg_plan.specs.Limits.{fault_of}
+use Rattle.sg_plan.specs.declared.plan.Draw.{Draw}
+use Rattle.sg_plan.specs.declared.plan.Plan.{Plan}
+use Rattle.sg_streams.proofs.NumberLists.{numbers_below-none, numbers_below-push}
+use Rattle.sg_streams.specs.Numbers.{numbers_below}
+use Rattle.sg_tables.proofs.TableLaws.{code_laws, entry_leads}
+use Rattle.sg_tables.specs.Laws.{Permutes}
+use Rattle.sg_tables.specs.Tables.{code_beside, path_of, shown_by}
+use Rattle.sg_grammar.specs.Placed.{Placed}
+use Rattle.sg_record.specs.Places.{places_in}
+use Rattle.sg_check.proofs.Bounding.{marked_is as code_there}
+use Rattle.sg_check.specs.Printings.{Printing, count_below, is_posted_for, marked_code, posted_codes}
+use Rattle.sg_post.specs.Fits.{claim_fits, fates_fit}
+use Rattle.sg_post.specs.Marks.{is_marked, total_of}
+use Rattle.sg_post.specs.Posted.{posted_record}
+use Rattle.sg_post.specs.declared.story.Claimed.{Claimed}
+use Rattle.sg_post.specs.declared.story.Told.{Told}
+use Rattle.sg_accepted.proofs.Votes.{totals_count_marks}
+use Rattle.sg_cleared.proofs.Posted.{mark_is, marked_is}
+use Rattle.sg_cleared.proofs.Unaltered.{PrintsTables, entry_row}
+
+-- COUNTS
+
+abbrev one_if : Bool → ℕ
+one_if b = cond b 1 0
+
+-- numbers that pass, in a list of all numbers and one by one
+below_counts : (test : ℕ → Bool) (count : ℕ) → count_by test (numbers_below count) ≡ count_below test count
+below_counts test zero = ap (count_by test) numbers_below-none
+below_counts test (suc count) =
+    let next : suc count ≡ count + 1 = omega arith in
+    let parts : count_by test (numbers_below (count + 1)) ≡ count_by test (numbers_below count) + count_by test (count ∷ [])
+    = ap (count_by test) (numbers_below-push count) ∙ count_by-append test (numbers_below count) (count ∷ []) in
+    let one = sum_by-cons (λ (k : ℕ). one_if (test k)) count [] in
+    let none : count_by test [] ≡ 0 = refl in
+    let rest = below_counts test count in
+    ap (λ k. count_by test (numbers_below k)) next ∙ omega (arith, parts, one, none, rest)
+
+pub same_counts : (p q : ℕ → Bool) (count : ℕ) → ((k : ℕ) → k < count → p k ≡ q k) → count_below p count ≡ count_below q count
+same_counts p q zero same = refl
+same_counts p q (suc count) same =
+    let here : one_if (p count) ≡ one_if (q count) = ap one_if (same count (omega arith)) in
+    let rest = same_counts p q count (λ k less. same k (omega (arith, less))) in
+    omega (arith, here, rest)
+
+mapped_counts : (p : ℕ → Bool) (f : ℕ → ℕ) (xs : List ℕ) → count_by p (map f xs) ≡ count_by (λ x. p (f x)) xs
+mapped_counts p f [] = refl
+mapped_counts p f (x ∷ xs) =
+    let a = sum_by-cons (λ (y : ℕ). one_if (p y)) (f x) (map f xs) in
+    let b = sum_by-cons (λ (y : ℕ). one_if (p (f y))) x xs in
+    let rest = mapped_counts p f xs in
+    omega (arith, a, b, rest)
+
+-- as many pass where the numbers are exchanged
+pub moved_counts : (test : ℕ → Bool) (f : ℕ → ℕ) (count : ℕ) → Permutes count f → count_below (λ k. test (f k)) count ≡ count_below test count
+moved_counts test f count moves =
+    sym (below_counts (λ k. test (f k)) count)
+    ∙ (sym (mapped_counts test f (numbers_below count))
+    ∙ (sum_by-IsPermutation (λ (k : ℕ). one_if (test k)) (numbers_below count) (map f (numbers_below count)) moves.listed ∙ below_counts test count))
+
+-- TOTALS
+
+-- a marked entry that leads to a place of the candidate
+abbrev pub leads_to : Plan → List ℕ → List Told → ℕ → ℕ → ℕ → Bool
+leads_to plan seed fates race candidate entry = path_of plan seed race entry % candidates_of plan race == candidate && is_marked plan seed fates race entry
+
+pub total_counts : (plan : Plan) (seed : List ℕ) (fates : List Told) (race candidate : ℕ) → total_of plan seed fates race candidate ≡ count_below (leads_to plan seed fates race candidate) (entries_of plan race)
+total_counts plan seed fates race candidate = totals_count_marks plan seed fates race candidate ∙ below_counts (leads_to plan seed fates race candidate) (entries_of plan race)
+
+and_false : (b : Bool) → (b && false) ≡ false
+and_false true = refl
+and_false false = refl
+
+and_true : (b : Bool) → (b && true) ≡ b
+and_true true = refl
+and_true false = refl
+
+module _ (plan : Plan) (seed : List ℕ) (fates : List Told) (draw : Draw) (claims : List Claimed) (fine : fault_of plan ≡ None) (fit : fates_fit plan 0 fates ≡ true) (claimed : list_all (claim_fits plan) claims ≡ true)
+    (printing : Printing) (prints : PrintsTables plan seed printing) where
+  abbrev lines : List Placed
+  lines = places_in (posted_record plan seed fates draw claims)
+
+  -- the codes beside two candidates are the same where the candidates are
+  same_beside : (race row candidate shown : ℕ) → race < length plan.races → candidate < candidates_of plan race → shown < candidates_of plan race
+      → (code_beside plan seed race row candidate == code_beside plan seed race row shown) ≡ (shown == candidate)
+  same_beside race row candidate shown in_race low high = elim (cases_eq candidate shown) [
+    | inl same ↦ eq-eqb (code_beside plan seed race row candidate) (code_beside plan seed race row shown) (ap (code_beside plan seed race row) same) ∙ sym (eq-eqb shown candidate (sym same))
+    | inr differ ↦
+        ne_eqb (code_beside plan seed race row candidate) (code_beside plan seed race row shown)
+        (λ e. differ ((code_laws.differ plan seed race row fine in_race).one candidate shown low high e))
+        ∙ sym (ne_eqb shown candidate (λ e. differ (sym e)))
+  ]
+
+  counts_alike : (race candidate entry : ℕ) → race < length plan.races → candidate < candidates_of plan race → entry < entries_of plan race
+      → is_posted_for plan lines printing race candidate entry ≡ leads_to plan seed fates race candidate entry
+  counts_alike race candidate entry in_race low below = by_code (marked_code plan race entry lines) refl
+    where
+      at : ℕ
+      at = entry / candidates_of plan race
+
+      mark : is_some (marked_code plan race entry lines) ≡ is_marked plan seed fates race entry
+      mark = code_there plan race entry lines ∙ marked_is plan seed fates draw claims fine fit claimed race entry in_race below
+
+      by_code : (o : Option ℕ) → marked_code plan race entry lines ≡ o
+          → option_map_or (λ code. printing race at candidate == code) (marked_code plan race entry lines) false ≡ (path_of plan seed race entry % candidates_of plan race == candidate && is_marked plan seed fates race entry)
+      by_code None e =
+          let unmarked : is_marked plan seed fates race entry ≡ false = sym mark ∙ ap is_some e in
+          ap (λ (o : Option ℕ). option_map_or (λ code. printing race at candidate == code) o false) e
+          ∙ sym (ap (λ (b : Bool). path_of plan seed race entry % candidates_of plan race == candidate && b) unmarked ∙ and_false (path_of plan seed race entry % candidates_of plan race == candidate))
+      by_code (Some shown) e =
+          let marked : is_marked plan seed fates race entry ≡ true = sym mark ∙ ap is_some e in
+          let leads = entry_leads plan seed race entry below in
+          let code : shown ≡ code_beside plan seed race at (shown_by plan seed race entry) = mark_is plan seed fates draw claims fine fit claimed race entry shown e ∙ code_laws.beside plan seed race entry in
+          let printed : printing race at candidate ≡ code_beside plan seed race at candidate = prints race at candidate in_race (entry_row plan race entry below) low in
+          ap (λ (o : Option ℕ). option_map_or (λ c. printing race at candidate == c) o false) e
+          ∙ (ap (λ n. n == shown) printed
+          ∙ (ap (λ n. code_beside plan seed race at candidate == n) code
+          ∙ (same_beside race at candidate (shown_by plan seed race entry) in_race low leads.shows
+          ∙ (ap (λ n. n == candidate) (sym leads.column)
+          ∙ sym (ap (λ (b : Bool). path_of plan seed race entry % candidates_of plan race == candidate && b) marked ∙ and_true (path_of plan seed race entry % candidates_of plan race == candidate))))))
+
+  -- the count of posted codes is the total
+  pub count_is : (race candidate : ℕ) → race < length plan.races → candidate < candidates_of plan race → posted_codes plan lines printing race candidate ≡ total_of plan seed fates race candidate
+  count_is race candidate in_race low =
+      same_counts (is_posted_for plan lines printing race candidate) (leads_to plan seed fates race candidate) (entries_of plan race) (λ entry below. counts_alike race candidate entry in_race low below)
+      ∙ sym (total_counts plan seed fates race candidate)

@@ -1,0 +1,2 @@
+-- What a reader of the law that an honest office is cleared believes.
+pub mod Laws

@@ -1,0 +1,126 @@
+//! `openings`: what opens both halves of each row, once the draw is made.
+ghost use Rattle.std.specs.Prelude.{◌≡◌, ◌≤◌, IfOk, false, true};
+ghost use Rattle.sg_outside.specs.Faults.{HasCause};
+ghost use Rattle.sg_outside.specs.Streams.{PutAppends, seen};
+ghost use Rattle.sg_handed.specs.Handed.{OpeningsSays, is_drawn as is_drawn_at, undrawn_line};
+ghost use Rattle.sg_handed.specs.inside.Endings.{HandedEnds, HandsOver, WritesDue, handed_status};
+
+use sg_clerk::{Opened, Shown, open_kept, show_damage, show_empty, shown_status};
+use sg_keeper::Keeper;
+use sg_office::Office;
+use sg_openings::put_openings;
+use sg_outside::{Failed, Sink};
+use sg_plan::{NoMemory, Stage};
+use sg_record::Wrote;
+use std::alloc::Global;
+
+/// How `openings` ended.
+#[derive(Clone, Copy, Debug, PartialEq, Eq)]
+pub enum Handed {
+    /// So, as a command that shows what is kept.
+    Shown(Shown),
+    /// The draw isn't made, and the line that says so was written.
+    Undrawn,
+}
+
+/// The status that the program ends with.
+fn handed_status(ending: Handed) -> u8
+    ensures { result ≡ handed_status ending }
+{
+    match ending {
+        Handed::Shown(how) => shown_status(how),
+        Handed::Undrawn => 7,
+    }
+}
+
+/// Whether the draw is made at this stage.
+fn is_drawn_stage(stage: &Stage) -> bool
+    ensures { result ≡ is_drawn_at stage.now }
+{
+    match stage {
+        Stage::Voting | Stage::Closed => false,
+        Stage::Drawn(_) => true,
+    }
+}
+
+/// Whether the office's draw is made. It refuses for want of memory alone.
+fn is_drawn(alloc: Global, office: &Office) -> Result<bool, NoMemory>
+    ensures { IfOk result (λ drawn. is_drawn_at office.now.stage ≡ drawn) }
+{
+    office.office_law();
+    let story = office.story(alloc)?;
+    Ok(is_drawn_stage(&story.stage))
+}
+
+/// Writes what opens the rows of an office whose draw is made.
+fn write_rows<O: Sink>(alloc: Global, office: &Office, out: &mut O) -> Shown
+    requires { is_drawn_at office.now.stage ≡ true }
+    ensures { WritesDue result office.now (seen (O.written out.old) (O.faults out.old)) (seen (O.written out.new) (O.faults out.new)) }
+{
+    match put_openings(alloc, office.tables(), out) {
+        Wrote::Written => Shown::Done,
+        Wrote::SinkFailed => Shown::WriteFault,
+        Wrote::NoMemory => Shown::NoMemory,
+    }
+}
+
+/// Writes `refused undrawn`.
+fn put_undrawn<O: Sink>(out: &mut O) -> Result<(), Failed>
+    ensures bytes { PutAppends (O.written out.old) (O.written out.new) result undrawn_line }
+    ensures cause { HasCause (O.faults out.old) (O.faults out.new) result }
+{
+    out.put(b"refused undrawn\n")
+}
+
+/// Refuses an office whose draw isn't made.
+fn refuse<O: Sink>(office: &Office, out: &mut O) -> Handed
+    requires { is_drawn_at office.now.stage ≡ false }
+    ensures { HandsOver result office.now (seen (O.written out.old) (O.faults out.old)) (seen (O.written out.new) (O.faults out.new)) }
+{
+    let _ = office;
+    match put_undrawn(out) {
+        Ok(()) => Handed::Undrawn,
+        Err(Failed) => Handed::Shown(Shown::WriteFault),
+    }
+}
+
+/// Writes what is due of an office.
+fn hand_over<O: Sink>(alloc: Global, office: &Office, out: &mut O) -> Handed
+    ensures { HandsOver result office.now (seen (O.written out.old) (O.faults out.old)) (seen (O.written out.new) (O.faults out.new)) }
+{
+    match is_drawn(alloc, office) {
+        Ok(true) => Handed::Shown(write_rows(alloc, office, out)),
+        Ok(false) => refuse(office, out),
+        Err(NoMemory) => Handed::Shown(Shown::NoMemory),
+    }
+}
+
+/// Opens the office of the keeper's rows and writes what is due of it. The rows stay as they are.
+fn openings<K: Keeper, O: Sink>(alloc: Global, keeper: &mut K, out: &mut O) -> Handed
+    ensures ends { HandedEnds result (K.tells keeper.old) (K.rows keeper.old) (K.faults keeper.old) (K.faults keeper.new)
+        (seen (O.written out.old) (O.faults out.old)) (seen (O.written out.new) (O.faults out.new)) }
+    ensures told { K.tells keeper.old → K.tells keeper.new }
+    ensures same { K.tells keeper.old → K.rows keeper.new ≡ K.rows keeper.old }
+    ensures later { K.faults keeper.old ≤ K.faults keeper.new }
+{
+    match open_kept(alloc, keeper) {
+        Opened::Office(office) => hand_over(alloc, &office, out),
+        Opened::LoadFault => Handed::Shown(Shown::LoadFault),
+        Opened::Empty => Handed::Shown(show_empty(out)),
+        Opened::Damaged(table, row) => Handed::Shown(show_damage(alloc, table, row, out)),
+        Opened::NoMemory => Handed::Shown(Shown::NoMemory),
+    }
+}
+
+/// Writes the line `completion`, and for each race, instance and row what opens both halves of the row: each line in one
+/// put, once the draw is made. Before it the line `refused undrawn` is written. The keeper's rows stay as they are.
+/// Answers the status that the program ends with.
+pub fn answer_openings<K: Keeper, O: Sink>(alloc: Global, keeper: &mut K, out: &mut O) -> u8
+    ensures says { OpeningsSays result (K.tells keeper.old) (K.rows keeper.old) (K.faults keeper.old) (K.faults keeper.new)
+        (seen (O.written out.old) (O.faults out.old)) (seen (O.written out.new) (O.faults out.new)) }
+    ensures told { K.tells keeper.old → K.tells keeper.new }
+    ensures same { K.tells keeper.old → K.rows keeper.new ≡ K.rows keeper.old }
+    ensures later { K.faults keeper.old ≤ K.faults keeper.new }
+{
+    handed_status(openings(alloc, keeper, out))
+}

@@ -1,0 +1,2 @@
+-- How the code goes. Only clauses of private functions and proofs cite this.
+pub mod Lines

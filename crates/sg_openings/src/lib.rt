@@ -1,0 +1,9 @@
+//! What a court is handed of an office's tables: the openings of both halves of each row.
+#![tactic(auto)]
+
+mod counts;
+#[cfg(test)]
+mod tests;
+mod writing;
+
+pub use writing::put_openings;

@@ -1,0 +1,9 @@
+//! The commands of who only audits: they read a record, alone or with what stands behind it, and write what follows from it. None
+//! of them opens an office.
+#![tactic(auto)]
+
+mod program;
+mod report;
+
+pub use program::run_reports;
+pub use report::{Report, report_of, write_report};

@@ -1,0 +1,51 @@
+//! The program of who only audits, over any source and sink: its words, and the status that it ends with.
+ghost use Rattle.std.specs.Prelude.{◌≡◌, ◌⊎◌, None, Some, IfSome};
+ghost use Rattle.sg_audit.specs.Promise.{Promise};
+ghost use Rattle.sg_outside.specs.Streams.{seen};
+ghost use Rattle.sg_outside.specs.TextLines.{lines_of};
+ghost use Rattle.sg_reports.specs.Reports.{IsReported, ReportSays, report_in};
+ghost use Rattle.sg_reports.specs.declared.report.Report.{Report as ReportSeen};
+ghost use Rattle.sg_reports.specs.declared.report.Report.TheVariants.{Audit};
+
+use crate::report::{report_of, write_report};
+use sg_outside::{Sink, Source};
+use sg_plan::{Items, NoMemory, Word};
+use sg_words::command_of;
+use std::alloc::Global;
+
+/// Runs the command that the words after the program's name ask for, where it reports on what it reads, and answers the status
+/// to end with.
+pub fn run_reports<S: Source, O: Sink>(
+    alloc: Global,
+    words: &Items<Word>,
+    input: &mut S,
+    out: &mut O,
+) -> u8
+    // Status 2 comes exactly where the words are no such command's, but for want of memory (9). Then nothing is read or written.
+    ensures form { result ≡ 2 → report_in words.now ≡ None }
+    ensures refused { report_in words.now ≡ None → (result ≡ 2) ⊎ (result ≡ 9) }
+    ensures untouched { report_in words.now ≡ None → (input.new ≡ input.old) × (out.new ≡ out.old) }
+    // With `audit`, where the input tells its bytes: it answers yes exactly when the bytes read are a whole record whose
+    // openings match their commitments and whose opened halves agree; then, for every printing and every completion that
+    // opens no commitment twice, each R instance has at least as many rows altered in their unopened halves as any posted
+    // total of its race differs from the count of posted codes.
+    ensures headline { report_in words.now ≡ Some Audit → IfSome (S.left input.old) (λ bytes. Promise (lines_of bytes) result (seen (S.left input.old) (S.faults input.old)) (seen (S.left input.new) (S.faults input.new))
+        (seen (O.written out.old) (O.faults out.old)) (seen (O.written out.new) (O.faults out.new))) }
+    // The status says how the command ended, by a relation for each command: what was read, and what was written.
+    ensures says { (report : ReportSeen) → report_in words.now ≡ Some report → ReportSays report result (seen (S.left input.old) (S.faults input.old)) (seen (S.left input.new) (S.faults input.new))
+        (seen (O.written out.old) (O.faults out.old)) (seen (O.written out.new) (O.faults out.new)) }
+    // Where no count of faults rose, each command does all its work, but for want of memory.
+    ensures complete { (report : ReportSeen) → report_in words.now ≡ Some report → IsReported report result (seen (S.left input.old) (S.faults input.old)) (seen (S.left input.new) (S.faults input.new))
+        (seen (O.written out.old) (O.faults out.old)) (seen (O.written out.new) (O.faults out.new)) }
+    // After a read that failed, and where memory was wanted, the output is as it was.
+    ensures unwritten { (result ≡ 3) ⊎ (result ≡ 9) → out.new ≡ out.old }
+{
+    match command_of(alloc, words) {
+        Ok(Some(command)) => match report_of(command) {
+            Some(report) => write_report(alloc, report, input, out),
+            None => 2,
+        },
+        Ok(None) => 2,
+        Err(NoMemory) => 9,
+    }
+}
