@@ -58,10 +58,10 @@ fn tell_readings<W: Write>(
     keeper: &mut MemoryKeeper,
     out: &mut W,
 ) -> Result<(), Fault> {
-    let handed = joined(alloc, &[record, parts.handed])?;
+    let handed = joined(alloc, record, b"", parts.handed)?;
     tell_case(alloc, &case(b"recount", &handed), keeper, out)?;
     tell_case(alloc, &case(b"odds", &handed), keeper, out)?;
-    let towns = joined(alloc, &[record, b"next\n", parts.town])?;
+    let towns = joined(alloc, record, b"next\n", parts.town)?;
     tell_case(alloc, &case(b"county", &towns), keeper, out)?;
     Ok(())
 }

@@ -43,11 +43,15 @@ pub(crate) fn parts_of(input: &[u8]) -> Result<Parts<'_>, Fault> {
     })
 }
 
-/// The bytes of these parts, one behind another.
-pub(crate) fn joined(alloc: Global, parts: &[&[u8]]) -> Result<Vec<u8>, Fault> {
-    let mut bytes = Vec::new(alloc);
-    for part in parts {
-        bytes.extend_from_slice(part)?;
-    }
+/// The bytes of three parts, one behind another.
+pub(crate) fn joined(
+    alloc: Global,
+    front: &[u8],
+    between: &[u8],
+    behind: &[u8],
+) -> Result<Vec<u8>, Fault> {
+    let mut bytes = Vec::from_slice(alloc, front)?;
+    bytes.extend_from_slice(between)?;
+    bytes.extend_from_slice(behind)?;
     Ok(bytes)
 }
