@@ -217,7 +217,7 @@ def run(chosen):
     for page in chosen or pages():
         with tempfile.TemporaryDirectory() as folder:
             top = os.path.join(folder, "voldkaumi")
-            shutil.copytree(".", top, ignore=shutil.ignore_patterns("crates", ".git", "out", "edits", "__pycache__"))
+            shutil.copytree(".", top, ignore=shutil.ignore_patterns("crates", ".git", "out", "__pycache__"))
             wrong += run_page(page, top)
     return wrong
 

@@ -8,7 +8,8 @@
 
 ghost use Rattle.std.specs.Prelude.{◌≡◌, ◌≤◌, ◌⊎◌, length};
 ghost use Rattle.sg_forms.specs.Said.{said};
-ghost use Rattle.sg_forms.specs.Spelling.{IsInRange, longest_line};
+ghost use Rattle.sg_forms.specs.Spelling.{IsInRange};
+ghost use Rattle.sg_plan.specs.Limits.{longest_line};
 
 use sg_outside::{Page, line_end};
 use sg_plan::NoMemory;

@@ -3,7 +3,5 @@
 
 mod done_list;
 mod run;
-#[cfg(test)]
-mod tests;
 
 pub use done_list::DoneList;

@@ -7,7 +7,7 @@ use Rattle.sg_keeper.specs.declared.setup.Setup.{Setup}
 use Rattle.sg_talk.specs.Talk.{stores_in}
 use Rattle.sg_histories.specs.Histories.{Entry}
 use Rattle.sg_clerk.specs.Asked.{DoSays, Talks}
-use Rattle.sg_clerk.specs.Begun.{InitSays}
+use Rattle.sg_clerk.specs.Begun.{InitSays, StatusSays}
 use Rattle.sg_clerk.specs.Does.{Does}
 use Rattle.sg_clerk.specs.Ends.{ending_status}
 use Rattle.sg_clerk.specs.Sheet.{sheet_of}
@@ -38,16 +38,21 @@ use Rattle.sg_words.specs.declared.service.Service.{Service}
 use Rattle.sg_app.specs.Says.{CommandSays}
 use Rattle.sg_words.specs.declared.command.Command.TheVariants as command
 
--- `init`
+-- `init`, by its status
+init_by : (status : ℕ) (tells : Type 0) (rows rows' : Rows) (before now : Outside)
+    → StatusSays status (input_at before) (input_at now) tells rows rows' before.keep_faults now.keep_faults (output_at before) (output_at now)
+    → IsComplete command.Init status tells rows rows' before now
+init_by status tells rows rows' before now (inl says) none = inr (inl says)
+init_by status tells rows rows' before now (inr (inl says)) none = absurd (none.reads refl says.1.cause)
+init_by status tells rows rows' before now (inr (inr (inl says))) none = absurd (none.writes says.1.cause)
+init_by status tells rows rows' before now (inr (inr (inr (inl says)))) none = absurd (none.keeps refl says.1.cause)
+init_by status tells rows rows' before now (inr (inr (inr (inr (inl says))))) none = inr (inr says)
+init_by status tells rows rows' before now (inr (inr (inr (inr (inr says))))) none = inl says.0
+
 pub init_complete : (status : ℕ) (tells : Type 0) (rows rows' : Rows) (before now : Outside)
     → InitSays status (input_at before) (input_at now) tells rows rows' before.keep_faults now.keep_faults (output_at before) (output_at now)
     → IsComplete command.Init status tells rows rows' before now
-init_complete status tells rows rows' before now (inl says) none = inr (inl says)
-init_complete status tells rows rows' before now (inr (inl says)) none = absurd (none.reads refl says.1.cause)
-init_complete status tells rows rows' before now (inr (inr (inl says))) none = absurd (none.writes says.1.cause)
-init_complete status tells rows rows' before now (inr (inr (inr (inl says)))) none = absurd (none.keeps refl says.1.cause)
-init_complete status tells rows rows' before now (inr (inr (inr (inr (inl says))))) none = inr (inr says)
-init_complete status tells rows rows' before now (inr (inr (inr (inr (inr says))))) none = inl says.0
+init_complete status tells rows rows' before now says = init_by status tells rows rows' before now says.says
 
 -- `sample`
 pub sample_complete : (asked : Sample) (status : ℕ) (tells : Type 0) (rows rows' : Rows) (before now : Outside)

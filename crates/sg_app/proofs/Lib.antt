@@ -1,5 +1,6 @@
 -- The proofs.
 mod Completing
+mod Growing
 mod Headlines
 mod Obeyed
 mod Samples

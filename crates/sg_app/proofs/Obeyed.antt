@@ -1,8 +1,10 @@
 -- What is said of the command that was run is said of the one that the words ask for; and what is said where memory for the
 -- words was wanted.
-use Rattle.std.proofs.Common.{◌≡◌, ℕ, Some, inl, inr, refl, subst}
+use Rattle.std.proofs.Common.{◌≡◌, ℕ, ◌+◌, Some, inl, inr, refl, subst}
 use Rattle.std.specs.Prelude.{Option}
+use Rattle.sg_plan.specs.Limits.{longest_election}
 use Rattle.sg_keeper.specs.declared.rows.Rows.{Rows}
+use Rattle.sg_clerk.proofs.Beginning.{took_nothing}
 use Rattle.sg_words.specs.declared.command.Command.{Command}
 use Rattle.sg_words.specs.declared.command.Command.TheVariants as command
 use Rattle.sg_app.specs.Outside.{Outside, input_at, output_at}
@@ -22,7 +24,7 @@ says_for here asked found status tells rows rows' before now is said says =
 -- where memory was wanted, and nothing was done
 pub memory_says : (asked : Command) (tells : Type 0) (rows : Rows) (now : Outside) → CommandSays asked 9 tells rows rows now now
 memory_says command.Audit tells rows now = memory_reports Audit (input_at now) (output_at now)
-memory_says command.Init tells rows now = inr (inr (inr (inr (inr (refl, record { same = λ _. refl; quiet = refl })))))
+memory_says command.Init tells rows now = record { took = took_nothing (longest_election + 1) now.left; says = inr (inr (inr (inr (inr (refl, record { same = λ _. refl; quiet = refl }))))) }
 memory_says command.Sheet tells rows now = inr (inr (inr (inr (inr (refl, inl refl)))))
 memory_says command.Do tells rows now = inr (record { unread = refl; no_fault = refl; same = λ _. refl; says = inr (inr (inr (inr (refl, refl)))) })
 memory_says command.Scans tells rows now = inr (record { unread = refl; no_fault = refl; same = λ _. refl; says = inr (inr (inr (inr (refl, refl)))) })

@@ -2,6 +2,7 @@
 ghost use Rattle.std.specs.Prelude.{◌≡◌, ◌⊎◌, false, true, None, Some, IfSome};
 ghost use Rattle.sg_outside.specs.Streams.{seen};
 ghost use Rattle.sg_outside.specs.TextLines.{lines_of};
+ghost use Rattle.sg_clerk.specs.Laws.{KeepsPosted};
 ghost use Rattle.sg_words.specs.Command.{command_in};
 ghost use Rattle.sg_app.specs.Complete.{IsComplete};
 ghost use Rattle.sg_app.specs.Headline.{Headline};
@@ -61,6 +62,8 @@ pub fn run<S: Source, K: Keeper, L: Links, O: Sink>(
     ensures unwritten { (command : CommandSeen) → command_in words.now ≡ Some command → is_report command ≡ true → (result ≡ 3) ⊎ (result ≡ 9) → out.new ≡ out.old }
     // `sheet`, `record` and `openings` leave the rows as they are.
     ensures same { (command_in words.now ≡ Some Command.Sheet) ⊎ (command_in words.now ≡ Some Command.Record) ⊎ (command_in words.now ≡ Some Command.Openings) → K.tells keeper.old → K.rows keeper.new ≡ K.rows keeper.old }
+    // Where rows are told that are an office's, they stay that office's, and what `record` writes of them only grows.
+    ensures grows { K.tells keeper.old → KeepsPosted (K.rows keeper.old) (K.rows keeper.new) }
     // Where no office is opened, `serve` leaves the links as they were.
     ensures unopened { (asked : ServiceSeen) → command_in words.now ≡ Some (Command.Serve asked) → (result ≡ 5) ⊎ (result ≡ 7) ⊎ (result ≡ 8) → links.new ≡ links.old }
 {

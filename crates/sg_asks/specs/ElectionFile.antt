@@ -8,7 +8,7 @@ use Rattle.sg_plan.specs.declared.plan.Race.{Race}
 use Rattle.sg_plan.specs.declared.plan.Style.{Style}
 use Rattle.sg_plan.specs.declared.plan.Run.{Run}
 use Rattle.sg_plan.specs.declared.limits.PlanFault.{PlanFault}
-use Rattle.sg_plan.specs.Limits.{fault_of}
+use Rattle.sg_plan.specs.Limits.{fault_of, most_stations}
 use Rattle.sg_lines.specs.Words.{digest_of}
 use Rattle.sg_streams.specs.declared.Seed.{Seed}
 use Rattle.sg_keeper.specs.declared.setup.Setup.{Setup}
@@ -67,7 +67,7 @@ file_in value =
 
 -- there are 1 to 32 stations
 abbrev pub with_secrets : Setup → Result Setup SetupFault
-with_secrets setup = if nat_le 1 (length setup.secrets) && nat_le (length setup.secrets) 32 then Ok setup else Err fault.Secrets
+with_secrets setup = if nat_le 1 (length setup.secrets) && nat_le (length setup.secrets) most_stations then Ok setup else Err fault.Secrets
 
 -- the plan keeps its limits
 abbrev pub with_plan : Option PlanFault → Setup → Result Setup SetupFault

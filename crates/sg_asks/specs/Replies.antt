@@ -1,5 +1,6 @@
 -- The JSON value of a reply. Its members stand in rising order of their names, and its text is the value's compact text.
 use Rattle.std.specs.Prelude.{◌≡◌, ◌⊎◌, ℕ, ◌<◌, ◌≤◌, List, [], ◌∷◌, All, map, codes}
+use Rattle.sg_plan.specs.Limits.{most_claims}
 use Rattle.serde_json.specs.Data.{Data, unsigned, boolean, number, string, array, object, Members, no_members, member}
 use Rattle.serde_json.specs.View.{items_of}
 use Rattle.serde_json.specs.Written.{compact_text}
@@ -110,7 +111,7 @@ reply_value version reply.Ballot = refusal (codes "ballot") 404
 reply_value version (reply.Ref kept) = refusal_with (codes "kept") (string kept) (codes "ref") 409
 reply_value version (reply.Phase phase) = refusal_with (codes "phase") (string (phase_word phase)) (codes "phase") 409
 reply_value version (reply.Fate fate) = refusal_with (codes "fate") (string (fate_word fate)) (codes "fate") 409
-reply_value version reply.Full = refusal_with (codes "limit") (whole 10000) (codes "full") 409
+reply_value version reply.Full = refusal_with (codes "limit") (whole most_claims) (codes "full") 409
 reply_value version (reply.Race at) = refused_mark at (codes "race")
 reply_value version (reply.Candidate at) = refused_mark at (codes "candidate")
 reply_value version (reply.Twice at) = refused_mark at (codes "twice")

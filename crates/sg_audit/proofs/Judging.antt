@@ -4,6 +4,7 @@ use Rattle.std.specs.Prelude.{Option, false}
 use Rattle.std.specs.List.{concat}
 use Rattle.std.specs.Option.{option_map_or}
 use Rattle.std.specs.Io.KnownBytes.{Consumes, IsAtEnd, prepend_known}
+use Rattle.sg_grammar.specs.Head.{is_behind}
 use Rattle.sg_outside.specs.Cutting.{Cutting, to_come}
 use Rattle.sg_outside.specs.TextLines.{AreLines, HasNoFeed, IsLine}
 use Rattle.sg_grammar.proofs.Walking.{walk-empty}
@@ -15,7 +16,6 @@ use Rattle.sg_check.proofs.OneMore.{fine-empty}
 use Rattle.sg_check.specs.Verdict.{AreFine, IsVerdict}
 use Rattle.sg_check.specs.declared.judged.Judged.{Judged}
 use Rattle.sg_pass.specs.Pass.{StandsFor, is_behind_plan, is_open, is_ready}
-use Rattle.sg_pass.specs.inside.Taking.{is_behind}
 use Rattle.sg_pass.specs.declared.pass.Pass.{Pass}
 use Rattle.sg_towns.proofs.Told.{end-told, line-taken, line-told, long-told, part-told}
 use Rattle.sg_audit.specs.Audit.{Judges, TookHeader}

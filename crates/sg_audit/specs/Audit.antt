@@ -2,6 +2,7 @@
 use Rattle.std.specs.Prelude.{◌≡◌, ℕ, ◌+◌, ◌<◌, ◌≤◌, ◌⊎◌, false, List, ◌++◌, length, take, Option, IfSome}
 use Rattle.std.specs.List.{concat}
 use Rattle.std.specs.Io.KnownBytes.{Appends, Consumes, IsAtEnd, Keeps}
+use Rattle.sg_plan.specs.Limits.{longest_line}
 use Rattle.sg_outside.specs.Faults.{Rose}
 use Rattle.sg_outside.specs.Streams.{AppendsFront, Seen}
 use Rattle.sg_outside.specs.TextLines.{AreLines, HasNoFeed, lines_of}
@@ -28,7 +29,7 @@ AreSound known totals = IfSome known (λ bytes. IsSound (lines_of bytes) totals)
 pub record TookUpTo (number : ℕ) (before now : Option (List ℕ)) : Type 0 where
   pub front : List ℕ
   pub taken : Consumes before now front
-  pub few : IfSome before (λ bytes. length front < length (concat (take number (lines_of bytes))) + 16384)
+  pub few : IfSome before (λ bytes. length front < length (concat (take number (lines_of bytes))) + longest_line)
 
 -- a yes has read the input to its end, and a no took fewer than 16,384 bytes behind the line that it names
 abbrev pub HasRead : Judged → Option (List ℕ) → Option (List ℕ) → Type 0
@@ -42,7 +43,7 @@ pub record TookFine (before now : Option (List ℕ)) : Type 0 where
   pub lines : AreLines done
   pub fine : AreFine done
   pub unended : HasNoFeed rest
-  pub few : length rest < 16384
+  pub few : length rest < longest_line
   pub taken : Consumes before now (concat done ++ rest)
 
 -- of these bytes fine lines of the plan were taken, and at most the bytes of one more line or as many
@@ -51,7 +52,7 @@ pub record TookHeader (before now : Option (List ℕ)) : Type 0 where
   pub rest : List ℕ
   pub fine : AreFine done
   pub header : is_behind_plan done ≡ false
-  pub few : length rest ≤ 16384
+  pub few : length rest ≤ longest_line
   pub taken : Consumes before now (concat done ++ rest)
 
 -- WHAT EACH STATUS SAYS

@@ -1,5 +1,6 @@
 //! What is heard of a source: its lines are fed to a pass one by one, and the verdict is that of the pass where they stop.
 ghost use Rattle.std.specs.Prelude.{◌≡◌, List, [], Option, false, true};
+ghost use Rattle.sg_plan.specs.Limits.{longest_line};
 ghost use Rattle.sg_outside.specs.Cutting.{Cutting};
 ghost use Rattle.sg_outside.specs.Streams.{Seen, seen};
 ghost use Rattle.sg_pass.specs.Pass.{StandsFor, is_open, is_ready};
@@ -78,7 +79,7 @@ fn take_lines<S: Source>(pass: &mut Pass, lines: Lines, input: &mut S) -> Stop
     requires stands { StandsFor pass.old [] }
     requires open { is_open pass.old ≡ true }
     requires before { is_ready pass.old ≡ false }
-    requires fresh { lines ≡ record { limit = 16384; text = []; ahead = []; is_over = false } }
+    requires fresh { lines ≡ record { limit = longest_line; text = []; ahead = []; is_over = false } }
     ensures { Stops result pass.new (seen (S.left input.old) (S.faults input.old)) (seen (S.left input.new) (S.faults input.new)) }
 {
     let mut lines = lines;
@@ -93,7 +94,7 @@ fn take_plan<S: Source>(pass: &mut Pass, lines: &mut Lines, input: &mut S) -> Op
     requires stands { StandsFor pass.old [] }
     requires open { is_open pass.old ≡ true }
     requires before { is_ready pass.old ≡ false }
-    requires fresh { lines.old ≡ record { limit = 16384; text = []; ahead = []; is_over = false } }
+    requires fresh { lines.old ≡ record { limit = longest_line; text = []; ahead = []; is_over = false } }
     ensures { Opens result pass.new lines.new (seen (S.left input.old) (S.faults input.old)) (seen (S.left input.new) (S.faults input.new)) }
 {
     loop {

@@ -1,4 +1,5 @@
 -- The proofs.
+pub mod Keeping
 mod ScanEnds
 mod ScanGoes
 mod ScanLists

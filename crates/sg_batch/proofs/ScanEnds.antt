@@ -1,5 +1,5 @@
 -- How a run of `scans` ends, from what was read, answered and written.
-use Rattle.std.proofs.Common.{◌≡◌, ℕ, ◌≤◌, List, [], ◌++◌, None, Some, inl, inr, refl, sym, subst, ap, ◌∙◌, append-nil, arith}
+use Rattle.std.proofs.Common.{◌≡◌, ℕ, ◌+◌, ◌≤◌, List, [], ◌++◌, None, Some, inl, inr, refl, sym, subst, ap, ◌∙◌, append-nil, arith}
 use Rattle.std.specs.Prelude.{Option, IfSome}
 use Rattle.std.specs.Io.KnownBytes.{Consumes, IsAtEnd}
 use Rattle.sg_outside.specs.Faults.{Rose}
@@ -9,14 +9,15 @@ use Rattle.sg_keeper.specs.declared.rows.Rows.{Rows}
 use Rattle.sg_keeper.specs.declared.setup.Setup.{Setup}
 use Rattle.sg_histories.specs.declared.kept.Kept.{Kept}
 use Rattle.sg_histories.specs.Histories.{Entry}
-use Rattle.sg_histories.specs.Standing.{IsOffice, StandsFor}
+use Rattle.sg_histories.specs.Standing.{StandsFor}
 use Rattle.sg_scans.specs.declared.fields.ScanLine.{ScanLine}
 use Rattle.sg_clerk.specs.Asked.{out_at}
 use Rattle.sg_batch.specs.DoesScans.{DoesScans}
 use Rattle.sg_clerk.specs.Ends.{Moment}
 use Rattle.sg_batch.specs.ScansAsked.{ScansSay}
-use Rattle.sg_batch.specs.ScansEnds.{AreFirstScans, AreScansOf, IsBadScans, ScansEndSo, scans_status}
-use Rattle.sg_clerk.specs.Opening.{IsOpen}
+use Rattle.sg_batch.specs.ScansEnds.{AreFirstScans, AreScansOf, IsBadScans, ScansEndSo, longest_file, scans_status}
+use Rattle.sg_clerk.specs.Opening.{IsOfRows, IsOpen}
+use Rattle.sg_clerk.specs.Taken.{TookAtMost}
 use Rattle.sg_batch.specs.inside.ScanSteps.{AnswersLines, IsScanFile, LinesEndSo, ReadsScans, RefusesFile, Side}
 use Rattle.sg_batch.specs.declared.answering.ScansEnd.{ScansEnd}
 use Rattle.sg_batch.specs.declared.answering.ScansEnd.TheVariants as ending
@@ -144,19 +145,22 @@ does_from how setup history tells still rows middle after before now count told 
 
 -- behind an office that was opened
 pub scans_talk : (how : ScansEnd) (kept : Kept) (tells still : Type 0) (rows middle after : Rows) (before now : Moment) (count : ℕ)
-    → IsOffice kept → (tells → IsOpen kept rows) → (tells → still) → (tells → middle ≡ rows) → before.keep_faults ≤ count
+    → IsOfRows kept tells rows → (tells → IsOpen kept rows) → (tells → still) → (tells → middle ≡ rows) → before.keep_faults ≤ count → TookAtMost (longest_file + 1) before.left now.left
     → ((history : List Entry) → StandsFor kept history → DoesScans how kept.setup history still middle after (at_count before count) now)
     → ScansSay (scans_status how) tells rows after before now
-scans_talk how kept tells still rows middle after before now count office opens told same later talks =
+scans_talk how kept tells still rows middle after before now count starts opens told same later took talks =
+    let has = starts.1 in
     let from : (history : List Entry) → StandsFor kept history → DoesScans how kept.setup history tells rows after before now
     = λ history stands. does_from how kept.setup history tells still rows middle after before now count told same later (talks history stands) in
     inl (record {
       setup = kept.setup;
       how = how;
       status_is = refl;
-      start = office.history;
-      lawful = office.stands.lawful;
-      does = from office.history office.stands;
+      start = has.history;
+      lawful = has.stands.lawful;
+      took = took;
+      from = λ was. (has.text, sym (starts.2 was) ∙ has.rows_are);
+      does = from has.history has.stands;
       whole = λ was. (opens was).whole;
       each = λ was text history lawful is. from history ((opens was).each text history lawful is);
     })

@@ -1,5 +1,5 @@
 //! The records of a scanner's file are answered one after another.
-ghost use Rattle.std.specs.Prelude.{◌≡◌, ◌≤◌, List};
+ghost use Rattle.std.specs.Prelude.{◌≡◌, ◌+◌, ◌≤◌, List};
 ghost use Rattle.sg_outside.specs.Streams.{seen};
 ghost use Rattle.sg_histories.specs.Histories.{Entry};
 ghost use Rattle.sg_histories.specs.Standing.{StandsFor};
@@ -7,8 +7,9 @@ ghost use Rattle.sg_scans.specs.Asked.{CanCome, EachCanCome};
 ghost use Rattle.sg_talk.specs.Answers.{IsWritable};
 ghost use Rattle.sg_turns.specs.Turns.{CountsStore};
 ghost use Rattle.sg_batch.specs.DoesScans.{DoesScans};
-ghost use Rattle.sg_batch.specs.ScansEnds.{refused_line, scans_status};
+ghost use Rattle.sg_batch.specs.ScansEnds.{longest_file, refused_line, scans_status};
 ghost use Rattle.sg_clerk.specs.Does.{answer_line};
+ghost use Rattle.sg_clerk.specs.Taken.{TookAtMost};
 ghost use Rattle.sg_batch.specs.inside.ScanSteps.{AnswersLines, HasHanded, RefusesFile, ScanStepped, WroteSome};
 
 use crate::reading::{ScanFile, ScansRefusal, read_scan_file};
@@ -170,7 +171,7 @@ fn refuse_file<O: Sink>(out: &mut O, why: ScansRefusal) -> ScansEnd
 /// Reads the input as a scanner's file, and answers its records one after another: each answer is one line of the output,
 /// and one put.
 ///
-/// Of the input at most 16,777,217 bytes are taken. Where a read fails, or the file is refused, no record is answered. A
+/// However it ends, of the input at most 16,777,217 bytes are taken. Where a read fails, or the file is refused, no record is answered. A
 /// record that is no scan is told so, and the run goes on, as it does where memory is wanted for a scan or the keeper
 /// fails. It ends where a write fails, and where memory is wanted for the file or for the text of an answer.
 pub fn do_scans<S: Source, K: Keeper, O: Sink>(
@@ -184,6 +185,7 @@ pub fn do_scans<S: Source, K: Keeper, O: Sink>(
         → DoesScans result office.old.setup history (K.tells keeper.old) (K.rows keeper.old) (K.rows keeper.new)
         (record { left = S.left input.old; written = O.written out.old; read_faults = S.faults input.old; write_faults = O.faults out.old; keep_faults = K.faults keeper.old })
         (record { left = S.left input.new; written = O.written out.new; read_faults = S.faults input.new; write_faults = O.faults out.new; keep_faults = K.faults keeper.new }) }
+    ensures bounded { TookAtMost (longest_file + 1) (S.left input.old) (S.left input.new) }
     ensures told { K.tells keeper.old → K.tells keeper.new }
 {
     match read_scan_file(alloc, input) {

@@ -2,10 +2,9 @@
 #![tactic(auto)]
 
 mod answering;
+pub mod laws;
 mod reading;
 mod scanning;
-#[cfg(test)]
-mod tests;
 
 pub use answering::{ScansEnd, do_scans, scans_status};
 pub use reading::ScansRefusal;

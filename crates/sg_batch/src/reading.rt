@@ -2,6 +2,7 @@
 ghost use Rattle.std.specs.Prelude.{◌≡◌, ◌+◌, ◌≤◌, IfOk, Some, length, vec_len};
 ghost use Rattle.sg_outside.specs.Streams.{seen};
 ghost use Rattle.sg_batch.specs.ScansEnds.{longest_file};
+ghost use Rattle.sg_clerk.specs.Taken.{TookAtMost};
 ghost use Rattle.sg_batch.specs.inside.ScanSteps.{IsScanFile, ReadsScans};
 
 use sg_clerk::fill;
@@ -60,7 +61,8 @@ fn zeros(alloc: Global, count: usize) -> Result<Vec<u8>, NoMemory>
 /// Reads a file into a buffer with room for the longest one and a byte more.
 fn read_scans_into<S: Source>(alloc: Global, buf: &mut [u8], input: &mut S) -> ScanFile
     requires { length buf.old ≡ longest_file + 1 }
-    ensures { ReadsScans result (seen (S.left input.old) (S.faults input.old)) (seen (S.left input.new) (S.faults input.new)) }
+    ensures reads { ReadsScans result (seen (S.left input.old) (S.faults input.old)) (seen (S.left input.new) (S.faults input.new)) }
+    ensures bounded { TookAtMost (longest_file + 1) (S.left input.old) (S.left input.new) }
 {
     let Ok(count) = fill(buf, input) else {
         return ScanFile::Fault;
@@ -73,7 +75,8 @@ fn read_scans_into<S: Source>(alloc: Global, buf: &mut [u8], input: &mut S) -> S
 
 /// Reads a file: at most as many bytes as it may have, and one more to know that there are more.
 pub(crate) fn read_scan_file<S: Source>(alloc: Global, input: &mut S) -> ScanFile
-    ensures { ReadsScans result (seen (S.left input.old) (S.faults input.old)) (seen (S.left input.new) (S.faults input.new)) }
+    ensures reads { ReadsScans result (seen (S.left input.old) (S.faults input.old)) (seen (S.left input.new) (S.faults input.new)) }
+    ensures bounded { TookAtMost (longest_file + 1) (S.left input.old) (S.left input.new) }
 {
     let Ok(mut buf) = zeros(alloc, LONGEST_FILE + 1) else {
         return ScanFile::NoMemory;

@@ -23,7 +23,6 @@ pub fn answer_scans<S: Source, K: Keeper, O: Sink>(
 {
     match open_kept(alloc, keeper) {
         Opened::Office(office) => {
-            office.office_law();
             let mut office = office;
             scans_status(do_scans(alloc, &mut office, input, keeper, out))
         }

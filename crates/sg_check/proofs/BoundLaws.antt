@@ -35,7 +35,7 @@ use Rattle.sg_check.proofs.Counting.{count-none}
 use Rattle.sg_check.proofs.Rows.{none_behind_row}
 use Rattle.sg_check.specs.Bounds.{AreTotalsEqual, DifferByAtMost}
 use Rattle.sg_check.specs.Completions.{Completion, OpensNoneTwice, altered_rows, is_altered, opened_on, posted_half, posts_half}
-use Rattle.sg_check.specs.Printings.{IsPrinting, Printing, StandsWith, posted_codes}
+use Rattle.sg_check.specs.Printings.{AreCodesDifferent, Printing, StandsWith, posted_codes}
 
 -- a value that one of the lines gives is found
 pub given_there : {B : Type 0} (given : Placed → Option B) (front rest : List Placed) (x : Placed) → is_none (given x) ≡ false → is_none (first_given given (front ++ x ∷ rest)) ≡ false
@@ -137,16 +137,16 @@ module _ (lines : List (List ℕ)) (totals : List Total) (walked : Walked) (acce
   version_is = whole_version walked.next.plan walked.next.head (whole_head walked.next.head walked.next.due walked.next.part whole_is) (start-made lines walked accepted.walks)
 
   -- the bound, for a total among the lines
-  bound : (printing : Printing) (completion : Completion) → IsPrinting walked.next.plan printing → StandsWith walked.next.plan (placed_of walked.posted) printing
+  bound : (printing : Printing) (completion : Completion) → AreCodesDifferent walked.next.plan printing → StandsWith walked.next.plan (placed_of walked.posted) printing
       → OpensNoneTwice (placed_of walked.posted) completion → (total : Total) (instance : ℕ) → Contains totals total
       → DifferByAtMost (altered_rows walked.next.plan (placed_of walked.posted) completion printing total.race instance) total.count
       (posted_codes walked.next.plan (placed_of walked.posted) printing total.race total.candidate)
-  bound printing completion is_printing stands none_twice total instance has =
+  bound printing completion differ stands none_twice total instance has =
       let all = placed_of walked.posted in
       let plan = walked.next.plan in
       let among = total_among walked.posted total (subst (λ (l : List Total). Contains l total) totals_are has) in
       let within = (are_in_plan (TotalAt total.race total.candidate total.count) among).placed in
-      total_bound plan all are_apart (pointers_stand_once lines walked fine) (do_flags_agree lines walked fine) completion none_twice printing is_printing stands total.race instance total.candidate
+      total_bound plan all are_apart (pointers_stand_once lines walked fine) (do_flags_agree lines walked fine) completion none_twice printing differ stands total.race instance total.candidate
       within.0 within.1 total.count (totals_count lines walked fine) are_in_plan among
 
   -- THE FULL DRAW
@@ -188,12 +188,12 @@ module _ (lines : List (List ℕ)) (totals : List Total) (walked : Walked) (acce
         rw (half_there side.Left race instance row stands.opening stands.among both, half_there side.Right race instance row stands.opening stands.among both) refl
 
     equal : AreTotalsEqual walked.next.plan (placed_of walked.posted) totals
-    equal printing is_printing stands total has =
+    equal printing differ stands total has =
         let all = placed_of walked.posted in
         let plan = walked.next.plan in
         let within = race_within total has in
         let none = count-none (is_altered plan all as_posted printing total.race 0) (entries_of plan total.race) (λ row less. none_altered printing total.race 0 row within (omega (arith, sizes.one_instance)) less) in
-        let close = bound printing as_posted is_printing stands (λ on race instance row posted e. e) total 0 has in
+        let close = bound printing as_posted differ stands (λ on race instance row posted e. e) total 0 has in
         omega (arith, close.more, close.less, none)
       where
         race_within : (t : Total) → Contains totals t → t.race < length walked.next.plan.races
@@ -202,8 +202,8 @@ module _ (lines : List (List ℕ)) (totals : List Total) (walked : Walked) (acce
             (are_in_plan (TotalAt t.race t.candidate t.count) among).placed.0
 
 pub totals_bound : TotalsBound
-totals_bound lines totals walked accepted printing completion is_printing stands is_completion none_twice total instance has within =
-    bound lines totals walked accepted printing completion is_printing stands none_twice total instance has
+totals_bound lines totals walked accepted printing completion differ stands none_twice total instance has within =
+    bound lines totals walked accepted printing completion differ stands none_twice total instance has
 
 pub totals_stand : TotalsStand
 totals_stand lines totals walked accepted race candidate race_in candidate_in =

@@ -24,7 +24,7 @@ use Rattle.sg_check.proofs.Rows.{GoodHalf, first_given-some, good_half, one_half
 use Rattle.sg_check.proofs.Votes.{is_vote, places_in, votes-count, votes_before}
 use Rattle.sg_check.specs.Bounds.{DifferByAtMost}
 use Rattle.sg_check.specs.Completions.{Completion, OpensNoneTwice, altered_rows, is_altered, is_half_altered, is_row_misprinted, is_unopened, posted_half}
-use Rattle.sg_check.specs.Printings.{IsPrinting, Printing, StandsWith, count_below, is_posted_for, marked_code, posted_codes, posts_code}
+use Rattle.sg_check.specs.Printings.{AreCodesDifferent, Printing, StandsWith, count_below, is_posted_for, marked_code, posted_codes, posts_code}
 
 -- CODES OF MARKED ENTRIES
 
@@ -81,7 +81,7 @@ both_of (opened.Both l r) left right e d = rw (same_Some l left e, same_Some r r
 
 module _ (plan : Plan) (lines : List Placed) (apart : Apart clash lines) (once : ArePointersOnce plan lines) (flags : DoFlagsAgree plan lines)
     (completion : Completion) (none_twice : OpensNoneTwice lines completion)
-    (printing : Printing) (is_printing : IsPrinting plan printing) (stands : StandsWith plan lines printing)
+    (printing : Printing) (differ : AreCodesDifferent plan printing) (stands : StandsWith plan lines printing)
     (race instance candidate : ℕ) (race_in : race < length plan.races) (candidate_in : candidate < candidates_of plan race) where
   abbrev good : ℕ → Bool
   good row = not (is_altered plan lines completion printing race instance row)
@@ -188,7 +188,7 @@ module _ (plan : Plan) (lines : List Placed) (apart : Apart clash lines) (once :
         | inr other ↦
             rw (ne_eqb (place % candidates_of plan race) candidate other)
             (ne_eqb (printing race (entry / candidates_of plan race) candidate) shown
-            (λ e. is_printing.differ race (entry / candidates_of plan race) (place % candidates_of plan race) candidate (race_in, in_row) (mod_below place (candidates_of plan race) some) candidate_in other (is ∙ sym e)))
+            (λ e. differ race (entry / candidates_of plan race) (place % candidates_of plan race) candidate (race_in, in_row) (mod_below place (candidates_of plan race) some) candidate_in other (is ∙ sym e)))
       ]
 
       by_code : (x : Option ℕ) → marked_code plan race entry lines ≡ x → is_posted_for plan lines printing race candidate entry ≡ is_vote plan race candidate lines place

@@ -1,4 +1,5 @@
 pub mod Accepted
+pub mod AllKinds
 pub mod BitsFound
 pub mod BoundLaws
 pub mod Bounding

@@ -8,7 +8,7 @@ use Rattle.sg_grammar.specs.Placed.{Placed}
 use Rattle.sg_grammar.specs.Walk.{Walked, is_whole, start, walk}
 use Rattle.sg_check.specs.Completions.{Completion, IsCompletion, OpensNoneTwice, altered_rows}
 use Rattle.sg_check.specs.Facts.{is_full_draw}
-use Rattle.sg_check.specs.Printings.{IsPrinting, Printing, StandsWith, posted_codes}
+use Rattle.sg_check.specs.Printings.{AreCodesDifferent, IsPrinting, Printing, StandsWith, posted_codes}
 use Rattle.sg_check.specs.Verdict.{breaks}
 use Rattle.sg_check.specs.declared.judged.Judged.{Judged}
 use Rattle.sg_check.specs.declared.judged.Judged.TheVariants as judged
@@ -22,11 +22,12 @@ pub record DifferByAtMost (most a b : ℕ) : Type 0 where
   pub less : b ≤ a + most
 
 -- for every printing that stands with the record and every completion that opens no commitment twice, each instance has at
--- least as many altered rows as any posted total of its race differs from the count of posted codes
+-- least as many altered rows as any posted total of its race differs from the count of posted codes: of a printing it is
+-- only asked that the codes of a row differ, and of a completion that it has what the record posts
 abbrev pub AreTotalsBound : Plan → List Placed → List Total → Type 0
 AreTotalsBound plan lines totals =
     (printing : Printing) (completion : Completion)
-    → IsPrinting plan printing → StandsWith plan lines printing → IsCompletion plan lines completion → OpensNoneTwice lines completion
+    → AreCodesDifferent plan printing → StandsWith plan lines printing → OpensNoneTwice lines completion
     → (total : Total) (instance : ℕ) → Contains totals total → instance < plan.instances
     → DifferByAtMost (altered_rows plan lines completion printing total.race instance) total.count (posted_codes plan lines printing total.race total.candidate)
 
@@ -54,7 +55,7 @@ AreAllTotalled plan totals = (race candidate : ℕ) → race < length plan.races
 -- each total is the count of posted codes, for every printing that stands with the record
 abbrev pub AreTotalsEqual : Plan → List Placed → List Total → Type 0
 AreTotalsEqual plan lines totals =
-    (printing : Printing) → IsPrinting plan printing → StandsWith plan lines printing
+    (printing : Printing) → AreCodesDifferent plan printing → StandsWith plan lines printing
     → (total : Total) → Contains totals total → total.count ≡ posted_codes plan lines printing total.race total.candidate
 
 -- what a yes with these totals promises of the lines

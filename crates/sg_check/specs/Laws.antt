@@ -1,5 +1,5 @@
 -- The laws of verdicts.
-use Rattle.std.specs.Prelude.{◌≡◌, ◌≢◌, ℕ, ◌+◌, ◌/◌, ◌%◌, ◌<◌, true, false, ◌⊎◌, List, [], ◌∷◌, ◌++◌, length, Some, None}
+use Rattle.std.specs.Prelude.{◌≡◌, ◌≢◌, ℕ, ◌+◌, ◌/◌, ◌%◌, ◌<◌, true, false, ◌⊎◌, List, [], ◌∷◌, ◌++◌, Contains, length, Some, None}
 use Rattle.sg_commit.specs.declared.CommitKind.TheVariants as commit
 use Rattle.sg_commit.specs.declared.Opening.{Opening}
 use Rattle.sg_forms.specs.declared.line.CodeLine.{CodeLine}
@@ -15,8 +15,8 @@ use Rattle.sg_grammar.specs.Walk.{Taken, Walked, start, take_bytes, walk}
 use Rattle.sg_grammar.specs.declared.state.Block.{Block}
 use Rattle.sg_check.specs.Bounds.{AreAllTotalled, AreTotalsBound, AreTotalsEqual, HasCompletion, HasPrinting}
 use Rattle.sg_check.specs.Facts.{audited_code, audited_entries, both_rows, code_commitment, is_audited, is_both, is_flagged, is_full_draw, is_marked, is_set, left_commitment, left_of, paper_code, public_bytes, right_commitment, right_of, votes_for}
-use Rattle.sg_check.specs.Judging.{AreOfPlan, bad_in}
-use Rattle.sg_check.specs.Kinds.{code_opening, is_on_side, opens_digest}
+use Rattle.sg_check.specs.Judging.{AreOfPlan, bad_in, later_kinds}
+use Rattle.sg_check.specs.Kinds.{code_opening, is_on_side, kinds, opens_digest}
 use Rattle.sg_check.specs.Verdict.{AreFine, IsFirstBad, IsVerdict, are_whole, least_broken, totals_of}
 use Rattle.sg_check.specs.declared.judged.Judged.{Judged}
 use Rattle.sg_check.specs.declared.judged.Judged.TheVariants as judged
@@ -185,6 +185,12 @@ PrintsAgree = (lines : List (List ℕ)) (walked : Walked) → IsFineWalk lines w
 -- lines that break no kind are fine
 abbrev pub NoneBadAreFine : Type 0
 NoneBadAreFine = (lines : List (List ℕ)) → least_broken lines ≡ None → AreFine lines
+
+-- each kind is among the kinds, and the later ones are all of them but the first: a kind that is left out of either list
+-- would never be found
+pub record AreAllKinds : Type 0 where
+  pub each : (k : Kind) → Contains kinds k
+  pub later : kinds ≡ kind.Form ∷ later_kinds
 
 -- WHAT A YES PROMISES
 

@@ -22,11 +22,16 @@ Printing = (race row candidate : ℕ) → ℕ
 abbrev pub IsRowOf : Plan → ℕ → ℕ → Type 0
 IsRowOf plan race row = (race < length plan.races) × (row < rows_of plan race)
 
--- in each ballot row of a race the candidates have different codes of the plan's version
+-- in each ballot row of a race the candidates have different codes
+abbrev pub AreCodesDifferent : Plan → Printing → Type 0
+AreCodesDifferent plan printing =
+    (race row candidate other : ℕ) → IsRowOf plan race row → candidate < candidates_of plan race → other < candidates_of plan race
+    → candidate ≢ other → printing race row candidate ≢ printing race row other
+
+-- they have different codes, and each is a code of the plan's version
 pub record IsPrinting (plan : Plan) (printing : Printing) : Type 0 where
   pub below : (race row candidate : ℕ) → IsRowOf plan race row → candidate < candidates_of plan race → printing race row candidate < codes_of plan.version
-  pub differ : (race row candidate other : ℕ) → IsRowOf plan race row → candidate < candidates_of plan race → other < candidates_of plan race
-      → candidate ≢ other → printing race row candidate ≢ printing race row other
+  pub differ : AreCodesDifferent plan printing
 
 -- a printing stands with a record where, for each row that is opened on both sides, each code that is known of its entry
 -- is printed beside the candidate of its place

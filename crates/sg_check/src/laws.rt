@@ -1,6 +1,11 @@
 //! Laws of verdicts: what follows from the definitions alone. Each function does nothing, and its contract is proved.
 ghost use Rattle.sg_check.specs.Examples.{AreKindsShown};
-ghost use Rattle.sg_check.specs.Laws.{CodesAreKnown, CompletionExists, EndsAreJudged, FirstBadStays, FlagsAgree, FormIsJudged, FrontsAreFine, FullDrawEquals, LineIsJudged, NoneBadAreFine, OneVerdict, OpeningsOpen, PathsAgree, PointersStandOnce, PrintingExists, PrintsAgree, SidesAreDrawn, SomeVerdict, TotalsBound, TotalsCount, TotalsStand};
+ghost use Rattle.sg_check.specs.Laws.{AreAllKinds, CodesAreKnown, CompletionExists, EndsAreJudged, FirstBadStays, FlagsAgree, FormIsJudged, FrontsAreFine, FullDrawEquals, LineIsJudged, NoneBadAreFine, OneVerdict, OpeningsOpen, PathsAgree, PointersStandOnce, PrintingExists, PrintsAgree, SidesAreDrawn, SomeVerdict, TotalsBound, TotalsCount, TotalsStand};
+
+/// Each kind is among the kinds, and the later ones are all of them but the first.
+pub fn all_kinds_law()
+    ensures { AreAllKinds }
+{}
 
 /// Lines have at most one verdict.
 pub fn one_verdict_law()

@@ -92,7 +92,7 @@ says_clear Due bytes clear alone status input input' out out' known says = by_en
     by_ending (inr (inr (inl four))) =
         let is = due_is four.1.due four.1.text four.1.answers in
         inr (inr (inl (four.0, four.1.cause, subst (λ (t : List ℕ). AppendsFront out.bytes out'.bytes t) is.1 four.1.written)))
-    by_ending (inr (inr (inr nine))) = inr (inr (inr nine))
+    by_ending (inr (inr (inr nine))) = inr (inr (inr (nine.0, nine.1.written)))
 
 pub honest_is_cleared : HonestIsCleared
 honest_is_cleared setup history fine is status input input' out out' known =

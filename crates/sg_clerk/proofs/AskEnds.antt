@@ -1,17 +1,17 @@
 -- How `do` ends, from what was opened and how the run over the lines ended.
-use Rattle.std.proofs.Common.{◌≡◌, ℕ, ◌≤◌, List, inl, inr, refl, ap, ◌∙◌, arith}
+use Rattle.std.proofs.Common.{◌≡◌, ℕ, ◌≤◌, List, inl, inr, refl, ap, sym, ◌∙◌, arith}
 use Rattle.sg_outside.specs.Streams.{Seen}
 use Rattle.sg_keeper.specs.declared.rows.Rows.{Rows}
 use Rattle.sg_keeper.specs.declared.setup.Setup.{Setup}
 use Rattle.sg_histories.specs.Histories.{Entry}
-use Rattle.sg_histories.specs.Standing.{IsOffice, StandsFor}
+use Rattle.sg_histories.specs.Standing.{StandsFor}
 use Rattle.sg_histories.specs.ValidRows.{Damaged, opening}
 use Rattle.sg_histories.specs.declared.kept.Kept.{Kept}
 use Rattle.sg_clerk.specs.Asked.{ClosedSays, DoSays, IsCutLine, out_at}
 use Rattle.sg_clerk.specs.Does.{Does}
 use Rattle.sg_clerk.specs.Ends.{EndsSo, Moment, ending_status}
 use Rattle.sg_clerk.specs.Shown.{damaged_line}
-use Rattle.sg_clerk.specs.Opening.{IsOpen, LineEnds, shown_status}
+use Rattle.sg_clerk.specs.Opening.{IsOfRows, IsOpen, LineEnds, shown_status}
 use Rattle.sg_clerk.specs.declared.shown.Shown.{Shown}
 use Rattle.sg_clerk.specs.declared.shown.Shown.TheVariants as shown
 use Rattle.sg_clerk.specs.declared.talk.Ending.{Ending}
@@ -43,24 +43,27 @@ does_from how setup history tells still rows middle after before now count told 
   stores = λ below. omega (arith, done.stores below, later);
   lines = done.lines;
   few = done.few;
+  took = done.took;
   ends = same_ends how _ _ before now count done.ends;
 }
 
 -- behind an office that was opened
 pub office_talks : (how : Ending) (kept : Kept) (tells still : Type 0) (rows middle after : Rows) (before now : Moment) (count : ℕ)
-    → IsOffice kept → (tells → IsOpen kept rows) → (tells → still) → (tells → middle ≡ rows) → before.keep_faults ≤ count
+    → IsOfRows kept tells rows → (tells → IsOpen kept rows) → (tells → still) → (tells → middle ≡ rows) → before.keep_faults ≤ count
     → ((history : List Entry) → StandsFor kept history → Does how kept.setup history still middle after (at_count before count) now)
     → DoSays (ending_status how) tells rows after before now
-office_talks how kept tells still rows middle after before now count office opens told same later talks =
+office_talks how kept tells still rows middle after before now count starts opens told same later talks =
+    let has = starts.1 in
     let from : (history : List Entry) → StandsFor kept history → Does how kept.setup history tells rows after before now
     = λ history stands. does_from how kept.setup history tells still rows middle after before now count told same later (talks history stands) in
     inl (record {
       setup = kept.setup;
       how = how;
       status_is = refl;
-      start = office.history;
-      lawful = office.stands.lawful;
-      does = from office.history office.stands;
+      start = has.history;
+      lawful = has.stands.lawful;
+      from = λ was. (has.text, sym (starts.2 was) ∙ has.rows_are);
+      does = from has.history has.stands;
       whole = λ was. (opens was).whole;
       each = λ was text history lawful is. from history ((opens was).each text history lawful is);
     })

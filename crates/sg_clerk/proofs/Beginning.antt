@@ -1,26 +1,31 @@
 -- How `init` ends, from what was read, kept and written.
-use Rattle.std.proofs.Common.{◌≡◌, ◌≢◌, ℕ, List, length, inl, inr, Bool, true, false, cond, refl, ap, subst}
-use Rattle.std.specs.Prelude.{◌&&◌, nat_le, Option, None, Some, Result, Ok, Err, IfSome}
+use Rattle.std.proofs.Common.{◌≡◌, ◌≢◌, ℕ, ◌+◌, ◌≤◌, List, [], length, inl, inr, Bool, true, false, cond, refl, ap, subst, ◌∙◌, arith}
+use Rattle.std.specs.Prelude.{◌&&◌, nat_le, is_some, Option, None, Some, Result, Ok, Err, IfSome}
 use Rattle.std.specs.Io.KnownBytes.{Consumes, IsAtEnd}
 use Rattle.std.proofs.lemmas.Bool.{and_parts, leb-true}
 use Rattle.serde_json.specs.Data.{Data}
 use Rattle.sg_outside.specs.Streams.{Seen}
-use Rattle.sg_plan.specs.Limits.{fault_of}
+use Rattle.sg_outside.proofs.StreamLemmas.{Consumes-nil, Rose-later}
+use Rattle.sg_plan.specs.Limits.{fault_of, longest_election}
 use Rattle.sg_plan.specs.declared.limits.PlanFault.{PlanFault}
-use Rattle.sg_keeper.specs.SetupText.{IsSetup}
+use Rattle.sg_keeper.specs.Rows.{with_setup}
+use Rattle.sg_keeper.specs.SetupText.{IsSetup, setup_text}
 use Rattle.sg_keeper.specs.declared.rows.Rows.{Rows}
 use Rattle.sg_keeper.specs.declared.setup.Setup.{Setup}
 use Rattle.sg_asks.specs.ElectionFile.{file_in, setup_in, with_json, with_plan, with_secrets, with_shape}
 use Rattle.sg_asks.specs.Json.{json_of}
 use Rattle.sg_asks.specs.declared.setups.SetupFault.{SetupFault}
 use Rattle.sg_asks.specs.declared.setups.SetupFault.TheVariants as fault
-use Rattle.sg_clerk.specs.Begun.{InitSays, IsBadFile, IsBegun, IsCause, IsCut, IsFileOf, IsSetUp}
-use Rattle.sg_clerk.specs.inside.Beginning.{InitEnds, IsAdded, IsFile, IsHad, ReadsFile, Refuses, SetsUp, Tells, begun_status}
+use Rattle.sg_clerk.specs.Begun.{InitSays, IsBadFile, IsBegun, IsCause, IsCut, IsFileOf, IsSetUp, StatusSays}
+use Rattle.sg_clerk.specs.Taken.{TookAtMost}
+use Rattle.sg_clerk.specs.inside.Beginning.{AddsSetup, InitEnds, IsAdded, IsFile, IsHad, KeepsSetup, ReadsFile, Refuses, SetsUp, Tells, begun_status}
 use Rattle.sg_clerk.proofs.Hearing.{told_all}
 use Rattle.sg_clerk.specs.declared.begun.Begun.{Begun}
 use Rattle.sg_clerk.specs.declared.begun.Begun.TheVariants as begun
 use Rattle.sg_clerk.specs.declared.begun.File.{File}
 use Rattle.sg_clerk.specs.declared.begun.File.TheVariants as file
+use Rattle.sg_clerk.specs.declared.begun.Keeping.{Keeping}
+use Rattle.sg_clerk.specs.declared.begun.Keeping.TheVariants as keeping
 use Rattle.sg_clerk.specs.declared.refusal.Refusal.{Refusal}
 use Rattle.sg_clerk.specs.declared.refusal.Refusal.TheVariants as refusal
 
@@ -95,6 +100,21 @@ not_begun refusal.Secrets rows not = tt
 not_begun refusal.Begun rows not = absurd (not refl)
 
 -- WHAT CAME OF A SETUP
+
+-- no setup is kept
+pub none_kept : (has : Bool) (setup : Option (List ℕ)) → has ≡ is_some setup → has ≡ false → setup ≡ None
+none_kept has None is not = refl
+none_kept has (Some text) is not = cc (is, not)
+
+-- it is added where none is kept
+pub adds_keeps : (how : Keeping) (setup : Setup) (tells still : Type 0) (rows middle rows' : Rows) (faults mid faults' : ℕ) → (tells → still) → (tells → middle ≡ rows) → faults ≤ mid
+    → (tells → rows.setup ≡ None) → AddsSetup how setup still middle rows' mid faults' → KeepsSetup how setup tells rows rows' faults faults'
+adds_keeps keeping.Kept setup tells still rows middle rows' faults mid faults' told same later none adds = λ was.
+    (none was, adds (told was) (ap (λ (r : Rows). r.setup) (same was) ∙ none was) ∙ ap (λ (r : Rows). with_setup r (setup_text setup)) (same was))
+adds_keeps keeping.Begun setup tells still rows middle rows' faults mid faults' told same later none adds = absurd adds
+adds_keeps keeping.Fault setup tells still rows middle rows' faults mid faults' told same later none adds =
+    (Rose-later faults mid faults' later adds.0, λ was. adds.1 (told was) ∙ same was)
+adds_keeps keeping.NoMemory setup tells still rows middle rows' faults mid faults' told same later none adds = λ was. adds (told was) ∙ same was
 
 -- it is kept
 pub tells_sets : (ending : Begun) (setup : Setup) (tells : Type 0) (rows rows' : Rows) (faults faults' : ℕ) (out out' : Seen)
@@ -173,14 +193,25 @@ good_ends begun.Refused setup input input' tells rows rows' faults faults' out o
 }
 good_ends begun.NoMemory setup input input' tells rows rows' faults faults' out out' read sets = record { same = sets.0; quiet = sets.1 }
 
+-- nothing was taken of an input
+pub took_nothing : (limit : ℕ) (known : Option (List ℕ)) → TookAtMost limit known known
+took_nothing limit known = record { bytes = []; taken = Consumes-nil known; few = omega arith }
+
 -- STATUSES
 
 -- what the status of an ending says
+status_says : (ending : Begun) (input input' : Seen) (tells : Type 0) (rows rows' : Rows) (faults faults' : ℕ) (out out' : Seen)
+    → InitEnds ending input input' tells rows rows' faults faults' out out' → StatusSays (begun_status ending) input input' tells rows rows' faults faults' out out'
+status_says begun.Done input input' tells rows rows' faults faults' out out' ends = inl (refl, ends)
+status_says begun.ReadFault input input' tells rows rows' faults faults' out out' ends = inr (inl (refl, ends))
+status_says begun.WriteFault input input' tells rows rows' faults faults' out out' ends = inr (inr (inl (refl, ends)))
+status_says begun.KeepFault input input' tells rows rows' faults faults' out out' ends = inr (inr (inr (inl (refl, ends))))
+status_says begun.Refused input input' tells rows rows' faults faults' out out' ends = inr (inr (inr (inr (inl (refl, ends)))))
+status_says begun.NoMemory input input' tells rows rows' faults faults' out out' ends = inr (inr (inr (inr (inr (refl, ends)))))
+
+-- and of how much was taken of the input
 pub init_says : (ending : Begun) (input input' : Seen) (tells : Type 0) (rows rows' : Rows) (faults faults' : ℕ) (out out' : Seen)
-    → InitEnds ending input input' tells rows rows' faults faults' out out' → InitSays (begun_status ending) input input' tells rows rows' faults faults' out out'
-init_says begun.Done input input' tells rows rows' faults faults' out out' ends = inl (refl, ends)
-init_says begun.ReadFault input input' tells rows rows' faults faults' out out' ends = inr (inl (refl, ends))
-init_says begun.WriteFault input input' tells rows rows' faults faults' out out' ends = inr (inr (inl (refl, ends)))
-init_says begun.KeepFault input input' tells rows rows' faults faults' out out' ends = inr (inr (inr (inl (refl, ends))))
-init_says begun.Refused input input' tells rows rows' faults faults' out out' ends = inr (inr (inr (inr (inl (refl, ends)))))
-init_says begun.NoMemory input input' tells rows rows' faults faults' out out' ends = inr (inr (inr (inr (inr (refl, ends)))))
+    → TookAtMost (longest_election + 1) input.bytes input'.bytes → InitEnds ending input input' tells rows rows' faults faults' out out'
+    → InitSays (begun_status ending) input input' tells rows rows' faults faults' out out'
+init_says ending input input' tells rows rows' faults faults' out out' took ends =
+    record { took = took; says = status_says ending input input' tells rows rows' faults faults' out out' ends }

@@ -3,6 +3,7 @@ use Rattle.std.proofs.Common.{◌≡◌, ℕ, ◌+◌, ◌<◌, ◌≤◌, List,
 use Rattle.std.specs.Prelude.{◌^◌, ◌-◌, Option, false}
 use Rattle.std.specs.List.{concat}
 use Rattle.std.specs.Io.KnownBytes.{Appends, Consumes}
+use Rattle.sg_plan.specs.Limits.{longest_ask}
 use Rattle.sg_outside.specs.Cutting.{Cutting, to_come}
 use Rattle.sg_outside.specs.TextLines.{AreLines, IsLine}
 use Rattle.sg_outside.proofs.LineLemmas.{AreLines-append}
@@ -19,10 +20,12 @@ use Rattle.sg_histories.specs.Standing.{StandsFor}
 use Rattle.sg_turns.specs.Turns.{AskTurn, CountsStore, HasAnswered}
 use Rattle.sg_clerk.specs.Does.{answer_line, lines_in, texts_in}
 use Rattle.sg_clerk.specs.Ends.{Moment}
+use Rattle.sg_clerk.specs.Taken.{AreShort}
 use Rattle.sg_clerk.specs.inside.Steps.{Side, Stepped, Steps, WroteSome}
 use Rattle.sg_clerk.specs.declared.talk.Step.{Step}
 use Rattle.sg_clerk.specs.declared.talk.Step.TheVariants as step
 use Rattle.sg_clerk.proofs.TalkGrows.{concat-push, lines-push, texts-push}
+use Rattle.sg_clerk.proofs.Taking.{short-push}
 
 -- what a step sees of a moment
 abbrev pub side_of : Moment → Side
@@ -37,6 +40,7 @@ pub record Goes (cutter : Cutting) (office : Kept) (tells : Type 0) (rows after 
   pub kept : tells → (text : List ℕ) → rows ≡ rows_of setup text start → after ≡ rows_of setup text next
   pub stores : now.keep_faults < 2 ^ 64 - 1 → before.keep_faults + stores_in exchanges ≤ now.keep_faults
   pub whole : AreLines (lines_in exchanges)
+  pub short : AreShort (lines_in exchanges)
   pub taken : Consumes before.left (to_come cutter now.left) (concat (lines_in exchanges))
   pub written : Appends before.written now.written (concat (texts_in setup.plan.version exchanges))
   pub counted : length exchanges ≡ count
@@ -52,6 +56,7 @@ goes-start cutter office tells rows setup start before fresh stands = record {
   kept = λ told text is. is;
   stores = λ below. omega arith;
   whole = tt;
+  short = tt;
   taken = subst (λ (c : Cutting). Consumes before.left (to_come c before.left) []) (sym fresh) (none-held before.left);
   written = Appends-nil before.written;
   counted = refl;
@@ -63,10 +68,10 @@ goes-start cutter office tells rows setup start before fresh stands = record {
 
 -- one more line was answered, and its answer written
 pub goes-push : (cutter more : Cutting) (office new : Kept) (tells still : Type 0) (rows middle after : Rows) (setup said : Setup) (start : List Entry) (count : ℕ) (before now then : Moment) (line : List ℕ)
-    → line ≡ more.text → said ≡ setup → (goes : Goes cutter office tells rows middle setup start count before now) → (tells → still) → IsLine more.text → Consumes (to_come cutter now.left) (to_come more then.left) more.text
+    → line ≡ more.text → said ≡ setup → (goes : Goes cutter office tells rows middle setup start count before now) → (tells → still) → IsLine more.text → length more.text ≤ longest_ask → Consumes (to_come cutter now.left) (to_come more then.left) more.text
     → Stepped step.Written said new still middle after line goes.next (side_of now) (side_of then) → now.keep_faults ≤ then.keep_faults
     → Goes more new tells rows after setup start (count + 1) before then
-goes-push cutter more office new tells still rows middle after setup said start count before now then line is_text same goes told is_line cut made later =
+goes-push cutter more office new tells still rows middle after setup said start count before now then line is_text same goes told is_line few cut made later =
     let stepped = subst (λ (s : Setup). Stepped step.Written s new still middle after line goes.next (side_of now) (side_of then)) same made in
     let version = setup.plan.version in
     let x : Exchange = record { bytes = line; answer = stepped.answer } in
@@ -81,6 +86,7 @@ goes-push cutter more office new tells still rows middle after setup said start 
       kept = λ was text is. stepped.answered.kept (told was) text (goes.kept was text is);
       stores = λ below. omega (arith, goes.stores (omega (arith, later, below)), stepped.stores below, stores_are_counted goes.exchanges x);
       whole = subst AreLines lines (AreLines-append (lines_in goes.exchanges) (more.text ∷ []) goes.whole (is_line, tt));
+      short = subst AreShort lines (short-push (lines_in goes.exchanges) more.text goes.short few);
       taken = subst (λ (l : List (List ℕ)). Consumes before.left (to_come more then.left) (concat l)) lines
           (subst (λ (l : List ℕ). Consumes before.left (to_come more then.left) l) (sym (concat-push (lines_in goes.exchanges) more.text))
           (Consumes-trans before.left (to_come cutter now.left) (to_come more then.left) (concat (lines_in goes.exchanges)) more.text goes.taken cut));

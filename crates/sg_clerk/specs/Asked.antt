@@ -20,14 +20,15 @@ out_at moment = record { bytes = moment.written; faults = moment.write_faults }
 -- AN OFFICE TALKS
 
 -- An office was opened, and the lines of the input were answered by its talk, from a lawful history of its setup on. Where
--- the keeper tells its rows, they open to this setup, and the same talks, lines and texts are from each lawful history
--- whose rows they are. The status is that of how the run over the lines ended.
+-- the keeper tells its rows, they open to this setup and are that history's, and the lines and texts are also those of a talk
+-- from each other lawful history whose rows they are. The status is that of how the run over the lines ended.
 pub record Talks (status : ℕ) (tells : Type 0) (rows rows' : Rows) (before now : Moment) : Type 0 where
   pub setup : Setup
   pub how : Ending
   pub status_is : status ≡ ending_status how
   pub start : List Entry
   pub lawful : Lawful setup start
+  pub from : tells → (text : List ℕ) × (rows ≡ rows_of setup text start)
   pub does : Does how setup start tells rows rows' before now
   pub whole : tells → opening rows ≡ Whole setup
   pub each : tells → (text : List ℕ) (history : List Entry) → Lawful setup history → rows ≡ rows_of setup text history → Does how setup history tells rows rows' before now

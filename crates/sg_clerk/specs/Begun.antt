@@ -1,6 +1,7 @@
 -- How `init` ends (this project's command line).
-use Rattle.std.specs.Prelude.{◌≡◌, ℕ, ◌<◌, ◌≤◌, ◌⊎◌, ◌++◌, ◌∷◌, [], List, length, codes, decimal, Option, None, Some, IfSome, Ok, Err}
+use Rattle.std.specs.Prelude.{◌≡◌, ℕ, ◌+◌, ◌<◌, ◌≤◌, ◌⊎◌, ◌++◌, ◌∷◌, [], List, length, codes, decimal, Option, None, Some, IfSome, Ok, Err}
 use Rattle.std.specs.Io.KnownBytes.{Appends, IsAtEnd}
+use Rattle.sg_plan.specs.Limits.{longest_election}
 use Rattle.sg_outside.specs.Faults.{Rose}
 use Rattle.sg_outside.specs.Streams.{AppendsFront, Seen}
 use Rattle.sg_plan.specs.declared.limits.PlanFault.{PlanFault}
@@ -11,12 +12,9 @@ use Rattle.sg_keeper.specs.declared.rows.Rows.{Rows}
 use Rattle.sg_keeper.specs.declared.setup.Setup.{Setup}
 use Rattle.sg_asks.specs.ElectionFile.{setup_in}
 use Rattle.sg_asks.specs.declared.setups.SetupFault.TheVariants as fault
+use Rattle.sg_clerk.specs.Taken.{TookAtMost}
 use Rattle.sg_clerk.specs.declared.refusal.Refusal.{Refusal}
 use Rattle.sg_clerk.specs.declared.refusal.Refusal.TheVariants as refusal
-
--- the most bytes of an election file
-abbrev pub longest_election : ℕ
-longest_election = 1048576
 
 -- THE LINES
 
@@ -126,12 +124,18 @@ pub record LacksMemory (tells : Type 0) (rows rows' : Rows) (out out' : Seen) : 
   pub same : AreSame tells rows rows'
   pub quiet : out' ≡ out
 
--- how `init` ended, by its status: there is no other
-abbrev pub InitSays : ℕ → Seen → Seen → (tells : Type 0) → Rows → Rows → ℕ → ℕ → Seen → Seen → Type 0
-InitSays status input input' tells rows rows' faults faults' out out' =
+-- what each status says: there is no other
+abbrev pub StatusSays : ℕ → Seen → Seen → (tells : Type 0) → Rows → Rows → ℕ → ℕ → Seen → Seen → Type 0
+StatusSays status input input' tells rows rows' faults faults' out out' =
     ((status ≡ 0) × Begins input input' tells rows rows' out out')
     ⊎ ((status ≡ 3) × ReadFails input input' tells rows rows' out out')
     ⊎ ((status ≡ 4) × WriteFails input tells rows rows' out out')
     ⊎ ((status ≡ 5) × KeeperFails faults faults' tells rows rows' out out')
     ⊎ ((status ≡ 7) × IsRefused input tells rows rows' out out')
     ⊎ ((status ≡ 9) × LacksMemory tells rows rows' out out')
+
+-- how `init` ended, by its status; and with each, of the input at most as many bytes were taken as an election file has, and
+-- one more
+pub record InitSays (status : ℕ) (input input' : Seen) (tells : Type 0) (rows rows' : Rows) (faults faults' : ℕ) (out out' : Seen) : Type 0 where
+  pub took : TookAtMost (longest_election + 1) input.bytes input'.bytes
+  pub says : StatusSays status input input' tells rows rows' faults faults' out out'

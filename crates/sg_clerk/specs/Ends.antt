@@ -2,6 +2,7 @@
 use Rattle.std.specs.Prelude.{◌≡◌, ℕ, ◌<◌, ◌≤◌, List, [], ◌∷◌, ◌++◌, length, codes, Option, None, Some, IfSome}
 use Rattle.std.specs.List.{concat}
 use Rattle.std.specs.Io.KnownBytes.{Appends, Consumes, IsAtEnd}
+use Rattle.sg_plan.specs.Limits.{longest_ask, most_asks}
 use Rattle.sg_outside.specs.Faults.{Rose}
 use Rattle.sg_outside.specs.TextLines.{AreLines, HasNoFeed, lines_of}
 use Rattle.sg_clerk.specs.declared.talk.Ending.{Ending}
@@ -17,14 +18,6 @@ pub record Moment : Type 0 where
   pub read_faults : ℕ
   pub write_faults : ℕ
   pub keep_faults : ℕ
-
--- how many lines are answered at most
-abbrev pub most_lines : ℕ
-most_lines = 100000
-
--- how many bytes a line has at most, its line feed included
-abbrev pub longest_line : ℕ
-longest_line = 65536
 
 -- the line that is written where a limit on lines is overrun
 abbrev pub overrun_line : Overrun → List ℕ
@@ -53,15 +46,15 @@ pub record AreLinesTaken (before now : Option (List ℕ)) (lines : List (List �
   pub rest : List ℕ
   pub whole : AreLines lines
   pub unended : HasNoFeed rest
-  pub few : length rest < longest_line
-  pub none_more : length lines ≡ most_lines → rest ≡ []
+  pub few : length rest < longest_ask
+  pub none_more : length lines ≡ most_asks → rest ≡ []
   pub taken : Consumes before now (concat lines ++ rest)
 
 -- behind these lines the input has what is refused: the front of a line that is too long; or, behind as many lines as
 -- may be answered, one more byte
 abbrev pub IsRefusedFor : Overrun → List (List ℕ) → List ℕ → Type 0
-IsRefusedFor overrun.Line lines next = HasNoFeed next × (length next ≡ longest_line) × (length lines < most_lines)
-IsRefusedFor overrun.Count lines next = (0 < length next) × (length lines ≡ most_lines)
+IsRefusedFor overrun.Line lines next = HasNoFeed next × (length next ≡ longest_ask) × (length lines < most_asks)
+IsRefusedFor overrun.Count lines next = (0 < length next) × (length lines ≡ most_asks)
 
 -- the input goes on behind these lines, which are whole, with what is refused
 pub record IsRefused (why : Overrun) (before : Option (List ℕ)) (lines : List (List ℕ)) : Type 0 where

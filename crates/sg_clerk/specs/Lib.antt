@@ -7,4 +7,5 @@ pub mod Laws
 pub mod Opening
 pub mod Sheet
 pub mod Shown
+pub mod Taken
 pub mod inside

@@ -6,7 +6,7 @@ use Rattle.sg_outside.specs.Streams.{AppendsFront, Seen}
 use Rattle.sg_keeper.specs.declared.rows.Rows.{Rows}
 use Rattle.sg_keeper.specs.declared.setup.Setup.{Setup}
 use Rattle.sg_histories.specs.Histories.{Entry}
-use Rattle.sg_histories.specs.Standing.{StandsFor}
+use Rattle.sg_histories.specs.Standing.{HasRows, StandsFor}
 use Rattle.sg_histories.specs.ValidRows.{Damaged, Empty, Whole, opening}
 use Rattle.sg_histories.specs.declared.kept.Kept.{Kept}
 use Rattle.sg_open.specs.Opened.{StandsForEach}
@@ -20,6 +20,18 @@ use Rattle.sg_clerk.specs.declared.shown.Shown.TheVariants as shown
 pub record IsOpen (kept : Kept) (rows : Rows) : Type 0 where
   pub whole : opening rows ≡ Whole kept.setup
   pub each : StandsForEach kept rows
+
+-- the office stands for a history whose rows were loaded: the keeper's, where it tells them
+abbrev pub IsOfRows : Kept → (tells : Type 0) → Rows → Type 0
+IsOfRows kept tells rows = (loaded : Rows) × HasRows kept loaded × (tells → loaded ≡ rows)
+
+-- an office that was opened of the rows of a keeper is of such rows
+abbrev pub StartsFrom : Opened → (tells : Type 0) → Rows → Type 0
+StartsFrom (opened.Office office) tells rows = IsOfRows office tells rows
+StartsFrom opened.LoadFault tells rows = Unit {0}
+StartsFrom opened.Empty tells rows = Unit {0}
+StartsFrom (opened.Damaged table row) tells rows = Unit {0}
+StartsFrom opened.NoMemory tells rows = Unit {0}
 
 -- what was opened of the rows of a keeper, where it tells them, with its counts of faults before and after
 abbrev pub OpensTo : Opened → (tells : Type 0) → Rows → ℕ → ℕ → Type 0

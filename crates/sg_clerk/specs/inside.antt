@@ -1,5 +1,6 @@
 -- How the code goes. Only clauses of private functions and proofs cite this.
 pub mod Beginning
 pub mod Hearing
+pub mod Opening
 pub mod Printing
 pub mod Steps

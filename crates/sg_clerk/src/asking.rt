@@ -24,7 +24,6 @@ pub fn answer_asks<S: Source, K: Keeper, O: Sink>(
 {
     match open_kept(alloc, keeper) {
         Opened::Office(office) => {
-            office.office_law();
             let mut office = office;
             ending_status(do_lines(alloc, &mut office, input, keeper, out))
         }

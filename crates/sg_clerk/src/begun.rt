@@ -1,14 +1,16 @@
 //! `init`: an office is set up from its election file.
-ghost use Rattle.std.specs.Prelude.{◌≡◌, ◌+◌, ◌≤◌, IfOk, Some, length, vec_len};
+ghost use Rattle.std.specs.Prelude.{◌≡◌, ◌+◌, ◌≤◌, IfOk, Some, is_some, length, vec_len};
+ghost use Rattle.sg_plan.specs.Limits.{longest_election};
 ghost use Rattle.sg_outside.specs.Streams.{seen};
+ghost use Rattle.sg_keeper.specs.Rows.{HasFaultCause};
 ghost use Rattle.sg_keeper.specs.SetupText.{IsSetup};
-ghost use Rattle.sg_clerk.specs.Begun.{longest_election};
-ghost use Rattle.sg_clerk.specs.inside.Beginning.{InitEnds, IsFile, KeepsSetup, ReadsFile, Refuses, SetsUp, Tells, begun_status};
+ghost use Rattle.sg_clerk.specs.Taken.{TookAtMost};
+ghost use Rattle.sg_clerk.specs.inside.Beginning.{AddsSetup, InitEnds, IsFile, KeepsSetup, ReadsFile, Refuses, SetsUp, Tells, begun_status};
 
 use crate::filling::fill;
 use crate::refusal::{Refusal, refusal_line};
 use sg_asks::{SetupFault, setup_of};
-use sg_keeper::{KeepFault, Keeper, Setup};
+use sg_keeper::{KeepFault, Keeper, Rows, Setup};
 use sg_outside::{Failed, Sink, Source};
 use sg_plan::NoMemory;
 use sg_plan::limits::LONGEST_ELECTION;
@@ -84,6 +86,7 @@ fn zeros(alloc: Global, count: usize) -> Result<Vec<u8>, NoMemory>
 fn read_into<S: Source>(alloc: Global, buf: &mut [u8], input: &mut S) -> File
     requires { length buf.old ≡ longest_election + 1 }
     ensures reads { ReadsFile result (seen (S.left input.old) (S.faults input.old)) (seen (S.left input.new) (S.faults input.new)) }
+    ensures bounded { TookAtMost (longest_election + 1) (S.left input.old) (S.left input.new) }
     ensures later { S.faults input.old ≤ S.faults input.new }
 {
     let Ok(count) = fill(buf, input) else {
@@ -98,6 +101,7 @@ fn read_into<S: Source>(alloc: Global, buf: &mut [u8], input: &mut S) -> File
 /// Reads the election file: at most as many bytes as it may have, and one more to know that there are more.
 fn read_file<S: Source>(alloc: Global, input: &mut S) -> File
     ensures reads { ReadsFile result (seen (S.left input.old) (S.faults input.old)) (seen (S.left input.new) (S.faults input.new)) }
+    ensures bounded { TookAtMost (longest_election + 1) (S.left input.old) (S.left input.new) }
     ensures later { S.faults input.old ≤ S.faults input.new }
 {
     let Ok(mut buf) = zeros(alloc, LONGEST_ELECTION + 1) else {
@@ -119,6 +123,45 @@ pub enum Keeping {
     NoMemory,
 }
 
+/// Whether rows have a setup.
+fn have_setup(rows: Rows) -> bool
+    ensures { result ≡ is_some rows.setup }
+{
+    let has = rows.setup.is_some();
+    drop(rows);
+    has
+}
+
+/// Whether a setup is kept.
+fn is_begun<K: Keeper>(alloc: Global, keeper: &mut K) -> Result<bool, KeepFault>
+    ensures begun { K.tells keeper.old → IfOk result (λ has. has ≡ is_some (K.rows keeper.old).setup) }
+    ensures same { K.tells keeper.old → K.rows keeper.new ≡ K.rows keeper.old }
+    ensures told { K.tells keeper.old → K.tells keeper.new }
+    ensures cause { HasFaultCause (K.faults keeper.old) (K.faults keeper.new) result }
+{
+    match keeper.load(alloc) {
+        Ok(rows) => Ok(have_setup(rows)),
+        Err(fault) => Err(fault),
+    }
+}
+
+/// Has the setup's text kept, where none is kept before.
+fn begin<K: Keeper>(alloc: Global, setup: &Setup, keeper: &mut K) -> Keeping
+    requires { IsSetup setup.now }
+    ensures adds { AddsSetup result setup.now (K.tells keeper.old) (K.rows keeper.old) (K.rows keeper.new) (K.faults keeper.old) (K.faults keeper.new) }
+    ensures told { K.tells keeper.old → K.tells keeper.new }
+    ensures later { K.faults keeper.old ≤ K.faults keeper.new }
+{
+    let Ok(text) = setup.text(alloc) else {
+        return Keeping::NoMemory;
+    };
+    match keeper.begin(&text) {
+        Ok(()) => Keeping::Kept,
+        Err(KeepFault::Failed) => Keeping::Fault,
+        Err(KeepFault::NoMemory) => Keeping::NoMemory,
+    }
+}
+
 /// Keeps the setup, where none is kept.
 fn keep<K: Keeper>(alloc: Global, setup: &Setup, keeper: &mut K) -> Keeping
     requires { IsSetup setup.now }
@@ -126,19 +169,9 @@ fn keep<K: Keeper>(alloc: Global, setup: &Setup, keeper: &mut K) -> Keeping
     ensures told { K.tells keeper.old → K.tells keeper.new }
     ensures later { K.faults keeper.old ≤ K.faults keeper.new }
 {
-    let rows = match keeper.load(alloc) {
-        Ok(rows) => rows,
-        Err(KeepFault::Failed) => return Keeping::Fault,
-        Err(KeepFault::NoMemory) => return Keeping::NoMemory,
-    };
-    if let Some(_) = &rows.setup {
-        return Keeping::Begun;
-    }
-    let Ok(text) = setup.text(alloc) else {
-        return Keeping::NoMemory;
-    };
-    match keeper.begin(&text) {
-        Ok(()) => Keeping::Kept,
+    match is_begun(alloc, keeper) {
+        Ok(true) => Keeping::Begun,
+        Ok(false) => begin(alloc, setup, keeper),
         Err(KeepFault::Failed) => Keeping::Fault,
         Err(KeepFault::NoMemory) => Keeping::NoMemory,
     }
@@ -186,7 +219,7 @@ fn set_up<K: Keeper, O: Sink>(alloc: Global, setup: &Setup, keeper: &mut K, out:
 /// Sets an office up: reads the election file, keeps its setup where none is kept, and writes `begun`. The line of a
 /// refusal is written where the file is none or a setup is kept: the causes are sought in the order of `Refusal`.
 ///
-/// Of the input at most 1,048,577 bytes are taken.
+/// However it ends, of the input at most 1,048,577 bytes are taken.
 pub fn init<S: Source, K: Keeper, O: Sink>(
     alloc: Global,
     input: &mut S,
@@ -196,6 +229,7 @@ pub fn init<S: Source, K: Keeper, O: Sink>(
     ensures ends { InitEnds result (seen (S.left input.old) (S.faults input.old)) (seen (S.left input.new) (S.faults input.new))
         (K.tells keeper.old) (K.rows keeper.old) (K.rows keeper.new) (K.faults keeper.old) (K.faults keeper.new)
         (seen (O.written out.old) (O.faults out.old)) (seen (O.written out.new) (O.faults out.new)) }
+    ensures bounded { TookAtMost (longest_election + 1) (S.left input.old) (S.left input.new) }
     ensures told { K.tells keeper.old → K.tells keeper.new }
     ensures later { K.faults keeper.old ≤ K.faults keeper.new }
 {

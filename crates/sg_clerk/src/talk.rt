@@ -1,6 +1,7 @@
 //! The loop of `do`: it answers the lines of the input, one after another.
 ghost use Rattle.std.specs.Prelude.{◌≡◌, ◌≤◌, [], List, IfOk, false};
 ghost use Rattle.std.specs.Io.KnownBytes.{Appends, Keeps};
+ghost use Rattle.sg_plan.specs.Limits.{longest_ask};
 ghost use Rattle.sg_outside.specs.Faults.{Rose};
 ghost use Rattle.sg_talk.specs.Answers.{IsWritable};
 ghost use Rattle.sg_histories.specs.Histories.{Entry};
@@ -158,7 +159,7 @@ fn converse<S: Source, K: Keeper, O: Sink>(
     keeper: &mut K,
     out: &mut O,
 ) -> Ending
-    requires fresh { lines.old ≡ record { limit = 65536; text = []; ahead = []; is_over = false } }
+    requires fresh { lines.old ≡ record { limit = longest_ask; text = []; ahead = []; is_over = false } }
     ensures does { (history : List Entry) → StandsFor office.old history
         → Does result office.old.setup history (K.tells keeper.old) (K.rows keeper.old) (K.rows keeper.new)
         (record { left = S.left input.old; written = O.written out.old; read_faults = S.faults input.old; write_faults = O.faults out.old; keep_faults = K.faults keeper.old })

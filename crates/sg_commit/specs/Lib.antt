@@ -1,2 +1,3 @@
 pub mod Commitments
+pub mod Laws
 pub mod Seals

@@ -1,15 +1,14 @@
 //! Commitments, which hide a value until they are opened, and seals over running bytes.
 //!
 //! Both are SHA-256 (FIPS 180-4). A commitment is taken of 29 bytes that name its kind and its place
-//! in the election, a secret key and the value.
+//! in the election, a secret key and the value; a law says that the bytes tell each of these.
 #![tactic(auto)]
 
 ghost use Rattle.std.specs.Prelude.{◌≡◌, ◌+◌, ◌<◌, ◌≤◌, ◌^◌, ◌↔◌, IsTrue, ◌++◌, length, take};
 ghost use Rattle.sha2.specs.Sha256.{sha256};
 ghost use Rattle.sg_commit.specs.Commitments.{commit_input, letter_of};
 
-#[cfg(test)]
-mod tests;
+pub mod laws;
 
 use sha2::{Digest as Hash, Sha256};
 

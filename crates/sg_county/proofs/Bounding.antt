@@ -109,7 +109,7 @@ seen_races seen is = ap (λ (o : Option Walked). option_map_or (λ plan. plan.ra
 total_bound : (seen : Seen) → IsSeen seen → IsVerdict seen.lines (judged.Yes (totals_of seen.lines)) → (total : Total) → Contains (totals_of seen.lines) total
     → DifferByAtMost (altered_in total.race seen) total.count (posted_in total.race total.candidate seen)
 total_bound seen is good total has =
-    totals_bound seen.lines (totals_of seen.lines) seen.walked (seen_accepted seen is good) seen.printing seen.completion is.is_printing is.stands is.is_completion is.none_twice total seen.instance has is.within
+    totals_bound seen.lines (totals_of seen.lines) seen.walked (seen_accepted seen is good) seen.printing seen.completion is.differ is.stands is.none_twice total seen.instance has is.within
 
 total_within : (seen : Seen) → IsSeen seen → IsVerdict seen.lines (judged.Yes (totals_of seen.lines)) → (total : Total) → Contains (totals_of seen.lines) total
     → IsCandidate seen.walked.next.plan.races total.race total.candidate

@@ -3,6 +3,7 @@ use Rattle.std.proofs.Common.{◌≡◌, ℕ, ◌+◌, ◌<◌, ◌==◌, Bool, 
 use Rattle.std.specs.Option.{option_map_or}
 use Rattle.std.proofs.lemmas.Bool.{ne_eqb}
 use Rattle.std.proofs.lemmas.List.{length-map}
+use Rattle.sg_grammar.specs.Head.{is_behind}
 use Rattle.sg_check.proofs.Accepted.{yes_is_sound}
 use Rattle.sg_check.specs.Verdict.{IsVerdict}
 use Rattle.sg_check.specs.declared.judged.Judged.{Judged}
@@ -22,7 +23,6 @@ use Rattle.sg_grammar.specs.declared.state.Part.{Part}
 use Rattle.sg_grammar.specs.declared.state.Slot.{Slot}
 use Rattle.sg_pass.specs.FirstSeal.{first_seal}
 use Rattle.sg_pass.specs.Pass.{is_behind_plan}
-use Rattle.sg_pass.specs.inside.Taking.{is_behind}
 
 -- A GOOD PART HAS A PLAN
 

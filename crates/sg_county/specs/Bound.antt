@@ -4,8 +4,8 @@ use Rattle.sg_grammar.specs.Walk.{Walked, start, walk}
 use Rattle.sg_grammar.specs.Lines.{placed_of}
 use Rattle.sg_check.specs.declared.judged.Total.{Total}
 use Rattle.sg_check.specs.Bounds.{DifferByAtMost}
-use Rattle.sg_check.specs.Completions.{Completion, IsCompletion, OpensNoneTwice, altered_rows}
-use Rattle.sg_check.specs.Printings.{IsPrinting, Printing, StandsWith, posted_codes}
+use Rattle.sg_check.specs.Completions.{Completion, OpensNoneTwice, altered_rows}
+use Rattle.sg_check.specs.Printings.{AreCodesDifferent, Printing, StandsWith, posted_codes}
 use Rattle.sg_county.specs.County.{IsCounty, parts_of}
 use Rattle.sg_county.specs.declared.verdict.CountyVerdict.TheVariants.{Yes}
 
@@ -20,9 +20,8 @@ pub record Seen : Type 0 where
 -- the printing stands with the part, and the completion opens no commitment twice
 pub record IsSeen (seen : Seen) : Type 0 where
   pub walks : walk start seen.lines ≡ Some seen.walked
-  pub is_printing : IsPrinting seen.walked.next.plan seen.printing
+  pub differ : AreCodesDifferent seen.walked.next.plan seen.printing
   pub stands : StandsWith seen.walked.next.plan (placed_of seen.walked.posted) seen.printing
-  pub is_completion : IsCompletion seen.walked.next.plan (placed_of seen.walked.posted) seen.completion
   pub none_twice : OpensNoneTwice (placed_of seen.walked.posted) seen.completion
   pub within : seen.instance < seen.walked.next.plan.instances
 

@@ -7,6 +7,7 @@ use Rattle.sg_outside.specs.TextLines.{lines_of}
 use Rattle.sg_court.specs.Heard.{EndsLong, HasOneMore, IsRead}
 use Rattle.sg_court.specs.Says.{Answers, Says}
 use Rattle.sg_court.specs.declared.due.Due.{Due}
+use Rattle.sg_court.proofs.Heard.{took_read}
 use Rattle.sg_court.specs.inside.Telling.{Tells, Writes}
 
 -- what is due of the lines of a front with which no input begins has no status 0
@@ -49,7 +50,7 @@ module _ (IsDue : List (List ℕ) → ℕ → List ℕ → Type 0) where
       front.0,
       record { cause = front.1.cause; due = front.1.status; text = front.1.text; answers = answers_of front.1.status front.1.text front.1.due; written = front.1.written },
     )))
-    says_of status out out' (inr (inr none)) = inr (inr (inr none))
+    says_of status out out' (inr (inr none)) = inr (inr (inr (none.0, record { taken = took_read input.bytes input'.bytes read is_read; written = none.1 })))
 
 -- nothing is written where the status is 3 or 9
 abbrev pub IsQuiet : ℕ → Type 0

@@ -4,7 +4,7 @@ use Rattle.std.specs.Io.KnownBytes.{Appends, IsAtEnd}
 use Rattle.sg_outside.specs.Faults.{Rose}
 use Rattle.sg_outside.specs.Streams.{AppendsFront, Seen}
 use Rattle.sg_outside.specs.TextLines.{lines_of}
-use Rattle.sg_court.specs.Heard.{IsRead}
+use Rattle.sg_court.specs.Heard.{IsRead, TookFew}
 use Rattle.sg_court.specs.Odds.{OddsDue}
 use Rattle.sg_court.specs.Recounts.{RecountDue}
 
@@ -25,9 +25,11 @@ pub record Shows (Due : List (List ℕ) → ℕ → List ℕ → Type 0) (status
   pub answers : Answers Due status text input input'
   pub written : Appends out.bytes out'.bytes text
 
--- 3: the input's count of faults rose, and nothing was written
+-- 3: the input's count of faults rose; no more was taken of it than all its lines may have, and one line more; and nothing was
+-- written
 pub record ReadFails (input input' out out' : Seen) : Type 0 where
   pub cause : Rose input.faults input'.faults
+  pub taken : TookFew input.bytes input'.bytes
   pub written : out' ≡ out
 
 -- 4: the output's count of faults rose, and a front of what is due, with the status `due`, was written
@@ -38,14 +40,18 @@ pub record WriteFails (Due : List (List ℕ) → ℕ → List ℕ → Type 0) (i
   pub answers : Answers Due due text input input'
   pub written : AppendsFront out.bytes out'.bytes text
 
--- what is due was written, with its status; or the command ended with 3 or 4; or memory was wanted (9), and nothing was
--- written: there is no other
+-- 9: memory was wanted; no more was taken of the input than with 3, and nothing was written
+pub record WantsMemory (input input' out out' : Seen) : Type 0 where
+  pub taken : TookFew input.bytes input'.bytes
+  pub written : out' ≡ out
+
+-- what is due was written, with its status; or the command ended with 3, 4 or 9: there is no other
 abbrev pub Says : (List (List ℕ) → ℕ → List ℕ → Type 0) → ℕ → Seen → Seen → Seen → Seen → Type 0
 Says Due status input input' out out' =
     Shows Due status input input' out out'
     ⊎ ((status ≡ 3) × ReadFails input input' out out')
     ⊎ ((status ≡ 4) × WriteFails Due input input' out out')
-    ⊎ ((status ≡ 9) × (out' ≡ out))
+    ⊎ ((status ≡ 9) × WantsMemory input input' out out')
 
 -- `recount`
 abbrev pub RecountSays : ℕ → Seen → Seen → Seen → Seen → Type 0

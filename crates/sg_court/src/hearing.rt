@@ -1,7 +1,8 @@
 //! The input of a recount, read line by line up to its end, or until no bytes behind can make it one.
 ghost use Rattle.std.specs.Prelude.{◌≡◌, ◌≤◌, [], IfOk, false};
+ghost use Rattle.sg_plan.specs.Limits.{longest_line};
 ghost use Rattle.sg_outside.specs.Streams.{seen};
-ghost use Rattle.sg_court.specs.inside.Hearing.{Hears, Steps};
+ghost use Rattle.sg_court.specs.inside.Hearing.{Hears, Steps, TakesFew};
 
 use sg_outside::{Got, Lines, Source};
 use sg_plan::limits::LONGEST_LINE;
@@ -34,11 +35,12 @@ enum Step {
     Fault,
 }
 
-/// Cuts the next line, and puts it behind the text.
+/// Cuts the next line, and puts it behind the text. Whatever comes of it, at most the bytes of one line are taken.
 fn take_line<S: Source>(lines: &mut Lines, input: &mut S, text: &mut Word) -> Result<Step, NoMemory>
     requires going { lines.old.is_over ≡ false }
-    requires limit { lines.old.limit ≡ 16384 }
+    requires limit { lines.old.limit ≡ longest_line }
     ensures steps { IfOk result (λ step. Steps step lines.old lines.new text.old text.new (seen (S.left input.old) (S.faults input.old)) (seen (S.left input.new) (S.faults input.new))) }
+    ensures bounded { TakesFew lines.old (S.left input.old) (S.left input.new) }
     ensures later { S.faults input.old ≤ S.faults input.new }
 {
     match lines.next(input) {
@@ -61,7 +63,7 @@ fn take_line<S: Source>(lines: &mut Lines, input: &mut S, text: &mut Word) -> Re
 
 /// Takes lines up to the last, or to one more than there may be.
 fn gather<S: Source>(alloc: Global, lines: Lines, input: &mut S) -> Heard
-    requires fresh { lines ≡ record { limit = 16384; text = []; ahead = []; is_over = false } }
+    requires fresh { lines ≡ record { limit = longest_line; text = []; ahead = []; is_over = false } }
     ensures { Hears result (seen (S.left input.old) (S.faults input.old)) (seen (S.left input.new) (S.faults input.new)) }
 {
     let mut lines = lines;
@@ -80,7 +82,7 @@ fn gather<S: Source>(alloc: Global, lines: Lines, input: &mut S) -> Heard
 }
 
 /// Reads the input. Of one that goes on behind all lines that it may have, or has a longer line, a front is read: the
-/// lines up to one too many, or to 16,384 bytes of that line.
+/// lines up to one too many, or to 16,384 bytes of that line. No more is taken either where a read fails or memory is wanted.
 pub(crate) fn hear<S: Source>(alloc: Global, input: &mut S) -> Heard
     ensures { Hears result (seen (S.left input.old) (S.faults input.old)) (seen (S.left input.new) (S.faults input.new)) }
 {

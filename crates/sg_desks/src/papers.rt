@@ -1,5 +1,6 @@
 //! Whether a paper is the one printed for a ballot.
 ghost use Rattle.std.specs.Prelude.{◌≡◌, ◌<◌, ◌≤◌, ◌↔◌, All, IsTrue, length, true};
+ghost use Rattle.sg_plan.specs.Limits.{most_candidates};
 ghost use Rattle.sg_plan.specs.Ballots.{ballot_has, ballot_row, candidates_of, rows_of};
 ghost use Rattle.sg_tables.specs.Tables.{codes_of_row, paper_of};
 ghost use Rattle.sg_desks.specs.Papers.{same_paper};
@@ -47,7 +48,7 @@ fn lists_match(
 /// How many candidates a race has.
 fn candidates_in(plan: &Plan, race: u32) -> u32
     requires race { race < length plan.now.races }
-    requires few { candidates_of plan.now race ≤ 16 }
+    requires few { candidates_of plan.now race ≤ most_candidates }
     ensures { result ≡ candidates_of plan.now race }
 {
     plan.races.get(race as usize).candidates.len() as u32

@@ -9,8 +9,6 @@ mod folder;
 mod keeper;
 mod opening;
 mod telling;
-#[cfg(test)]
-mod tests;
 
 pub use causes::{Cause, Trouble};
 pub use keeper::FileKeeper;

@@ -11,7 +11,8 @@ use Rattle.sg_lines.proofs.Signs.{length-code_word}
 use Rattle.sg_forms.specs.declared.line.RowOpening.TheVariants as row
 use Rattle.sg_forms.specs.Said.{Said}
 use Rattle.sg_forms.specs.Said.Said.{Version, Election, Instances, Race, Cand, Style, Ballots, CodeCommit, RowCommit, Seal, Cast, Spoiled, Audited, Code, Over, Paper, Flags, Places, Total, DrawFull, DrawPublic, Row, Dispute, Voided}
-use Rattle.sg_forms.specs.Spelling.{words_of, longest_line, IsInRange, IsNumber, IsCode, AreBytes, AreDigits, claim_word}
+use Rattle.sg_forms.specs.Spelling.{words_of, IsInRange, IsNumber, IsCode, AreBytes, AreDigits, claim_word}
+use Rattle.sg_plan.specs.Limits.{longest_line}
 
 -- the bytes of words, each with one byte behind it
 abbrev pub text_length : List (List ℕ) → ℕ

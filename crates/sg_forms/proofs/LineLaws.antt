@@ -12,7 +12,8 @@ use Rattle.std.specs.List.{join_with_byte, list_any}
 use Rattle.std.specs.Option.{option_and_then}
 use Rattle.sg_forms.specs.Laws.{LinesAreSpelled, LinesAreRead, LinesDiffer, LinesAreShort, OpenLinesHaveNoForm, LongLinesHaveNoForm, CutLinesHaveNoForm, SplitLinesHaveNoForm}
 use Rattle.sg_forms.specs.Said.{Said}
-use Rattle.sg_forms.specs.Spelling.{longest_line, words_of, spelling, IsInRange}
+use Rattle.sg_forms.specs.Spelling.{words_of, spelling, IsInRange}
+use Rattle.sg_plan.specs.Limits.{longest_line}
 use Rattle.sg_forms.specs.Reading.{text_of, is_space, words_in, form_in, line_of}
 use Rattle.sg_forms.proofs.Kept.{both_true}
 use Rattle.sg_forms.proofs.WordKinds.{IsInk}

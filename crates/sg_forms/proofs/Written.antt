@@ -3,7 +3,8 @@ use Rattle.std.proofs.Common.{◌≡◌, ℕ, ◌+◌, ◌-◌, ◌≤◌, List,
 use Rattle.std.proofs.Math.Seq.{set-append_seam}
 use Rattle.std.specs.List.{join_with_byte}
 use Rattle.sg_forms.specs.Said.{Said}
-use Rattle.sg_forms.specs.Spelling.{longest_line, words_of, spelling, IsInRange}
+use Rattle.sg_forms.specs.Spelling.{words_of, spelling, IsInRange}
+use Rattle.sg_plan.specs.Limits.{longest_line}
 use Rattle.sg_forms.specs.inside.Writing.{spaced, HasRoom, IsWritten}
 use Rattle.sg_forms.proofs.LineLaws.{lines_are_short}
 use Rattle.sg_forms.proofs.Overwriting.{spaced_some}

@@ -3,7 +3,8 @@ use Rattle.std.specs.Prelude.{◌≡◌, ℕ, ◌≤◌, ◌<◌, ◌==◌, fals
 use Rattle.std.specs.List.{list_any}
 use Rattle.std.specs.Io.BufRead.{ends_with_byte}
 use Rattle.sg_forms.specs.Said.{Said}
-use Rattle.sg_forms.specs.Spelling.{longest_line, spelling, IsInRange}
+use Rattle.sg_forms.specs.Spelling.{spelling, IsInRange}
+use Rattle.sg_plan.specs.Limits.{longest_line}
 use Rattle.sg_forms.specs.Reading.{line_of}
 
 -- what is read is in range, and the bytes are its spelling

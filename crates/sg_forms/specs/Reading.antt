@@ -1,11 +1,12 @@
 -- How a line is read (this project's rules for the record): its words are cut at single spaces, the first word names
 -- the form, and each further word is read by its kind. That this reads each line from its one spelling, and nothing
 -- else, is the law of `Laws`.
-use Rattle.std.specs.Prelude.{ℕ, ◌-◌, ◌%◌, nat_le, ◌==◌, Bool, ◌&&◌, ◌||◌, if◌then◌else◌, List, [], ◌∷◌, length, take, Option, None, Some, bytes_eq, codes}
+use Rattle.std.specs.Prelude.{ℕ, ◌-◌, ◌%◌, nat_le, ◌==◌, Bool, ◌&&◌, ◌||◌, if◌then◌else◌, List, [], ◌∷◌, length, take, Option, None, Some, bytes_eq, codes, ◌*◌}
 use Rattle.std.specs.List.{slice_split, list_all}
 use Rattle.std.specs.Option.{option_map, option_and_then}
 use Rattle.std.specs.Result.{result_unwrap_or}
 use Rattle.std.specs.Io.BufRead.{ends_with_byte}
+use Rattle.sg_plan.specs.Limits.{longest_line, longest_name, most_bits, most_candidates, most_public_bytes, most_races}
 use Rattle.sg_commit.specs.declared.Digest.{Digest}
 use Rattle.sg_commit.specs.declared.Key.{Key}
 use Rattle.sg_commit.specs.declared.Opening.{Opening}
@@ -15,7 +16,6 @@ use Rattle.sg_lines.specs.Words.{decimal_of, decode_of, key_of, digest_of, code_
 use Rattle.sg_forms.specs.declared.line.RowOpening.TheVariants as row
 use Rattle.sg_forms.specs.Said.{Said}
 use Rattle.sg_forms.specs.Said.Said.{Version, Election, Instances, Race, Cand, Style, Ballots, CodeCommit, RowCommit, Seal, Cast, Spoiled, Audited, Code, Over, Paper, Flags, Places, Total, DrawFull, DrawPublic, Row, Dispute, Voided}
-use Rattle.sg_forms.specs.Spelling.{longest_line}
 
 -- ---- a line's text and its words
 
@@ -49,21 +49,21 @@ is_name_byte byte = nat_le 0x21 byte && nat_le byte 0x7E
 
 -- a name
 abbrev pub name_of : List ℕ → Option (List ℕ)
-name_of = kept_where (λ word. is_few 64 word && list_all is_name_byte word)
+name_of = kept_where (λ word. is_few longest_name word && list_all is_name_byte word)
 
 abbrev pub is_bit_sign : ℕ → Bool
 is_bit_sign byte = byte == 48 || byte == 49
 
 -- 1 to 64 bits
 abbrev pub bits_of : List ℕ → Option (List ℕ)
-bits_of = kept_where (λ word. is_few 64 word && list_all is_bit_sign word)
+bits_of = kept_where (λ word. is_few most_bits word && list_all is_bit_sign word)
 
 abbrev pub is_hex_sign : ℕ → Bool
 is_hex_sign byte = (nat_le 48 byte && nat_le byte 57) || (nat_le 97 byte && nat_le byte 102)
 
 -- 2 to 8,192 lower-case hexadecimal digits, an even number
 abbrev pub digits_of : List ℕ → Option (List ℕ)
-digits_of = kept_where (λ word. is_few 8192 word && ((length word % 2 == 0) && list_all is_hex_sign word))
+digits_of = kept_where (λ word. is_few (2 * most_public_bytes) word && ((length word % 2 == 0) && list_all is_hex_sign word))
 
 -- the public bytes that their hexadecimal digits stand for
 abbrev pub public_bytes : List ℕ → List ℕ
@@ -131,7 +131,7 @@ abbrev pub cand_of : List (List ℕ) → Option Said
 cand_of = then_by name_of (λ name. whole (Cand name))
 
 abbrev pub style_of : List (List ℕ) → Option Said
-style_of = then_by name_of (λ name words. option_map (λ races. Style name races) (few_by decimal_of 32 words))
+style_of = then_by name_of (λ name words. option_map (λ races. Style name races) (few_by decimal_of most_races words))
 
 abbrev pub ballots_of : List (List ℕ) → Option Said
 ballots_of = number_then (λ style. number_then (λ count. whole (Ballots style count)))
@@ -161,7 +161,7 @@ abbrev pub over_of : List (List ℕ) → Option Said
 over_of = number_then (λ race. whole (Over race))
 
 abbrev pub paper_of : ℕ → List (List ℕ) → Option Said
-paper_of version = number_then (λ race words. option_map (λ list. Paper race list) (few_by (code_of version) 16 words))
+paper_of version = number_then (λ race words. option_map (λ list. Paper race list) (few_by (code_of version) most_candidates words))
 
 abbrev pub flags_of : List (List ℕ) → Option Said
 flags_of = number_then (λ race. number_then (λ instance. then_by bits_of (λ bits. whole (Flags race instance bits))))

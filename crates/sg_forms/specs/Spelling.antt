@@ -2,6 +2,7 @@
 -- of them, and a line feed.
 use Rattle.std.specs.Prelude.{ℕ, ◌≡◌, ◌≤◌, ◌<◌, ◌^◌, ◌⊎◌, List, [], ◌∷◌, ◌++◌, All, length, map, codes}
 use Rattle.std.specs.List.{join_with_byte}
+use Rattle.sg_plan.specs.Limits.{most_bits, most_candidates, most_public_bytes, most_races}
 use Rattle.sg_commit.specs.declared.Opening.{Opening}
 use Rattle.sg_plan.specs.declared.plan.ClaimWord.{ClaimWord}
 use Rattle.sg_plan.specs.declared.plan.ClaimWord.TheVariants.{Posted, Unposted, Absent}
@@ -12,10 +13,6 @@ use Rattle.sg_forms.specs.declared.line.RowOpening.{RowOpening}
 use Rattle.sg_forms.specs.declared.line.RowOpening.TheVariants as row
 use Rattle.sg_forms.specs.Said.{Said}
 use Rattle.sg_forms.specs.Said.Said.{Version, Election, Instances, Race, Cand, Style, Ballots, CodeCommit, RowCommit, Seal, Cast, Spoiled, Audited, Code, Over, Paper, Flags, Places, Total, DrawFull, DrawPublic, Row, Dispute, Voided}
-
--- the most bytes of a line, its line feed included
-abbrev pub longest_line : ℕ
-longest_line = 16384
 
 -- a dispute's answer
 abbrev pub claim_word : ClaimWord → List ℕ
@@ -84,11 +81,11 @@ IsRow (row.Both left right) = IsOpening left × IsOpening right
 
 -- public bytes in lower-case hexadecimal: 1 to 4,096 bytes, of two digits each
 abbrev pub AreDigits : List ℕ → Type 0
-AreDigits digits = (bytes : List ℕ) × (digits ≡ encode_lower bytes) × All (λ byte. byte < 256) bytes × (1 ≤ length bytes) × (length bytes ≤ 4096)
+AreDigits digits = (bytes : List ℕ) × (digits ≡ encode_lower bytes) × All (λ byte. byte < 256) bytes × (1 ≤ length bytes) × (length bytes ≤ most_public_bytes)
 
 -- 1 to 64 characters, each `0` or `1`
 abbrev pub AreFewBits : List ℕ → Type 0
-AreFewBits bits = (1 ≤ length bits) × (length bits ≤ 64) × IsBits (length bits) bits
+AreFewBits bits = (1 ≤ length bits) × (length bits ≤ most_bits) × IsBits (length bits) bits
 
 -- the words of the line are of the right kind, each by itself; what may stand where is the grammar's
 abbrev pub IsInRange : ℕ → Said → Type 0
@@ -97,7 +94,7 @@ IsInRange version (Election name) = IsName name
 IsInRange version (Instances instances) = IsNumber instances
 IsInRange version (Race name candidates votes) = IsName name × IsNumber candidates × IsNumber votes
 IsInRange version (Cand name) = IsName name
-IsInRange version (Style name races) = IsName name × All IsNumber races × (1 ≤ length races) × (length races ≤ 32)
+IsInRange version (Style name races) = IsName name × All IsNumber races × (1 ≤ length races) × (length races ≤ most_races)
 IsInRange version (Ballots style count) = IsNumber style × IsNumber count
 IsInRange version (CodeCommit race digest) = IsNumber race × AreBytes 32 digest.0
 IsInRange version (RowCommit race instance left right) = IsNumber race × IsNumber instance × AreBytes 32 left.0 × AreBytes 32 right.0
@@ -107,7 +104,7 @@ IsInRange version (Spoiled ballot) = IsNumber ballot
 IsInRange version (Audited ballot) = IsNumber ballot
 IsInRange version (Code code) = IsNumber code.race × IsNumber code.column × AreBytes 16 code.key.0 × IsCode version code.code
 IsInRange version (Over race) = IsNumber race
-IsInRange version (Paper race list) = IsNumber race × All (IsCode version) list × (1 ≤ length list) × (length list ≤ 16)
+IsInRange version (Paper race list) = IsNumber race × All (IsCode version) list × (1 ≤ length list) × (length list ≤ most_candidates)
 IsInRange version (Flags race instance bits) = IsNumber race × IsNumber instance × AreFewBits bits
 IsInRange version (Places race bits) = IsNumber race × AreFewBits bits
 IsInRange version (Total race candidate count) = IsNumber race × IsNumber candidate × IsNumber count
@@ -124,9 +121,9 @@ FitsForm version (Version number) = (number ≡ 1) ⊎ (number ≡ 2)
 FitsForm version (Election name) = IsName name
 FitsForm version (Race name candidates votes) = IsName name
 FitsForm version (Cand name) = IsName name
-FitsForm version (Style name races) = IsName name × (1 ≤ length races) × (length races ≤ 32)
+FitsForm version (Style name races) = IsName name × (1 ≤ length races) × (length races ≤ most_races)
 FitsForm version (Code code) = IsCode version code.code
-FitsForm version (Paper race list) = All (IsCode version) list × (1 ≤ length list) × (length list ≤ 16)
+FitsForm version (Paper race list) = All (IsCode version) list × (1 ≤ length list) × (length list ≤ most_candidates)
 FitsForm version (Flags race instance bits) = AreFewBits bits
 FitsForm version (Places race bits) = AreFewBits bits
 FitsForm version (DrawPublic digits) = AreDigits digits

@@ -1,5 +1,6 @@
 //! The public bytes of a draw line.
 ghost use Rattle.std.specs.Prelude.{◌≡◌, ◌≤◌, ◌++◌, ℕ, List, length, drop};
+ghost use Rattle.sg_plan.specs.Limits.{most_public_bytes};
 ghost use Rattle.sg_lines.specs.Words.{IsBytes, encode_lower};
 ghost use Rattle.sg_forms.specs.Reading.{public_bytes};
 ghost use Rattle.sg_forms.specs.Spelling.{AreDigits};
@@ -10,9 +11,9 @@ use sg_lines::read_hex;
 /// how many they are. The rest of `out` stays as it is.
 pub fn draw_bytes(digits: &[u8], out: &mut [u8]) -> usize
     requires digits { AreDigits digits.now }
-    requires room { 4096 ≤ length out.old }
+    requires room { most_public_bytes ≤ length out.old }
     ensures len { result ≡ length (public_bytes digits.now) }
-    ensures few { (1 ≤ result) × (result ≤ 4096) }
+    ensures few { (1 ≤ result) × (result ≤ most_public_bytes) }
     ensures written { out.new ≡ public_bytes digits.now ++ drop result out.old }
     ensures spelled { digits.now ≡ encode_lower (public_bytes digits.now) }
     ensures only { (bytes : List ℕ) → IsBytes bytes → digits.now ≡ encode_lower bytes → public_bytes digits.now ≡ bytes }

@@ -2,7 +2,8 @@
 ghost use Rattle.std.specs.Prelude.{◌≡◌, ◌⊎◌, ◌≤◌, ◌++◌, All, length, drop};
 ghost use Rattle.sg_forms.specs.Said.{said};
 ghost use Rattle.sg_forms.specs.Said.Said.{Race, Style, Ballots, CodeCommit, RowCommit, Seal, Code, Paper, Flags, Places, Total, Row, Dispute};
-ghost use Rattle.sg_forms.specs.Spelling.{FitsForm, IsInRange, IsCode, longest_line, words_of, claim_word, spelling};
+ghost use Rattle.sg_forms.specs.Spelling.{FitsForm, IsInRange, IsCode, words_of, claim_word, spelling};
+ghost use Rattle.sg_plan.specs.Limits.{longest_line};
 ghost use Rattle.sg_forms.specs.inside.Writing.{HasRoom, IsWritten};
 
 use crate::line::{CodeLine, Line, RowOpening};

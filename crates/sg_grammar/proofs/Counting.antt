@@ -7,7 +7,7 @@ use Rattle.sg_plan.proofs.BallotLists.{count-push}
 use Rattle.sg_plan.proofs.LimitTests.{run_keeps-true}
 use Rattle.sg_plan.proofs.NameTests.{is_within-true}
 use Rattle.sg_plan.specs.Ballots.{ballot_has, ballots_of, candidates_of, r_rows}
-use Rattle.sg_plan.specs.Limits.{candidate_keeps, is_version, race_head_keeps, races_have, run_keeps, style_keeps}
+use Rattle.sg_plan.specs.Limits.{candidate_keeps, is_version, most_claims, most_instances, most_races, most_styles, race_head_keeps, races_have, run_keeps, style_keeps}
 use Rattle.sg_plan.specs.Names.{is_name_word, is_within}
 use Rattle.sg_plan.specs.declared.plan.Plan.{Plan}
 use Rattle.sg_plan.specs.declared.plan.Race.{Race as PlanRace}
@@ -19,12 +19,12 @@ use Rattle.sg_grammar.proofs.FirstLines.{take_bytes-line, walk-first, walk-none}
 use Rattle.sg_grammar.proofs.Making.{candidates_within, complete-sizes, length-with_candidate, made-line, made-start}
 use Rattle.sg_grammar.proofs.Sections.{commits-length, race_codes-length, results-length}
 use Rattle.sg_grammar.specs.Due.{audit, commits, race_codes, results}
-use Rattle.sg_grammar.specs.Head.{Making, behind_candidate, candidate_line, election_line, head_line, instances_line, last_candidates, later_style_line, made, most_instances, most_races, most_styles, race_line, run_line, style_line, version_line, with_cand, with_instances, with_name, with_race, with_run, with_style, with_version}
+use Rattle.sg_grammar.specs.Head.{Making, behind_candidate, candidate_line, election_line, head_line, instances_line, last_candidates, later_style_line, made, race_line, run_line, style_line, version_line, with_cand, with_instances, with_name, with_race, with_run, with_style, with_version}
 use Rattle.sg_grammar.specs.Left.{block_left, blocks_left, body_left, disputes_left, left_at, lines_left, most_lines, part_left, results_left}
 use Rattle.sg_grammar.specs.Made.{HasSizes, IsComplete, IsMade}
 use Rattle.sg_grammar.specs.Placed.{Placed}
 use Rattle.sg_grammar.specs.Placed.Placed.{Begun, CodeAt, Disputed, OverAt}
-use Rattle.sg_grammar.specs.Walk.{Next, Taken, Walked, after_block, after_dispute, after_run, begins, behind, body_line, first_of, headed, in_cast, in_head, in_order, is_column, is_later, is_race_left, most_disputes, place, start, take_at, take_line, taking, took, walk}
+use Rattle.sg_grammar.specs.Walk.{Next, Taken, Walked, after_block, after_dispute, after_run, begins, behind, body_line, first_of, headed, in_cast, in_head, in_order, is_column, is_later, is_race_left, place, start, take_at, take_line, taking, took, walk}
 use Rattle.sg_grammar.specs.declared.state.Block.TheVariants as block
 use Rattle.sg_grammar.specs.declared.state.Head.{Head}
 use Rattle.sg_grammar.specs.declared.state.Head.TheVariants as head
@@ -128,17 +128,17 @@ in_cast-falls plan ballot race column said t e =
 
 -- a further dispute
 dispute-falls : (plan : Plan) (count ballot race : ℕ) (placed : Placed) → HasSizes plan
-    → (nat_lt count most_disputes && (nat_lt race (length plan.races) && ballot_has plan ballot race)) ≡ true
+    → (nat_lt count most_claims && (nat_lt race (length plan.races) && ballot_has plan ballot race)) ≡ true
     → Falls plan (disputes_left count) (took placed (behind plan (race_codes plan block.Dispute ballot race) (part.Disputes (count + 1))))
 dispute-falls plan count ballot race placed sizes test =
-    let parts = and_parts (nat_lt count most_disputes) (nat_lt race (length plan.races) && ballot_has plan ballot race) test in
+    let parts = and_parts (nat_lt count most_claims) (nat_lt race (length plan.races) && ballot_has plan ballot race) test in
     let few = race_codes-length plan block.Dispute ballot race in
     falls-took plan (race_codes plan block.Dispute ballot race) (part.Disputes (count + 1)) (disputes_left count) placed
-    (omega (arith, few, sizes.most_candidates race, ltb-true count most_disputes parts.0))
+    (omega (arith, few, sizes.most_candidates race, ltb-true count most_claims parts.0))
 
 after_dispute-falls : (plan : Plan) (count : ℕ) (said : Said) (t : Taken) → HasSizes plan → after_dispute plan count said ≡ Some t → Falls plan (disputes_left count) t
 after_dispute-falls plan count (Dispute ballot race code word) t sizes e =
-    if_then-claim (λ x. Falls plan (disputes_left count) x) (nat_lt count most_disputes && (nat_lt race (length plan.races) && ballot_has plan ballot race))
+    if_then-claim (λ x. Falls plan (disputes_left count) x) (nat_lt count most_claims && (nat_lt race (length plan.races) && ballot_has plan ballot race))
     (took (Disputed ballot race code word) (behind plan (race_codes plan block.Dispute ballot race) (part.Disputes (count + 1)))) t
     (dispute-falls plan count ballot race (Disputed ballot race code word) sizes) e
 after_dispute-falls plan count said t sizes e = cc

@@ -14,7 +14,7 @@ use Rattle.sg_plan.proofs.LimitTests.{runs-true}
 use Rattle.sg_plan.proofs.Lists.{None-first_fault, each_keeps-push, first_fault-None}
 use Rattle.sg_plan.proofs.NameTests.{is_within-true, true-is_within}
 use Rattle.sg_plan.specs.Ballots.{all_entries, ballot_styles, ballots_of, candidates_of, entries_before, entries_of, r_rows, rows_of, style_has}
-use Rattle.sg_plan.specs.Limits.{PassesTests, candidate_keeps, each_keeps, fault_of, is_version, race_fits, race_head_keeps, race_keeps, races_have, run_keeps, style_fits, style_keeps}
+use Rattle.sg_plan.specs.Limits.{PassesTests, candidate_keeps, each_keeps, fault_of, is_version, most_instances, most_races, most_styles, race_fits, race_head_keeps, race_keeps, races_have, run_keeps, style_fits, style_keeps}
 use Rattle.sg_plan.specs.declared.limits.PlanFault.{PlanFault}
 use Rattle.sg_plan.specs.Names.{is_name_word, is_within}
 use Rattle.sg_plan.specs.declared.plan.Plan.{Plan}
@@ -24,8 +24,8 @@ use Rattle.sg_plan.specs.declared.plan.Style.{Style as PlanStyle}
 use Rattle.sg_forms.specs.Said.{Said}
 use Rattle.sg_forms.specs.Said.Said.{Ballots, Cand, Election, Instances, Race, Style, Version}
 use Rattle.sg_grammar.proofs.Claims.{if_some, if_then-claim, is_none-None}
-use Rattle.sg_grammar.specs.Head.{Making, behind_candidate, candidate_line, election_line, head_line, instances_line, last_candidates, later_style_line, made, most_instances, most_races, most_styles, no_plan, race_line, run_line, style_line, version_line, with_cand, with_candidate, with_instances, with_name, with_race, with_run, with_style, with_version}
-use Rattle.sg_grammar.specs.Made.{HasFront, HasNoRaces, HasNoStyles, HasRaces, HasRacesBut, HasSizes, HasStyles, IsComplete, IsMade, IsSmall, has_runs, races_keep_but}
+use Rattle.sg_grammar.specs.Head.{Making, behind_candidate, candidate_line, election_line, has_runs, head_line, instances_line, last_candidates, later_style_line, made, no_plan, race_line, run_line, style_line, version_line, with_cand, with_candidate, with_instances, with_name, with_race, with_run, with_style, with_version}
+use Rattle.sg_grammar.specs.Made.{HasFront, HasNoRaces, HasNoStyles, HasRaces, HasRacesBut, HasSizes, HasStyles, IsComplete, IsMade, IsSmall, races_keep_but}
 use Rattle.sg_grammar.specs.declared.state.Head.{Head}
 use Rattle.sg_grammar.specs.declared.state.Head.TheVariants as head
 

@@ -3,6 +3,7 @@ use Rattle.std.proofs.Common.{◌≡◌, ℕ, ◌+◌, ◌-◌, ◌==◌, ◌⊎
 use Rattle.std.specs.List.{list_any}
 use Rattle.std.proofs.lemmas.Bool.{or_from, or_parts}
 use Rattle.std.proofs.lemmas.Option.{cond_some, same_Some}
+use Rattle.sg_plan.specs.Limits.{most_claims}
 use Rattle.sg_plan.specs.Ballots.{ballot_has, candidates_of, entries_of}
 use Rattle.sg_plan.specs.declared.plan.ClaimWord.{ClaimWord}
 use Rattle.sg_plan.specs.declared.plan.Plan.{Plan}
@@ -14,7 +15,7 @@ use Rattle.sg_grammar.specs.Due.{audit, ballot_codes, ballot_paper, code_commit,
 use Rattle.sg_grammar.specs.Head.{head_line}
 use Rattle.sg_grammar.specs.Placed.{Placed}
 use Rattle.sg_grammar.specs.Placed.Placed.{Begun, CodeAt, Disputed, DrawnFull, DrawnPublic, OverAt, PlacesAt, RowAt, TotalAt}
-use Rattle.sg_grammar.specs.Walk.{Next, Taken, Walked, after_block, after_dispute, after_run, begins, behind, body_line, first_of, headed, in_cast, in_head, in_order, is_column, is_later, is_race_left, is_whole, is_whole_at, most_disputes, place, take_at, take_line, took, walk, walked_on}
+use Rattle.sg_grammar.specs.Walk.{Next, Taken, Walked, after_block, after_dispute, after_run, begins, behind, body_line, first_of, headed, in_cast, in_head, in_order, is_column, is_later, is_race_left, is_whole, is_whole_at, place, take_at, take_line, took, walk, walked_on}
 use Rattle.sg_grammar.specs.declared.state.Block.TheVariants as block
 use Rattle.sg_grammar.specs.declared.state.Head.{Head}
 use Rattle.sg_grammar.specs.declared.state.Head.TheVariants as head
@@ -179,7 +180,7 @@ pub record Disputes (plan : Plan) (count : ℕ) (t : Taken) : Type 0 where
 
 dispute_begun : (plan : Plan) (count : ℕ) (said : Said) (t : Taken) → after_dispute plan count said ≡ Some t → Disputes plan count t
 dispute_begun plan count (Dispute ballot race code word) t e =
-    record { ballot = ballot; race = race; code = code; word = word; is = (cond_some (nat_lt count most_disputes && (nat_lt race (length plan.races) && ballot_has plan ballot race)) _ t e).1 }
+    record { ballot = ballot; race = race; code = code; word = word; is = (cond_some (nat_lt count most_claims && (nat_lt race (length plan.races) && ballot_has plan ballot race)) _ t e).1 }
 dispute_begun plan count said t e = cc
 
 walk_from : (t : Taken) (next : Next) (lines : List (List ℕ)) (w : Walked) → next ≡ t.next → walk t.next lines ≡ Some w → walk next lines ≡ Some w

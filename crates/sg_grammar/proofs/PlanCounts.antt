@@ -7,7 +7,7 @@ use Rattle.std.proofs.lemmas.List.{length-append}
 use Rattle.sg_plan.proofs.BallotLists.{count-push}
 use Rattle.sg_plan.proofs.IndexLists.{few_runs_of, numbers-push}
 use Rattle.sg_plan.specs.Ballots.{ballot_styles, candidates_of, entries_of, r_rows, style_has}
-use Rattle.sg_plan.specs.Limits.{candidate_keeps, is_version, race_head_keeps, run_keeps, style_keeps}
+use Rattle.sg_plan.specs.Limits.{candidate_keeps, is_version, most_instances, most_races, most_styles, race_head_keeps, run_keeps, style_keeps}
 use Rattle.sg_plan.specs.Names.{is_name_word, is_within}
 use Rattle.sg_plan.specs.Runs.{run_numbers}
 use Rattle.sg_plan.specs.declared.plan.Plan.{Plan}
@@ -15,8 +15,8 @@ use Rattle.sg_plan.specs.declared.plan.Run.{Run}
 use Rattle.sg_forms.specs.Said.{Said}
 use Rattle.sg_forms.specs.Said.Said.{Ballots, Cand, Election, Instances, Race, Style, Version}
 use Rattle.sg_grammar.proofs.Claims.{if_some, if_then-claim}
-use Rattle.sg_grammar.specs.Head.{Making, behind_candidate, candidate_line, election_line, head_line, instances_line, last_candidates, later_style_line, made, most_instances, most_races, most_styles, race_line, run_line, style_line, version_line, with_cand, with_instances, with_name, with_race, with_run, with_style, with_version}
-use Rattle.sg_grammar.specs.Made.{IsMade, has_runs}
+use Rattle.sg_grammar.specs.Head.{Making, behind_candidate, candidate_line, election_line, has_runs, head_line, instances_line, last_candidates, later_style_line, made, race_line, run_line, style_line, version_line, with_cand, with_instances, with_name, with_race, with_run, with_style, with_version}
+use Rattle.sg_grammar.specs.Made.{IsMade}
 use Rattle.sg_grammar.specs.Slots.{IsCounted, RunFits, TellsEntries, is_run}
 use Rattle.sg_grammar.specs.declared.state.Head.{Head}
 use Rattle.sg_grammar.specs.declared.state.Head.TheVariants as head

@@ -3,6 +3,7 @@ use Rattle.std.proofs.Common.{◌≡◌, ℕ, zero, suc, ◌+◌, ◌-◌, ◌*�
 use Rattle.std.specs.Option.{option_map_or}
 use Rattle.std.proofs.lemmas.Bool.{and_parts, eqb-true, leb-true, ltb-true}
 use Rattle.std.proofs.lemmas.Option.{same_Some, slice_get_cases}
+use Rattle.sg_plan.specs.Limits.{most_claims}
 use Rattle.sg_plan.proofs.PlanLaws.{ballot_has-true}
 use Rattle.sg_plan.specs.Ballots.{ballot_has, ballots_of, candidates_of, entries_of}
 use Rattle.sg_plan.specs.declared.plan.Plan.{Plan}
@@ -22,7 +23,7 @@ use Rattle.sg_grammar.specs.Parting.{IsLineIn}
 use Rattle.sg_grammar.specs.Placed.{Placed}
 use Rattle.sg_grammar.specs.Placed.Placed.{Begun, CodeAt, CodeCommitAt, Disputed, DrawnFull, DrawnPublic, FlagsAt, OverAt, PaperAt, PlacesAt, RowAt, RowCommitAt, SealAt, TotalAt}
 use Rattle.sg_grammar.specs.Spots.{IsRaceOf}
-use Rattle.sg_grammar.specs.Walk.{Next, Taken, Walked, after_block, after_dispute, after_run, begins, behind, body_line, first_of, headed, in_cast, in_head, in_order, is_column, is_later, is_race_left, most_disputes, place, start, take_at, take_line, took, walk}
+use Rattle.sg_grammar.specs.Walk.{Next, Taken, Walked, after_block, after_dispute, after_run, begins, behind, body_line, first_of, headed, in_cast, in_head, in_order, is_column, is_later, is_race_left, place, start, take_at, take_line, took, walk}
 use Rattle.sg_grammar.specs.declared.state.Block.{Block}
 use Rattle.sg_grammar.specs.declared.state.Block.TheVariants as block
 use Rattle.sg_grammar.specs.declared.state.Head.{Head}
@@ -218,10 +219,10 @@ in_cast-keeps plan ballot race column said t range e = after_block-keeps plan ba
 
 after_dispute-keeps : (plan : Plan) (count : ℕ) (said : Said) (t : Taken) → after_dispute plan count said ≡ Some t → Keeps plan t
 after_dispute-keeps plan count (Dispute ballot race code word) t e =
-    if_then-claim (Keeps plan) (nat_lt count most_disputes && (nat_lt race (length plan.races) && ballot_has plan ballot race))
+    if_then-claim (Keeps plan) (nat_lt count most_claims && (nat_lt race (length plan.races) && ballot_has plan ballot race))
     (took (Disputed ballot race code word) (behind plan (race_codes plan block.Dispute ballot race) (part.Disputes (count + 1)))) t
     (λ ok.
-    let parts = and_parts (nat_lt race (length plan.races)) (ballot_has plan ballot race) (and_parts (nat_lt count most_disputes) (nat_lt race (length plan.races) && ballot_has plan ballot race) ok).1 in
+    let parts = and_parts (nat_lt race (length plan.races)) (ballot_has plan ballot race) (and_parts (nat_lt count most_claims) (nat_lt race (length plan.races) && ballot_has plan ballot race) ok).1 in
     let within = ltb-true race (length plan.races) parts.0 in
     (record { placed = race_of plan ballot race within parts.1; shown = tt }, codes_in plan block.Dispute ballot race within parts.1)) e
 after_dispute-keeps plan count said t e = cc

@@ -2,6 +2,7 @@
 use Rattle.std.proofs.Common.{◌≡◌, ℕ, zero, suc, ◌+◌, ◌-◌, ◌*◌, ◌==◌, ◌≤◌, nat_lt, Bool, true, false, ◌&&◌, cond, if◌then◌else◌, List, [], ◌∷◌, ◌++◌, length, map, count_by, Some, refl, subst, arith}
 use Rattle.std.proofs.lemmas.List.Sums.{sum_by-cons}
 use Rattle.std.proofs.lemmas.Option.{same_Some}
+use Rattle.sg_plan.specs.Limits.{most_claims}
 use Rattle.sg_plan.proofs.Counting.{count_by-append}
 use Rattle.sg_plan.specs.Ballots.{ballot_has, candidates_of, entries_of}
 use Rattle.sg_plan.specs.declared.plan.Plan.{Plan}
@@ -17,7 +18,7 @@ use Rattle.sg_grammar.specs.Left.{is_total, is_total_line, most_totals, part_tot
 use Rattle.sg_grammar.specs.Made.{HasSizes, IsMade}
 use Rattle.sg_grammar.specs.Placed.{Placed}
 use Rattle.sg_grammar.specs.Placed.Placed.{Begun, CodeAt, CodeCommitAt, Disputed, DrawnFull, DrawnPublic, FlagsAt, OverAt, PaperAt, PlacesAt, RowAt, RowCommitAt, SealAt}
-use Rattle.sg_grammar.specs.Walk.{Next, Posted, Taken, Walked, after_block, after_dispute, after_run, begins, behind, body_line, first_of, headed, in_cast, in_head, in_order, is_column, is_later, is_race_left, most_disputes, place, start, take_at, take_bytes, take_line, taking, took, walk}
+use Rattle.sg_grammar.specs.Walk.{Next, Posted, Taken, Walked, after_block, after_dispute, after_run, begins, behind, body_line, first_of, headed, in_cast, in_head, in_order, is_column, is_later, is_race_left, place, start, take_at, take_bytes, take_line, taking, took, walk}
 use Rattle.sg_grammar.specs.declared.state.Block.{Block}
 use Rattle.sg_grammar.specs.declared.state.Block.TheVariants as block
 use Rattle.sg_grammar.specs.declared.state.Head.{Head}
@@ -206,7 +207,7 @@ in_cast-keeps plan ballot race column said t e = after_block-keeps plan ballot s
 
 after_dispute-keeps : (plan : Plan) (count : ℕ) (said : Said) (t : Taken) → after_dispute plan count said ≡ Some t → Keeps 0 t
 after_dispute-keeps plan count (Dispute ballot race code word) t e =
-    if_then-claim (λ x. Keeps 0 x) (nat_lt count most_disputes && (nat_lt race (length plan.races) && ballot_has plan ballot race))
+    if_then-claim (λ x. Keeps 0 x) (nat_lt count most_claims && (nat_lt race (length plan.races) && ballot_has plan ballot race))
     (took (Disputed ballot race code word) (behind plan (race_codes plan block.Dispute ballot race) (part.Disputes (count + 1)))) t
     (λ ok. keeps-took plan (race_codes plan block.Dispute ballot race) (part.Disputes (count + 1)) 0 (Disputed ballot race code word)
     (omega (arith, codes-none plan block.Dispute ballot race))) e

@@ -4,7 +4,7 @@ use Rattle.std.specs.Option.{is_some, option_map}
 use Rattle.std.specs.Prelude.{IsSome, option_and_then}
 use Rattle.std.proofs.lemmas.Option.{cond_some, none-some, same_Some}
 use Rattle.sg_plan.specs.Ballots.{ballot_has}
-use Rattle.sg_plan.specs.Limits.{fault_of}
+use Rattle.sg_plan.specs.Limits.{fault_of, most_claims}
 use Rattle.sg_plan.specs.declared.plan.Plan.{Plan}
 use Rattle.sg_forms.specs.Reading.{line_of}
 use Rattle.sg_forms.specs.Said.{Said}
@@ -15,12 +15,12 @@ use Rattle.sg_grammar.proofs.Making.{complete-sizes, runs-fault, whole-fault}
 use Rattle.sg_grammar.proofs.PlanCounts.{some_value}
 use Rattle.sg_grammar.proofs.DueLines.{if_then_claim}
 use Rattle.sg_grammar.specs.Due.{audit, commits, race_codes, results}
-use Rattle.sg_grammar.specs.Head.{Making, head_line, run_line}
-use Rattle.sg_grammar.specs.Made.{HasSizes, IsMade, has_runs}
+use Rattle.sg_grammar.specs.Head.{Making, has_runs, head_line, run_line}
+use Rattle.sg_grammar.specs.Made.{HasSizes, IsMade}
 use Rattle.sg_grammar.specs.Placed.{Placed}
 use Rattle.sg_grammar.specs.Placed.Placed.{Begun, CodeAt, Disputed, OfPlan, OverAt}
 use Rattle.sg_grammar.specs.Spots.{placed_next}
-use Rattle.sg_grammar.specs.Walk.{Next, Taken, Walked, after_block, after_dispute, after_run, begins, behind, body_line, first_of, headed, in_cast, in_head, in_order, is_column, is_later, is_race_left, most_disputes, place, read_next, take_at, take_bytes, take_line, taking, took, walk, walked_on}
+use Rattle.sg_grammar.specs.Walk.{Next, Taken, Walked, after_block, after_dispute, after_run, begins, behind, body_line, first_of, headed, in_cast, in_head, in_order, is_column, is_later, is_race_left, place, read_next, take_at, take_bytes, take_line, taking, took, walk, walked_on}
 use Rattle.sg_grammar.specs.declared.state.Block.TheVariants as block
 use Rattle.sg_grammar.specs.declared.state.Head.{Head}
 use Rattle.sg_grammar.specs.declared.state.Head.TheVariants as head
@@ -128,7 +128,7 @@ cast_behind plan ballot race column (Over next_race) = if_then_claim (IsBehind p
 cast_behind plan ballot race column said = block_behind plan ballot said
 
 dispute_behind : (plan : Plan) (count : ℕ) (said : Said) → IfSome (after_dispute plan count said) (IsBehind plan)
-dispute_behind plan count (Dispute ballot race code word) = if_then_claim (IsBehind plan) (nat_lt count most_disputes && (nat_lt race (length plan.races) && ballot_has plan ballot race)) (took (Disputed ballot race code word) (behind plan (race_codes plan block.Dispute ballot race) (part.Disputes (count + 1)))) (λ _. (refl, refl))
+dispute_behind plan count (Dispute ballot race code word) = if_then_claim (IsBehind plan) (nat_lt count most_claims && (nat_lt race (length plan.races) && ballot_has plan ballot race)) (took (Disputed ballot race code word) (behind plan (race_codes plan block.Dispute ballot race) (part.Disputes (count + 1)))) (λ _. (refl, refl))
 dispute_behind plan count said = tt
 
 begins_behind : (plan : Plan) (may_begin : Part) (said : Said) → IfSome (begins plan may_begin said) (IsBehind plan)

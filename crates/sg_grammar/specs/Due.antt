@@ -1,6 +1,7 @@
 -- The lines that are due behind the plan, one after another, computed from the plan alone
 -- (this project's rules for the record).
 use Rattle.std.specs.Prelude.{ℕ, zero, suc, ◌+◌, ◌-◌, ◌*◌, ◌/◌, if◌then◌else◌, min, List, [], ◌∷◌, ◌++◌, length}
+use Rattle.sg_plan.specs.Limits.{most_bits}
 use Rattle.sg_plan.specs.Ballots.{ballot_has, candidates_of, entries_of}
 use Rattle.sg_plan.specs.declared.plan.Plan.{Plan}
 use Rattle.sg_grammar.specs.declared.state.Block.{Block}
@@ -63,11 +64,11 @@ audit plan ballot = each (ballot_paper plan ballot) 0 (length plan.races) ++ eac
 
 -- bits stand on lines of 64, and the last line has the rest
 abbrev pub lines_for : ℕ → ℕ
-lines_for bits = (bits + 63) / 64
+lines_for bits = (bits + (most_bits - 1)) / most_bits
 
 -- how many of the bits stand on a line
 abbrev pub bits_on : ℕ → ℕ → ℕ
-bits_on bits line = min 64 (bits - 64 * line)
+bits_on bits line = min most_bits (bits - most_bits * line)
 
 abbrev pub flag_line : Plan → ℕ → ℕ → ℕ → List Slot
 flag_line plan race instance line = slot.Flags race instance line (bits_on (entries_of plan race) line) ∷ []

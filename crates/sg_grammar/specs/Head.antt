@@ -1,7 +1,7 @@
 -- The lines of the plan: where each may stand, and what it adds to the plan (this project's rules for the record).
-use Rattle.std.specs.Prelude.{ℕ, ◌-◌, ◌==◌, nat_lt, nat_le, if◌then◌else◌, Bool, ◌&&◌, List, [], ◌∷◌, ◌++◌, length, Option, Some, None}
+use Rattle.std.specs.Prelude.{ℕ, ◌-◌, ◌==◌, nat_lt, nat_le, if◌then◌else◌, Bool, true, false, ◌&&◌, List, [], ◌∷◌, ◌++◌, length, Option, Some, None}
 use Rattle.sg_plan.specs.Ballots.{r_rows}
-use Rattle.sg_plan.specs.Limits.{is_version, race_head_keeps, candidate_keeps, style_keeps, run_keeps}
+use Rattle.sg_plan.specs.Limits.{candidate_keeps, is_version, most_instances, most_races, most_rows, most_styles, race_head_keeps, run_keeps, style_keeps}
 use Rattle.sg_plan.specs.Names.{is_name_word, is_within}
 use Rattle.sg_plan.specs.declared.plan.Plan.{Plan}
 use Rattle.sg_plan.specs.declared.plan.Race.{Race as PlanRace}
@@ -25,17 +25,6 @@ if_then test value = (if test then Some value else None)
 -- the plan of no lines
 abbrev pub no_plan : Plan
 no_plan = record { version = 0; name = []; instances = 0; races = []; styles = []; runs = [] }
-
--- THE LIMITS: how many instances, races and styles a record may have
-
-abbrev pub most_instances : ℕ
-most_instances = 16
-
-abbrev pub most_races : ℕ
-most_races = 32
-
-abbrev pub most_styles : ℕ
-most_styles = 32
 
 -- WHAT EACH LINE ADDS
 
@@ -109,7 +98,7 @@ candidate_line left plan said = None
 
 -- a run, with which there are at most 200,000 rows of table R
 abbrev pub run_line : Plan → Said → Option Making
-run_line plan (Ballots style count) = if_then (run_keeps (length plan.styles) plan.runs (record { style = style; count = count }) && nat_le (r_rows (with_run plan style count)) 200000) (made (with_run plan style count) head.Runs)
+run_line plan (Ballots style count) = if_then (run_keeps (length plan.styles) plan.runs (record { style = style; count = count }) && nat_le (r_rows (with_run plan style count)) most_rows) (made (with_run plan style count) head.Runs)
 run_line plan said = None
 
 -- a further style, or the first run
@@ -127,3 +116,16 @@ head_line plan (head.Candidates left) said = candidate_line left plan said
 head_line plan head.Styles said = later_style_line plan said
 head_line plan head.Runs said = run_line plan said
 head_line plan head.Whole said = None
+
+-- HOW FAR THE LINES GO
+
+-- a line of ballots stands
+abbrev pub has_runs : Head → Bool
+has_runs head.Runs = true
+has_runs head.Whole = true
+has_runs stage = false
+
+-- a line behind those of the plan stands
+abbrev pub is_behind : Head → Bool
+is_behind head.Whole = true
+is_behind stage = false

@@ -1,6 +1,6 @@
 -- The laws of records: what follows from the grammar alone.
 use Rattle.std.specs.Prelude.{◌≡◌, ℕ, ◌≤◌, true, List, ◌++◌, length, map, count_by, Some, IsSome}
-use Rattle.sg_grammar.specs.Left.{is_total_line}
+use Rattle.sg_grammar.specs.Left.{is_total_line, most_totals}
 use Rattle.sg_grammar.specs.Lines.{IsAmong, placed_of}
 use Rattle.sg_grammar.specs.Parting.{Apart, HasEachLine, IsLineIn, clash}
 use Rattle.sg_grammar.specs.Placed.{Placed}
@@ -20,7 +20,7 @@ FrontsOfFronts = (lines more : List (List ℕ)) → IsFront (lines ++ more) → 
 
 -- at most 512 lines of a front are the total of a candidate
 abbrev pub FewTotals : Type 0
-FewTotals = (lines : List (List ℕ)) (walked : Walked) → walk start lines ≡ Some walked → count_by is_total_line (map (λ posted. posted.line) walked.posted) ≤ 512
+FewTotals = (lines : List (List ℕ)) (walked : Walked) → walk start lines ≡ Some walked → count_by is_total_line (map (λ posted. posted.line) walked.posted) ≤ most_totals
 
 -- no line of a front stands behind one that bars it
 abbrev pub LinesStandApart : Type 0

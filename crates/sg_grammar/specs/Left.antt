@@ -3,12 +3,13 @@
 -- the record).
 use Rattle.std.specs.Prelude.{ℕ, zero, suc, ◌+◌, ◌-◌, ◌*◌, if◌then◌else◌, min, Bool, true, false, List, length, count_by, drop, sum_by}
 use Rattle.std.specs.Option.{option_map_or}
+use Rattle.sg_plan.specs.Limits.{most_ballots, most_candidates, most_claims, most_races, most_styles}
 use Rattle.sg_plan.specs.Ballots.{ballot_styles, ballots_of, candidates_of, style_has, style_of_ballot}
 use Rattle.sg_plan.specs.declared.plan.Plan.{Plan}
 use Rattle.sg_grammar.specs.Due.{results}
 use Rattle.sg_grammar.specs.Placed.{Placed}
 use Rattle.sg_grammar.specs.Placed.Placed.{TotalAt}
-use Rattle.sg_grammar.specs.Walk.{Next, most_disputes}
+use Rattle.sg_grammar.specs.Walk.{Next}
 use Rattle.sg_grammar.specs.declared.state.Head.{Head}
 use Rattle.sg_grammar.specs.declared.state.Head.TheVariants as head
 use Rattle.sg_grammar.specs.declared.state.Part.{Part}
@@ -50,7 +51,7 @@ blocks_left plan last = sum_by (block_lines plan) (drop last (ballot_styles plan
 
 -- the blocks of the disputes behind so many: a claim and at most 16 codes each
 abbrev pub disputes_left : ℕ → ℕ
-disputes_left count = 17 * (most_disputes - count)
+disputes_left count = 17 * (most_claims - count)
 
 -- the results, and then disputes
 abbrev pub results_left : Plan → ℕ
@@ -74,15 +75,15 @@ most_lines = 1100000
 
 -- each run brings a ballot, and there are at most 20,000
 abbrev pub runs_left : Plan → ℕ
-runs_left plan = most_lines + (20000 - ballots_of plan)
+runs_left plan = most_lines + (most_ballots - ballots_of plan)
 
 -- at most 32 styles before them
 abbrev pub styles_left : Plan → ℕ
-styles_left plan = most_lines + 20001 + (32 - length plan.styles)
+styles_left plan = most_lines + 20001 + (most_styles - length plan.styles)
 
 -- at most 32 races before them, with 16 candidates each
 abbrev pub races_left : Plan → ℕ
-races_left plan = most_lines + 20034 + 17 * (32 - length plan.races)
+races_left plan = most_lines + 20034 + 17 * (most_races - length plan.races)
 
 -- the plan's lines that may still come, and all that may come behind them
 abbrev pub left_at : Plan → Head → List Slot → Part → ℕ
@@ -113,7 +114,7 @@ is_total slot = false
 
 -- so many totals a record may have: 32 races with 16 candidates each
 abbrev pub most_totals : ℕ
-most_totals = 512
+most_totals = most_races * most_candidates
 
 -- those that may come where no line is due: all of them before the results
 abbrev pub part_totals : Plan → Part → ℕ

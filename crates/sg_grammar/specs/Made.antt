@@ -1,11 +1,10 @@
 -- What holds of a plan in the making, by which of its lines stand (this project's rules for the record).
 use Rattle.std.specs.Prelude.{◌≡◌, ℕ, ◌+◌, ◌<◌, ◌≤◌, Bool, true, false, ◌&&◌, List, [], ◌∷◌, ◌++◌, length}
 use Rattle.sg_plan.specs.Ballots.{ballots_of, candidates_of, entries_of, r_rows}
-use Rattle.sg_plan.specs.Limits.{candidate_keeps, each_keeps, is_version, race_head_keeps, race_keeps, run_keeps, style_keeps}
+use Rattle.sg_plan.specs.Limits.{candidate_keeps, each_keeps, is_version, most_ballots, most_candidates, most_instances, most_races, most_rows, most_styles, race_head_keeps, race_keeps, run_keeps, style_keeps}
 use Rattle.sg_plan.specs.Names.{is_name_word, is_within}
 use Rattle.sg_plan.specs.declared.plan.Plan.{Plan}
 use Rattle.sg_plan.specs.declared.plan.Race.{Race}
-use Rattle.sg_grammar.specs.Head.{most_instances, most_races, most_styles}
 use Rattle.sg_grammar.specs.declared.state.Head.{Head}
 use Rattle.sg_grammar.specs.declared.state.Head.TheVariants as head
 
@@ -43,7 +42,7 @@ pub record HasStyles (plan : Plan) : Type 0 where
 pub record HasRuns (plan : Plan) : Type 0 where
   pub one : 1 ≤ length plan.runs
   pub keep : each_keeps (run_keeps (length plan.styles)) [] plan.runs ≡ true
-  pub rows : r_rows plan ≤ 200000
+  pub rows : r_rows plan ≤ most_rows
 
 -- no line behind the races stands
 pub record HasNoStyles (plan : Plan) : Type 0 where
@@ -81,29 +80,18 @@ pub record IsMade (plan : Plan) (stage : Head) : Type 0 where
 
 pub record HasSizes (plan : Plan) : Type 0 where
   pub one_race : 1 ≤ length plan.races
-  pub most_races : length plan.races ≤ 32
+  pub most_races : length plan.races ≤ most_races
   pub one_instance : 1 ≤ plan.instances
-  pub most_instances : plan.instances ≤ 16
+  pub most_instances : plan.instances ≤ most_instances
   pub two_candidates : (race : ℕ) → race < length plan.races → 2 ≤ candidates_of plan race
-  pub most_candidates : (race : ℕ) → candidates_of plan race ≤ 16
-  pub most_ballots : ballots_of plan ≤ 20000
-  pub most_entries : (race : ℕ) → entries_of plan race ≤ 200000
-  pub most_rows : r_rows plan ≤ 200000
+  pub most_candidates : (race : ℕ) → candidates_of plan race ≤ most_candidates
+  pub most_ballots : ballots_of plan ≤ most_ballots
+  pub most_entries : (race : ℕ) → entries_of plan race ≤ most_rows
+  pub most_rows : r_rows plan ≤ most_rows
 
 -- the same of a plan that may still get runs, as far as it goes
 pub record IsSmall (plan : Plan) : Type 0 where
-  pub most_races : length plan.races ≤ 32
-  pub most_instances : plan.instances ≤ 16
-  pub most_candidates : (race : ℕ) → candidates_of plan race ≤ 16
-  pub most_ballots : ballots_of plan ≤ 20000
-
--- a line of ballots stands
-abbrev pub has_runs : Head → Bool
-has_runs head.Version = false
-has_runs head.Election = false
-has_runs head.Instances = false
-has_runs head.Races = false
-has_runs (head.Candidates left) = false
-has_runs head.Styles = false
-has_runs head.Runs = true
-has_runs head.Whole = true
+  pub most_races : length plan.races ≤ most_races
+  pub most_instances : plan.instances ≤ most_instances
+  pub most_candidates : (race : ℕ) → candidates_of plan race ≤ most_candidates
+  pub most_ballots : ballots_of plan ≤ most_ballots

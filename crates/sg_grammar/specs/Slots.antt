@@ -1,5 +1,6 @@
 -- The line that is due, as the program keeps it: its slot, and from the slot all lines that are due behind it.
 use Rattle.std.specs.Prelude.{◌≡◌, ℕ, ◌+◌, ◌*◌, ◌^◌, ◌<◌, ◌≤◌, ◌==◌, if◌then◌else◌, Bool, true, false, List, [], ◌∷◌, ◌++◌, length, slice_index, Option, Some, None}
+use Rattle.sg_plan.specs.Limits.{most_ballots, most_candidates, most_claims, most_races}
 use Rattle.sg_plan.specs.Ballots.{ballots_of, ballot_has, candidates_of, entries_of}
 use Rattle.sg_plan.specs.Runs.{run_numbers}
 use Rattle.sg_plan.specs.declared.plan.Plan.{Plan}
@@ -107,7 +108,7 @@ IsInSome plan (Some slot) = IsIn plan slot
 abbrev pub IsPartIn : Plan → Part → Type 0
 IsPartIn plan (part.Ballots last) = Unit {0}
 IsPartIn plan (part.Cast ballot race column) = (1 ≤ ballot) × (ballot ≤ ballots_of plan)
-IsPartIn plan (part.Disputes count) = count ≤ 10000
+IsPartIn plan (part.Disputes count) = count ≤ most_claims
 
 -- each race has so many entries as the table says
 abbrev pub TellsEntries : Plan → List ℕ → Type 0
@@ -115,8 +116,8 @@ TellsEntries plan entries = (race : ℕ) → race < length plan.races → slice_
 
 -- what is counted of a plan: each race's entries, and each ballot's run; without a run all entries are 0
 pub record IsCounted (plan : Plan) (entries numbers : List ℕ) : Type 0 where
-  pub few_races : length plan.races ≤ 32
-  pub few_ballots : ballots_of plan ≤ 20000
+  pub few_races : length plan.races ≤ most_races
+  pub few_ballots : ballots_of plan ≤ most_ballots
   pub tells : TellsEntries plan entries
   pub no_runs : plan.runs ≡ [] → (race : ℕ) → slice_index entries race ≡ 0
   pub numbers_are : numbers ≡ run_numbers 0 plan.runs
@@ -128,9 +129,9 @@ is_run said = false
 
 -- with one more run all counts fit the program's numbers
 pub record RunFits (plan : Plan) (style count : ℕ) : Type 0 where
-  pub few_candidates : (race : ℕ) → candidates_of plan race ≤ 16
-  pub few_ballots : ballots_of plan + count ≤ 20000
-  pub few_runs : length plan.runs + 1 ≤ 20000
+  pub few_candidates : (race : ℕ) → candidates_of plan race ≤ most_candidates
+  pub few_ballots : ballots_of plan + count ≤ most_ballots
+  pub few_runs : length plan.runs + 1 ≤ most_ballots
   pub entries_fit : (race : ℕ) → entries_of (with_run plan style count) race < 2 ^ 32
 
 -- none of the races from this one to before the other has an entry

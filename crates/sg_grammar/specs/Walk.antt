@@ -5,6 +5,7 @@
 -- where none is due. A walk takes one line after another, and gives each its place.
 use Rattle.std.specs.Prelude.{ℕ, ◌+◌, ◌*◌, ◌==◌, nat_lt, nat_le, if◌then◌else◌, Bool, true, false, ◌&&◌, ◌||◌, List, [], ◌∷◌, length, Option, Some, None, is_some, option_and_then}
 use Rattle.std.specs.Option.{option_map}
+use Rattle.sg_plan.specs.Limits.{most_bits, most_claims}
 use Rattle.sg_plan.specs.Ballots.{ballots_of, ballot_has, candidates_of}
 use Rattle.sg_plan.specs.declared.plan.Plan.{Plan}
 use Rattle.sg_forms.specs.Reading.{line_of}
@@ -71,11 +72,11 @@ in_code kind ballot race column said = None
 
 -- 64 bits stand on each line, and the rest on the last
 abbrev pub in_flags : ℕ → ℕ → ℕ → ℕ → Said → Option Placed
-in_flags race instance number count (Flags named of bits) = if_then ((named == race && of == instance) && length bits == count) (FlagsAt race instance (64 * number) bits)
+in_flags race instance number count (Flags named of bits) = if_then ((named == race && of == instance) && length bits == count) (FlagsAt race instance (most_bits * number) bits)
 in_flags race instance number count said = None
 
 abbrev pub in_places : ℕ → ℕ → ℕ → Said → Option Placed
-in_places race number count (Places named bits) = if_then (named == race && length bits == count) (PlacesAt race (64 * number) bits)
+in_places race number count (Places named bits) = if_then (named == race && length bits == count) (PlacesAt race (most_bits * number) bits)
 in_places race number count said = None
 
 abbrev pub in_total : ℕ → ℕ → Said → Option Placed
@@ -147,13 +148,9 @@ in_cast plan ballot race column (Code code) = if_then (is_column plan ballot cod
 in_cast plan ballot race column (Over next_race) = if_then (is_race_left plan ballot race next_race) (took (OverAt ballot next_race) (behind plan [] (part.Cast ballot (next_race + 1) 0)))
 in_cast plan ballot race column said = after_block plan ballot said
 
--- so many disputes may stand
-abbrev pub most_disputes : ℕ
-most_disputes = 10000
-
 -- a further dispute, of a ballot in one of its races: behind it its codes in that race are due
 abbrev pub after_dispute : Plan → ℕ → Said → Option Taken
-after_dispute plan count (Dispute ballot race code word) = if_then (nat_lt count most_disputes && (nat_lt race (length plan.races) && ballot_has plan ballot race)) (took (Disputed ballot race code word) (behind plan (race_codes plan block.Dispute ballot race) (part.Disputes (count + 1))))
+after_dispute plan count (Dispute ballot race code word) = if_then (nat_lt count most_claims && (nat_lt race (length plan.races) && ballot_has plan ballot race)) (took (Disputed ballot race code word) (behind plan (race_codes plan block.Dispute ballot race) (part.Disputes (count + 1))))
 after_dispute plan count said = None
 
 abbrev pub begins : Plan → Part → Said → Option Taken

@@ -1,5 +1,6 @@
 //! What is counted of a plan while its lines come.
 ghost use Rattle.std.specs.Prelude.{◌≡◌, ◌==◌, ◌+◌, ◌-◌, ◌^◌, ◌<◌, ◌≤◌, ◌++◌, ◌∷◌, [], if◌then◌else◌, length, replicate, slice_get, false, IfNone, IfOk, IfSome, IsSome, None, OnErr, OnOk, Some};
+ghost use Rattle.sg_plan.specs.Limits.{most_candidates, most_races};
 ghost use Rattle.sg_plan.specs.Ballots.{ballot_has, ballots_of, candidates_of, entries_of, style_of_ballot};
 ghost use Rattle.sg_forms.specs.Said.{said};
 ghost use Rattle.sg_forms.specs.Said.Said.{Ballots};
@@ -18,7 +19,7 @@ use std::marker::Model;
 /// How many candidates the race has.
 fn candidates_in(plan: &Plan, race: u32) -> u32
     requires race { race < length plan.now.races }
-    requires few { candidates_of plan.now race ≤ 16 }
+    requires few { candidates_of plan.now race ≤ most_candidates }
     ensures { result ≡ candidates_of plan.now race }
 {
     plan.races.get(race as usize).candidates.len() as u32
@@ -28,7 +29,7 @@ fn candidates_in(plan: &Plan, race: u32) -> u32
 fn more_entries(plan: &Plan, before: u32, race: u32, run: Run) -> u32
     requires race { race < length plan.now.races }
     requires before { before ≡ entries_of plan.now race }
-    requires few { candidates_of plan.now race ≤ 16 }
+    requires few { candidates_of plan.now race ≤ most_candidates }
     requires fits { entries_of (with_run plan.now run.style run.count) race < 2 ^ 32 }
     ensures { result ≡ entries_of (with_run plan.now run.style run.count) race }
 {
@@ -42,7 +43,7 @@ fn more_entries(plan: &Plan, before: u32, race: u32, run: Run) -> u32
 
 /// The entries of all races with one more run of ballots.
 fn entries_with_run(plan: &Plan, before: [u32; MOST_RACES], run: Run) -> [u32; MOST_RACES]
-    requires few_races { length plan.now.races ≤ 32 }
+    requires few_races { length plan.now.races ≤ most_races }
     requires tells { TellsEntries plan.now before }
     requires fits { RunFits plan.now run.style run.count }
     ensures { TellsEntries (with_run plan.now run.style run.count) result }
@@ -188,7 +189,7 @@ impl CountedPlan {
     /// How many candidates the race has.
     pub(crate) fn candidates(&self, race: u32) -> u32
         requires race { race < length self.now.races }
-        requires few { candidates_of self.now race ≤ 16 }
+        requires few { candidates_of self.now race ≤ most_candidates }
         ensures { result ≡ candidates_of self.now race }
     {
         candidates_in(&self.plan, race)
@@ -205,7 +206,7 @@ impl CountedPlan {
     /// How many entries the race has with one more run of ballots.
     pub(crate) fn entries_with(&self, race: u32, run: Run) -> u32
         requires race { race < length self.now.races }
-        requires few { candidates_of self.now race ≤ 16 }
+        requires few { candidates_of self.now race ≤ most_candidates }
         requires fits { entries_of (with_run self.now run.style run.count) race < 2 ^ 32 }
         ensures { result ≡ entries_of (with_run self.now run.style run.count) race }
     {

@@ -1,7 +1,7 @@
 //! The lines of the plan: where each may stand, and how it is taken.
 ghost use Rattle.std.specs.Prelude.{◌≡◌, ◌+◌, ◌<◌, ◌≤◌, ◌++◌, ◌∷◌, [], if◌then◌else◌, false, is_some, length, nat_lt, nat_le, ◌&&◌, take, IfOk, IsSome, OnErr, OnOk, Some};
 ghost use Rattle.sg_plan.specs.Ballots.{all_entries, ballots_of, r_rows};
-ghost use Rattle.sg_plan.specs.Limits.{is_version, race_head_keeps, run_keeps, style_keeps};
+ghost use Rattle.sg_plan.specs.Limits.{is_version, most_ballots, most_races, most_rows, most_styles, race_head_keeps, run_keeps, style_keeps};
 ghost use Rattle.sg_plan.specs.Names.{is_within};
 ghost use Rattle.sg_plan.specs.declared.plan.Plan.{Plan as PlanSeen};
 ghost use Rattle.sg_forms.specs.Said.{said};
@@ -106,7 +106,7 @@ fn may_follow_race(plan: &Plan, line: &Line) -> bool
 
 /// The race is not one too many, and keeps its limits but for its candidates' names.
 fn is_new_race(plan: &Plan, name: &[u8], candidates: u32, votes: u32) -> bool
-    ensures { result ≡ (nat_lt (length plan.now.races) 32 && race_head_keeps plan.now.races name.now candidates votes) }
+    ensures { result ≡ (nat_lt (length plan.now.races) most_races && race_head_keeps plan.now.races name.now candidates votes) }
 {
     if plan.races.len() >= MOST_RACES {
         return false;
@@ -148,7 +148,7 @@ fn first_numbers(numbers: &[u32; MOST_RACES], count: u32) -> &[u32]
 
 /// The style is not one too many, and keeps its limits.
 fn is_new_style(plan: &Plan, name: &[u8], races: &[u32]) -> bool
-    ensures { result ≡ (nat_lt (length plan.now.styles) 32 && style_keeps (length plan.now.races) plan.now.styles (record { name = name.now; races = races.now })) }
+    ensures { result ≡ (nat_lt (length plan.now.styles) most_styles && style_keeps (length plan.now.races) plan.now.styles (record { name = name.now; races = races.now })) }
 {
     if plan.styles.len() >= MOST_STYLES {
         return false;
@@ -193,7 +193,7 @@ fn may_be_run(plan: &CountedPlan, line: &Line) -> bool
 /// The run keeps its limits, and with it the plan has few enough rows.
 fn is_new_run(plan: &CountedPlan, run: Run) -> bool
     requires { IsSmall plan.now }
-    ensures { result ≡ (run_keeps (length plan.now.styles) plan.now.runs run && nat_le (r_rows (with_run plan.now run.style run.count)) 200000) }
+    ensures { result ≡ (run_keeps (length plan.now.styles) plan.now.runs run && nat_le (r_rows (with_run plan.now run.style run.count)) most_rows) }
 {
     if !is_run(plan.plan().styles.len(), plan.ballots(), &run) {
         return false;
@@ -204,7 +204,7 @@ fn is_new_run(plan: &CountedPlan, run: Run) -> bool
 /// How many rows of table R there are with one more run, over all races and instances.
 fn count_rows_with(plan: &CountedPlan, run: Run) -> u64
     requires small { IsSmall plan.now }
-    requires few { ballots_of plan.now + run.count ≤ 20000 }
+    requires few { ballots_of plan.now + run.count ≤ most_ballots }
     ensures { result ≡ r_rows (with_run plan.now run.style run.count) }
 {
     u64::from(plan.instances()) * count_entries_with(plan, run)
@@ -213,7 +213,7 @@ fn count_rows_with(plan: &CountedPlan, run: Run) -> u64
 /// How many entries all races have with one more run.
 fn count_entries_with(plan: &CountedPlan, run: Run) -> u64
     requires small { IsSmall plan.now }
-    requires few { ballots_of plan.now + run.count ≤ 20000 }
+    requires few { ballots_of plan.now + run.count ≤ most_ballots }
     ensures { result ≡ all_entries (with_run plan.now run.style run.count) }
 {
     let mut entries = 0;
@@ -403,105 +403,5 @@ fn add_behind_style(alloc: Global, plan: &mut Plan, line: &Line) -> Result<Head,
             Ok(Head::Styles)
         }
         _ => unreachable!(),
-    }
-}
-
-#[cfg(test)]
-mod tests {
-    use super::*;
-    use std::process::Abort;
-    use std::test::Fail;
-
-    /// The lines of a plan with two races and two styles.
-    fn plan_lines() -> [Line<'static>; 14] {
-        [
-            Line::Version(1),
-            Line::Election(b"E"),
-            Line::Instances(16),
-            Line::Race {
-                name: b"Mayor",
-                candidates: 2,
-                votes: 1,
-            },
-            Line::Cand(b"Ada"),
-            Line::Cand(b"Ben"),
-            Line::Race {
-                name: b"Council",
-                candidates: 3,
-                votes: 2,
-            },
-            Line::Cand(b"Cem"),
-            Line::Cand(b"Dua"),
-            Line::Cand(b"Eve"),
-            Line::Style {
-                name: b"City",
-                races: numbers(0, 1),
-                count: 2,
-            },
-            Line::Style {
-                name: b"Shire",
-                races: numbers(1, 0),
-                count: 1,
-            },
-            Line::Ballots { style: 1, count: 2 },
-            Line::Ballots { style: 0, count: 3 },
-        ]
-    }
-
-    #[test]
-    #[tactic(auto, using(crate::proofs::Making::made_so_far))]
-    fn each_line_is_added(rt: HostRuntime) -> Result<(), Fail> {
-        let alloc = rt.alloc();
-        let mut plan = CountedPlan::new(alloc);
-        let mut head = Head::Version;
-        for line in &plan_lines() {
-            assert!(rt; may_stand_in_head(&plan, head, line), "{line:?}");
-            head = plan.add(alloc, head, line)?;
-        }
-        assert_eq!(rt; head, Head::Runs);
-        are_counted(&rt, &plan);
-        are_added(&rt, plan.plan());
-        Ok(())
-    }
-
-    /// The first two of a style's numbers.
-    fn numbers(first: u32, second: u32) -> [u32; MOST_RACES] {
-        let mut numbers = [0; MOST_RACES];
-        numbers[0] = first;
-        numbers[1] = second;
-        numbers
-    }
-
-    /// The two runs are counted.
-    fn are_counted(rt: &impl Abort, plan: &CountedPlan) {
-        assert_eq!(rt; plan.ballots(), 5);
-        assert_eq!(rt; plan.style_of(2), Some(1));
-        assert_eq!(rt; plan.style_of(3), Some(0));
-        assert_eq!(rt; plan.style_of(6), None);
-        assert!(rt; !plan.has(2, 0));
-        assert!(rt; plan.has(3, 0));
-    }
-
-    /// What the lines say stands in the plan.
-    fn are_added(rt: &impl Abort, plan: &Plan) {
-        assert_eq!(rt; plan.version, 1);
-        assert_eq!(rt; plan.name.bytes(), b"E".as_slice());
-        assert_eq!(rt; plan.instances, 16);
-        let [_, council] = plan.races.as_slice() else {
-            panic!(rt; "there are two races");
-        };
-        let [_, _, eve] = council.candidates.as_slice() else {
-            panic!(rt; "there are three candidates");
-        };
-        assert_eq!(rt; eve.bytes(), b"Eve".as_slice());
-        let [city, shire] = plan.styles.as_slice() else {
-            panic!(rt; "there are two styles");
-        };
-        assert_eq!(rt; city.races.as_slice(), [0, 1].as_slice());
-        assert_eq!(rt; shire.races.as_slice(), [1].as_slice());
-        assert_eq!(rt;
-            plan.runs.as_slice(),
-            [Run { style: 1, count: 2 }, Run { style: 0, count: 3 }].as_slice()
-        );
     }
 }

@@ -4,7 +4,7 @@ use Rattle.std.specs.Option.{option_map, option_map_or, unwrap_or}
 use Rattle.std.specs.Prelude.{ℕ, ◌==◌, nat_lt, nat_le, if◌then◌else◌, Bool, true, false, ◌&&◌, not, List, [], ◌∷◌, length, bytes_eq, slice_get, Option, Some, None, is_none}
 use Rattle.sg_plan.specs.Ballots.{ballot_has, ballot_row, ballots_of, candidates_of, races_of_ballot}
 use Rattle.sg_plan.specs.Fates.{has_mark}
-use Rattle.sg_plan.specs.Limits.{first_bad}
+use Rattle.sg_plan.specs.Limits.{first_bad, most_claims, most_public_bytes}
 use Rattle.sg_plan.specs.declared.plan.Draw.{Draw}
 use Rattle.sg_plan.specs.declared.plan.Draw.TheVariants as draw
 use Rattle.sg_plan.specs.declared.plan.Fate.{Fate}
@@ -93,7 +93,7 @@ fits_races plan (race ∷ races) (list ∷ paper) = length list == candidates_of
 -- the draw is full, or has 1 to 4,096 public bytes
 abbrev pub fits_draw : Draw → Bool
 fits_draw draw.Full = true
-fits_draw (draw.Public bytes) = nat_le 1 (length bytes) && nat_le (length bytes) 4096
+fits_draw (draw.Public bytes) = nat_le 1 (length bytes) && nat_le (length bytes) most_public_bytes
 
 -- of an act on a ballot that should have no fate yet
 abbrev pub early_refusal : Plan → Phase → FateWord → ℕ → Option Reply
@@ -145,7 +145,7 @@ claim_refusal plan now kept ballot race = first_of (
     unless (is_drawn now) (reply.Phase now)
     ∷ unless (is_ballot plan ballot) reply.Ballot
     ∷ unless (ballot_has plan ballot race) (reply.Race 0)
-    ∷ unless (nat_lt kept 10000) reply.Full
+    ∷ unless (nat_lt kept most_claims) reply.Full
     ∷ [])
 
 -- of a station's new act

@@ -3,7 +3,7 @@
 use Rattle.std.specs.Ordering.{int_eq}
 use Rattle.std.specs.Prelude.{◌≡◌, ℕ, ◌+◌, ◌<◌, ◌^◌, ◌≤◌, pos, ◌&&◌, if◌then◌else◌, List, [], ◌∷◌, length, slice_get, Option, Some, None}
 use Rattle.sg_plan.specs.Ballots.{ballots_of}
-use Rattle.sg_plan.specs.Limits.{fault_of}
+use Rattle.sg_plan.specs.Limits.{fault_of, most_stations}
 use Rattle.sg_keeper.specs.declared.asks.Ask.{Ask}
 use Rattle.sg_keeper.specs.declared.asks.Ask.TheVariants as ask
 use Rattle.sg_keeper.specs.declared.replies.Reply.{Reply}
@@ -41,7 +41,7 @@ text_at station number (row ∷ rows) = (if int_eq row.station (pos station) && 
 pub record IsOffice (kept : Kept) : Type 0 where
   pub limits : fault_of kept.setup.plan ≡ None
   pub slots : length kept.slots ≡ ballots_of kept.setup.plan
-  pub few_stations : length kept.setup.secrets ≤ 32
+  pub few_stations : length kept.setup.secrets ≤ most_stations
   pub history : List Entry
   pub stands : StandsFor kept history
 

@@ -7,7 +7,7 @@ use Rattle.std.specs.Ordering.{int_eq}
 use Rattle.std.specs.Prelude.{ℕ, ◌+◌, ◌==◌, ◌^◌, nat_lt, nat_le, ℤ, pos, negsuc, if◌then◌else◌, Bool, true, false, ◌&&◌, not, List, [], ◌∷◌, ◌++◌, length, map, count_by, bytes_eq, codes, Option, Some, None, is_none}
 use Rattle.sg_plan.specs.Ballots.{ballot_has}
 use Rattle.sg_plan.specs.Codes.{codes_of}
-use Rattle.sg_plan.specs.Limits.{first_bad}
+use Rattle.sg_plan.specs.Limits.{first_bad, most_claims}
 use Rattle.sg_plan.specs.declared.plan.Plan.{Plan}
 use Rattle.sg_lines.specs.Words.{decimal}
 use Rattle.sg_keeper.specs.Rows.{ballot_before, done_before, void_before}
@@ -105,7 +105,7 @@ stage_keeps plan read earlier row =
 -- the row has the next number, there was a draw, and the claim fits
 abbrev pub claim_keeps : Plan → Bool → List ClaimRow → ClaimRow → Bool
 claim_keeps plan drawn earlier row =
-    (int_eq row.claim (pos (length earlier + 1)) && nat_lt (length earlier) 10000)
+    (int_eq row.claim (pos (length earlier + 1)) && nat_lt (length earlier) most_claims)
     && (drawn && option_map_or (fits plan) (claim_act row) false)
 
 -- DONE ROWS

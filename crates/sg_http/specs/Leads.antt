@@ -1,6 +1,7 @@
 -- To which answer the bytes of a connection lead.
 use Rattle.std.specs.Prelude.{◌≡◌, ℕ, ◌+◌, ◌<◌, ◌≤◌, ◌==◌, ◌⊎◌, Bool, true, List, length, take, map, codes, Option, None, Some, Result, Ok, Err, if◌then◌else◌, count_by}
 use Rattle.std.specs.Str.{bytes_eq}
+use Rattle.sg_plan.specs.Limits.{longest_head, most_fields}
 use Rattle.httparse.specs.Grammar.{RequestHead, ReadsRequest, NeverHasRequest}
 use Rattle.httparse.specs.Spans.{name_and_value}
 use Rattle.sg_http.specs.declared.refusal.Refusal.{Refusal}
@@ -62,15 +63,15 @@ LeadsBehind (asks.Body n) rest is_ended lead =
 -- a head with at most 64 header lines stands at the front
 pub record HasHead (bytes : List ℕ) (head : RequestHead) (rest : List ℕ) : Type 0 where
   pub reads : ReadsRequest bytes head rest
-  pub few : length head.fields ≤ 64
+  pub few : length head.fields ≤ most_fields
 
 -- no such head does
 abbrev pub HasNoHead : List ℕ → Type 0
-HasNoHead bytes = (head : RequestHead) (rest : List ℕ) → ReadsRequest bytes head rest → 64 < length head.fields
+HasNoHead bytes = (head : RequestHead) (rest : List ℕ) → ReadsRequest bytes head rest → most_fields < length head.fields
 
 -- for want of a head: no bytes that follow make one, or the connection ended, or as many bytes came as a head may have
 abbrev pub IsHopeless : List ℕ → Bool → Type 0
-IsHopeless bytes is_ended = NeverHasRequest bytes ⊎ ((is_ended ≡ true) × (0 < length bytes)) ⊎ (length bytes ≡ 8192)
+IsHopeless bytes is_ended = NeverHasRequest bytes ⊎ ((is_ended ≡ true) × (0 < length bytes)) ⊎ (length bytes ≡ longest_head)
 
 abbrev pub RefusesHead : Refusal → List ℕ → Bool → Type 0
 RefusesHead refusal.Head bytes is_ended = HasNoHead bytes × IsHopeless bytes is_ended
@@ -91,7 +92,7 @@ LeadTo bytes is_ended lead =
 -- a head within the limits stands at the front
 pub record IsWithinLimits (bytes : List ℕ) (head : RequestHead) (rest : List ℕ) : Type 0 where
   pub has : HasHead bytes head rest
-  pub short : length bytes ≤ 8192 + length rest
+  pub short : length bytes ≤ longest_head + length rest
   pub lines : feeds bytes ≤ 66 + feeds rest
 
 -- why a connection that failed has no answer yet: it has no head, or its body is not whole
@@ -109,11 +110,11 @@ pub record IsWithinBody (taken : List ℕ) : Type 0 where
   pub count : ℕ
   pub has : HasHead taken head rest
   pub asked : asked_of head ≡ asks.Body count
-  pub short : length taken ≤ 8192 + length rest
+  pub short : length taken ≤ longest_head + length rest
   pub few : length rest ≤ count
 
 -- no more are taken than a head may have, or, where the head asks for a body, none behind that body; so never more than
 -- 73,728: a head's 8,192 and a body's 65,536
 pub record TakesFew (taken : List ℕ) : Type 0 where
   pub most : length taken ≤ 73728
-  pub only : (length taken ≤ 8192) ⊎ IsWithinBody taken
+  pub only : (length taken ≤ longest_head) ⊎ IsWithinBody taken

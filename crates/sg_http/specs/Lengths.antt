@@ -3,6 +3,7 @@ use Rattle.std.specs.Prelude.{ℕ, ◌+◌, ◌*◌, ◌-◌, Option, None, Some
 use Rattle.std.specs.List.{list_all}
 use Rattle.std.specs.Str.{bytes_eq}
 use Rattle.std.specs.Char.{to_ascii_lowercase, is_ascii_digit}
+use Rattle.sg_plan.specs.Limits.{longest_ask}
 use Rattle.sg_http.specs.declared.refusal.Refusal.{Refusal}
 use Rattle.sg_http.specs.declared.refusal.Refusal.TheVariants.{NoLength, BadLength, Size}
 
@@ -29,7 +30,7 @@ digit_of c = if is_ascii_digit c then Some (c - 48) else None
 abbrev pub numeral : List ℕ → Result ℕ Refusal
 numeral value =
     if nat_lt 0 (length value) && list_all is_ascii_digit value
-    then (if nat_le (number_from 0 value) 65536 then Ok (number_from 0 value) else Err Size)
+    then (if nat_le (number_from 0 value) longest_ask then Ok (number_from 0 value) else Err Size)
     else Err BadLength
 
 -- there must be one value

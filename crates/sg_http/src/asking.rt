@@ -3,6 +3,7 @@
 ghost use Rattle.std.specs.Prelude.{◌≡◌, ◌≤◌, All, length, map, take, codes, IfOk, IsUtf8};
 ghost use Rattle.sg_http.specs.inside.Reading.{HasFewBytes};
 ghost use Rattle.std.specs.Str.{bytes_eq};
+ghost use Rattle.sg_plan.specs.Limits.{longest_ask};
 ghost use Rattle.httparse.specs.Grammar.{RequestHead};
 ghost use Rattle.httparse.specs.Spans.{IsHeaderWithin, IsRequestWithin, IsRequestAt, header_bytes};
 ghost use Rattle.sg_http.specs.Lengths.{length_of};
@@ -53,7 +54,7 @@ fn is_verb(method: &[u8], verb: Verb) -> bool
 
 /// A body of this length.
 fn of_length(found: Result<usize, Refusal>) -> Asked
-    requires { IfOk found (λ n. n ≤ 65536) }
+    requires { IfOk found (λ n. n ≤ longest_ask) }
     ensures exact { result ≡ sized found }
     ensures most { HasFewBytes result }
 {

@@ -16,13 +16,11 @@ use sg_keeper::Keeper;
 use sg_links::Links;
 use sg_office::Office;
 use sg_plan::NoMemory;
+use sg_plan::limits::MOST_FIELDS;
 use std::alloc::Global;
 
 /// As many bytes a request has at most: those of a head and those of a body.
 const REQUEST_LIMIT: usize = 73_728;
-
-/// As many header lines a head has at most.
-const FIELD_LIMIT: usize = 64;
 
 /// Serves one connection after the other, without taking memory for what it reads.
 #[derive(Drop)]
@@ -43,7 +41,7 @@ impl Desk {
         };
         Ok(Desk {
             buf: vec![in alloc; 0; REQUEST_LIMIT]?,
-            headers: vec![in alloc; EMPTY_HEADER_SPAN; FIELD_LIMIT]?,
+            headers: vec![in alloc; EMPTY_HEADER_SPAN; MOST_FIELDS]?,
             router,
         })
     }

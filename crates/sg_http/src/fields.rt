@@ -2,14 +2,13 @@
 
 ghost use Rattle.std.specs.Prelude.{◌≡◌, ◌<◌, ◌≤◌, [], ◌∷◌, All, IfSome, MatchOption, IfOk, length, map, drop, take, Ok, Err, codes, min};
 ghost use Rattle.std.specs.Char.{to_ascii_lowercase};
+ghost use Rattle.sg_plan.specs.Limits.{longest_ask};
 ghost use Rattle.httparse.specs.Spans.{IsHeaderWithin, header_bytes, span_bytes};
 ghost use Rattle.sg_http.specs.Lengths.{is_named, values_of, digit_of, numeral, one_length, length_of};
 
 use crate::refusal::Refusal;
 use httparse::spans::{HeaderSpan, Span};
-
-/// As long is a body at most.
-const BODY_LIMIT: usize = 65_536;
+use sg_plan::limits::LONGEST_ASK;
 
 /// Whether the word is this name without regard to case.
 fn has_name(name: &[u8], word: &[u8]) -> bool
@@ -62,7 +61,7 @@ fn read_digit(byte: u8) -> Option<usize>
 /// A number of one or more digits, at most the limit of a body.
 fn read_numeral(value: &[u8]) -> Result<usize, Refusal>
     ensures exact { result ≡ numeral value.now }
-    ensures most { IfOk result (λ n. n ≤ 65536) }
+    ensures most { IfOk result (λ n. n ≤ longest_ask) }
 {
     if value.is_empty() {
         return Err(Refusal::BadLength);
@@ -72,9 +71,9 @@ fn read_numeral(value: &[u8]) -> Result<usize, Refusal>
         let Some(digit) = read_digit(*byte) else {
             return Err(Refusal::BadLength);
         };
-        number = (10 * number + digit).min(BODY_LIMIT + 1);
+        number = (10 * number + digit).min(LONGEST_ASK + 1);
     }
-    if number > BODY_LIMIT {
+    if number > LONGEST_ASK {
         return Err(Refusal::Size);
     }
     Ok(number)
@@ -84,7 +83,7 @@ fn read_numeral(value: &[u8]) -> Result<usize, Refusal>
 pub fn body_length(buf: &[u8], headers: &[HeaderSpan]) -> Result<usize, Refusal>
     requires within { All (IsHeaderWithin (length buf.now)) headers.now }
     ensures exact { result ≡ length_of (map (header_bytes buf.now) headers.now) }
-    ensures most { IfOk result (λ n. n ≤ 65536) }
+    ensures most { IfOk result (λ n. n ≤ longest_ask) }
 {
     if find_line(buf, headers, b"transfer-encoding", 0).is_some() {
         return Err(Refusal::NoLength);

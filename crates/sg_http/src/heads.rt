@@ -1,6 +1,7 @@
 //! The head of a request is read.
 
 ghost use Rattle.std.specs.Prelude.{◌≡◌, ◌≢◌, Some, ◌+◌, ◌<◌, ◌≤◌, ◌⊎◌, ◌==◌, true, false, IfOk, IfSome, IfNone, OnErr, IsTrue, [], length, take, slice_range, count_by};
+ghost use Rattle.sg_plan.specs.Limits.{longest_head, most_fields};
 ghost use Rattle.sg_outside.specs.Faults.{HasCause, Rose};
 ghost use Rattle.sg_http.specs.Leads.{HasNoHead, feeds};
 ghost use Rattle.sg_http.specs.declared.heads.Found.TheVariants as Found;
@@ -13,9 +14,7 @@ use httparse::spans::{HeaderSpan, RequestSpans, parse_request};
 use httparse::{Error, Status};
 use sg_links::Links;
 use sg_outside::Failed;
-
-/// As many bytes has a head at most.
-const HEAD_LIMIT: usize = 8_192;
+use sg_plan::limits::LONGEST_HEAD;
 
 /// As many line feeds has a head at most.
 const FEED_LIMIT: usize = 66;
@@ -55,7 +54,7 @@ fn is_due(brought: &[u8], end: usize, judged: usize) -> bool
 
 /// What is found in bytes at whose front no head stands, if that is settled.
 fn judge_part(bytes: &[u8], is_full: bool) -> Option<Found>
-    requires { is_full ≡ true → length bytes.now ≡ 8192 }
+    requires { is_full ≡ true → length bytes.now ≡ longest_head }
     ensures some { IfSome result (λ found. HasNoHead bytes.now → FindsHead found bytes.now [] false) }
     ensures heard { result ≢ Some Found.Failed }
     ensures none { IfNone result (is_full ≡ false) }
@@ -71,8 +70,8 @@ fn judge_part(bytes: &[u8], is_full: bool) -> Option<Found>
 
 /// What is found in bytes, if that is settled. `is_full` says that no head has more bytes.
 fn judge(bytes: &[u8], headers: &mut [HeaderSpan], is_full: bool) -> Option<Found>
-    requires room { length headers.old ≡ 64 }
-    requires full { is_full ≡ true → length bytes.now ≡ 8192 }
+    requires room { length headers.old ≡ most_fields }
+    requires full { is_full ≡ true → length bytes.now ≡ longest_head }
     ensures some { IfSome result (λ found. FindsHead found bytes.now headers.new false) }
     ensures heard { result ≢ Some Found.Failed }
     ensures none { IfNone result (HasNoHead bytes.now) }
@@ -112,10 +111,10 @@ pub fn read_more<L: Links>(
 /// Reads a connection up to the end of its head.
 pub fn read_start<L: Links>(links: &mut L, buf: &mut [u8], headers: &mut [HeaderSpan]) -> Start
     requires opened { L.is_open links.old ≡ true }
-    requires room { 8192 ≤ length buf.old }
-    requires headers { length headers.old ≡ 64 }
+    requires room { longest_head ≤ length buf.old }
+    requires headers { length headers.old ≡ most_fields }
     ensures taken { Taken (L.board links.old) (L.board links.new) (take result.end buf.new) result.is_ended }
-    ensures end { result.end ≤ 8192 }
+    ensures end { result.end ≤ longest_head }
     ensures found { FindsHead result.found (take result.end buf.new) headers.new result.is_ended }
     ensures failed { result.found ≡ Found.Failed → Rose (L.faults links.old) (L.faults links.new) }
     ensures later { L.faults links.old ≤ L.faults links.new }
@@ -125,7 +124,7 @@ pub fn read_start<L: Links>(links: &mut L, buf: &mut [u8], headers: &mut [Header
     let mut end = 0;
     let mut judged = 0;
     loop {
-        let Ok(count) = read_more(links, buf, end, HEAD_LIMIT) else {
+        let Ok(count) = read_more(links, buf, end, LONGEST_HEAD) else {
             return Start {
                 found: Found::Failed,
                 end,
@@ -141,7 +140,7 @@ pub fn read_start<L: Links>(links: &mut L, buf: &mut [u8], headers: &mut [Header
         }
         let due = is_due(&buf[end..end + count], end + count, judged);
         end += count;
-        let is_full = end == HEAD_LIMIT;
+        let is_full = end == LONGEST_HEAD;
         if due || is_full {
             if let Some(found) = judge(&buf[..end], headers, is_full) {
                 return Start {

@@ -1,6 +1,7 @@
 //! The request of a connection is read.
 
 ghost use Rattle.std.specs.Prelude.{◌≡◌, ◌≤◌, true, false, length, take, Option};
+ghost use Rattle.sg_plan.specs.Limits.{longest_head, most_fields};
 ghost use Rattle.httparse.specs.Spans.{IsRequestWithin, IsRequestOf};
 ghost use Rattle.sg_links.specs.Board.{Board, Taken};
 ghost use Rattle.sg_outside.specs.Faults.{Rose};
@@ -51,8 +52,8 @@ fn hear_behind<L: Links>(
 ) -> Heard
     requires opened { L.is_open links.old ≡ true }
     requires room { 73728 ≤ length buf.old }
-    requires end { end ≤ 8192 }
-    requires headers { length headers.now ≡ 64 }
+    requires end { end ≤ longest_head }
+    requires headers { length headers.now ≡ most_fields }
     requires routes { router.now ≡ routes }
     requires within { IsRequestWithin (take end buf.old) headers.now spans.now }
     requires of { IsRequestOf (take end buf.old) headers.now spans.now }
@@ -103,7 +104,7 @@ pub fn hear<L: Links>(
 ) -> Heard
     requires opened { L.is_open links.old ≡ true }
     requires room { 73728 ≤ length buf.old }
-    requires headers { length headers.old ≡ 64 }
+    requires headers { length headers.old ≡ most_fields }
     requires routes { router.now ≡ routes }
     ensures taken { Taken (L.board links.old) (L.board links.new) (take result.end buf.new) result.is_ended }
     ensures bounds { result.end ≤ length buf.new }
@@ -112,7 +113,7 @@ pub fn hear<L: Links>(
     ensures failed { result.way ≡ Way.Failed → Rose (L.faults links.old) (L.faults links.new) }
     ensures later { L.faults links.old ≤ L.faults links.new }
     ensures same { length buf.new ≡ length buf.old }
-    ensures headers { length headers.new ≡ 64 }
+    ensures headers { length headers.new ≡ most_fields }
     ensures opened { L.is_open links.new ≡ true }
 {
     let start = read_start(links, buf, headers);

@@ -1,6 +1,7 @@
 //! A connection is served: what its request comes to is answered, and it is finished.
 
 ghost use Rattle.std.specs.Prelude.{◌≡◌, ◌≤◌, None, Some, List, IfSome, length, option_map, take, true, false};
+ghost use Rattle.sg_plan.specs.Limits.{most_fields};
 ghost use Rattle.sg_outside.specs.Faults.{Rose};
 ghost use Rattle.sg_talk.specs.Answers.{IsWritable};
 ghost use Rattle.sg_histories.specs.Histories.{Entry};
@@ -196,7 +197,7 @@ pub fn serve<L: Links, K: Keeper>(
 ) -> Served
     requires opened { L.is_open links.old ≡ true }
     requires room { 73728 ≤ length buf.old }
-    requires headers { length headers.old ≡ 64 }
+    requires headers { length headers.old ≡ most_fields }
     requires routes { router.now ≡ three_routes }
     ensures serves { (history : List Entry) → StandsFor office.old history
         → Serves result office.old.setup office.new history (K.tells keeper.old) (K.rows keeper.old) (K.rows keeper.new)
@@ -209,7 +210,7 @@ pub fn serve<L: Links, K: Keeper>(
     ensures setup { office.new.setup ≡ office.old.setup }
     ensures keeper_later { K.faults keeper.old ≤ K.faults keeper.new }
     ensures same { length buf.new ≡ length buf.old }
-    ensures headers { length headers.new ≡ 64 }
+    ensures headers { length headers.new ≡ most_fields }
 {
     let heard = hear(links, buf, headers, router);
     let served = respond(alloc, links, keeper, office, heard, buf);

@@ -12,8 +12,7 @@ use Rattle.sg_plan.specs.declared.plan.Plan.{Plan}
 use Rattle.sg_plan.specs.Limits.{fault_of}
 use Rattle.sg_forms.specs.Reading.{all_by, is_few}
 use Rattle.sg_grammar.proofs.Claims.{option_and_then-some}
-use Rattle.sg_grammar.specs.Head.{made}
-use Rattle.sg_grammar.specs.Made.{has_runs}
+use Rattle.sg_grammar.specs.Head.{has_runs, made}
 use Rattle.sg_grammar.specs.declared.state.Head.TheVariants as head
 use Rattle.sg_record.proofs.TextLaw.{spelled_lines}
 use Rattle.sg_record.specs.Lines.{plan_lines}

@@ -1,5 +1,5 @@
 -- The rows that an office keeps, in six lists, and what the setup and an accepted act add to them.
-use Rattle.std.specs.Prelude.{◌≡◌, ℕ, ◌<◌, ◌≤◌, int_lt, if◌then◌else◌, Bool, true, ◌&&◌, ◌||◌, not, List, [], ◌∷◌, None, Some, Result, Err, All}
+use Rattle.std.specs.Prelude.{◌≡◌, ℕ, ◌<◌, ◌≤◌, int_lt, if◌then◌else◌, Bool, true, ◌&&◌, ◌||◌, not, List, [], ◌∷◌, None, Some, Result, Err, OnOk, All}
 use Rattle.std.specs.List.{list_any}
 use Rattle.std.specs.Ordering.{int_eq}
 use Rattle.sg_outside.specs.Faults.{Rose}
@@ -120,7 +120,9 @@ IsAsciiChange change = IsAsciiRow change.row × IsAscii change.done.act
 
 -- FAULTS
 
--- the count never falls, and the keeper fails only where it rose
+-- the count never falls; the keeper fails only where it rose, and where it did its work or wanted memory the count is as it was
 pub record HasFaultCause {T : Type 0} (before now : ℕ) (result : Result T KeepFault) : Type 0 where
   pub later : before ≤ now
   pub failed : result ≡ Err fault.Failed → Rose before now
+  pub memory : result ≡ Err fault.NoMemory → now ≡ before
+  pub done : OnOk result (now ≡ before)

@@ -3,12 +3,12 @@
 use Rattle.std.specs.Prelude.{ℕ, ◌==◌, if◌then◌else◌, List, [], ◌∷◌, length, take, drop, Option, None, Some, option_and_then}
 use Rattle.std.specs.Option.{option_map_or}
 use Rattle.std.specs.Result.{result_unwrap_or}
+use Rattle.sg_plan.specs.Limits.{most_stations}
 use Rattle.sg_outside.specs.TextLines.{lines_of}
 use Rattle.sg_plan.specs.declared.plan.Plan.{Plan}
 use Rattle.sg_lines.specs.Words.{decode_of, where_spelled}
 use Rattle.sg_forms.specs.Reading.{all_by, is_few, line_of}
-use Rattle.sg_grammar.specs.Head.{Making, head_line, made, no_plan}
-use Rattle.sg_grammar.specs.Made.{has_runs}
+use Rattle.sg_grammar.specs.Head.{Making, has_runs, head_line, made, no_plan}
 use Rattle.sg_grammar.specs.declared.state.Head.TheVariants as head
 use Rattle.sg_keeper.specs.SetupText.{secret_line, seed_line}
 use Rattle.sg_keeper.specs.declared.setup.Setup.{Setup}
@@ -47,7 +47,7 @@ secret_of line = let secret = bytes_at 7 32 line in where_spelled secret_line li
 -- THE WHOLE
 
 abbrev pub with_secrets : Plan → List ℕ → List (List ℕ) → Option Setup
-with_secrets plan seed secrets = if is_few 32 secrets then Some (record { plan = plan; seed = record { 0 = seed }; secrets = secrets }) else None
+with_secrets plan seed secrets = if is_few most_stations secrets then Some (record { plan = plan; seed = record { 0 = seed }; secrets = secrets }) else None
 
 -- the setup of a plan, whose other lines are these
 abbrev pub behind_plan : Plan → List (List ℕ) → Option Setup

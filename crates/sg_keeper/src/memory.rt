@@ -59,8 +59,7 @@ impl MemoryKeeper {
     fn count_call(&mut self) -> Result<(), KeepFault>
         ensures counted { self.new ≡ after_call self.old self.old.rows }
         ensures fails { result ≡ call_of self.old }
-        ensures later { self.old.faults ≤ self.new.faults }
-        ensures rose { OnErr result (Rose self.old.faults self.new.faults) }
+        ensures cause { HasFaultCause self.old.faults self.new.faults result }
     {
         let call = self.calls;
         self.calls = call.saturating_add(1);
@@ -89,7 +88,7 @@ impl Keeper for MemoryKeeper {
 
     ghost faults = { λ keeper. keeper.faults };
 
-    #[tactic(auto, using(crate::proofs::Causes::caused))]
+    #[tactic(auto, using(crate::proofs::Causes::caused, crate::proofs::Causes::caused_done, crate::proofs::Causes::caused_memory))]
     fn load(&mut self, alloc: Global) -> Result<Rows, KeepFault>
         ensures told { Unit {0} → Unit {0} }
         ensures same { Unit {0} → self.new.rows ≡ self.old.rows }
@@ -105,7 +104,7 @@ impl Keeper for MemoryKeeper {
         Ok(rows)
     }
 
-    #[tactic(auto, using(crate::proofs::Causes::caused))]
+    #[tactic(auto, using(crate::proofs::Causes::caused, crate::proofs::Causes::caused_done, crate::proofs::Causes::caused_memory))]
     fn begin(&mut self, setup: &Word) -> Result<(), KeepFault>
         requires ascii { IsAscii setup.now }
         ensures told { Unit {0} → Unit {0} }
@@ -125,7 +124,7 @@ impl Keeper for MemoryKeeper {
         Ok(())
     }
 
-    #[tactic(auto, using(crate::proofs::Causes::caused))]
+    #[tactic(auto, using(crate::proofs::Causes::caused, crate::proofs::Causes::caused_done, crate::proofs::Causes::caused_memory))]
     fn commit(&mut self, change: &Change) -> Result<(), KeepFault>
         requires ascii { IsAsciiChange change.now }
         ensures told { Unit {0} → Unit {0} }

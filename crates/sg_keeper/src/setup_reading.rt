@@ -1,5 +1,6 @@
 //! A setup, read from its text.
 ghost use Rattle.std.specs.Prelude.{◌≡◌, ◌∷◌, [], ◌≤◌, ◌++◌, ◌≢◌, ℕ, List, drop, length, false, if◌then◌else◌, IfOk, MatchOption, Some, None};
+ghost use Rattle.sg_plan.specs.Limits.{most_stations};
 ghost use Rattle.sg_outside.specs.TextLines.{lines_of};
 ghost use Rattle.sg_lines.specs.Words.{encode_lower};
 ghost use Rattle.sg_forms.specs.Reading.{all_by, is_few};
@@ -134,7 +135,7 @@ fn read_secrets(
 
 /// There are 1 to 32 secrets.
 fn are_few(secrets: &Items<[u8; 16]>) -> bool
-    ensures { result ≡ is_few 32 secrets.now }
+    ensures { result ≡ is_few most_stations secrets.now }
 {
     (1..=MOST_STATIONS).contains(&secrets.len())
 }

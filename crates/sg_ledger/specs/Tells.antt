@@ -2,6 +2,7 @@
 use Rattle.std.specs.Prelude.{◌≡◌, ℕ, zero, suc, ◌+◌, ◌*◌, ◌/◌, ◌%◌, ◌<◌, ◌≤◌, ◌==◌, nat_lt, if◌then◌else◌, min, Bool, true, false, ◌&&◌, List, [], ◌∷◌, ◌++◌, length, slice_get, slice_index_or, Option, Some, None, count_by}
 use Rattle.std.specs.List.{list_any}
 use Rattle.std.specs.Option.{option_map, option_map_or}
+use Rattle.sg_plan.specs.Limits.{most_candidates, most_instances}
 use Rattle.sg_check.specs.Facts.{Claim, code_commitment, left_commitment, right_commitment, is_marked, marks_ballot, audited_entries, is_audited, paper_code, is_flagged, is_set, votes_for, opens_left, opens_right, both_rows, is_full_draw, public_bytes, last_claim, shows_disputed}
 use Rattle.sg_check.specs.Verdict.{total_on}
 use Rattle.sg_check.specs.declared.judged.Total.{Total}
@@ -92,7 +93,7 @@ AtBallots plan table fact = (race ballot : ℕ) → race < length plan.races →
 
 -- where a candidate stands when 16 are left for each race
 abbrev pub candidate_place : ℕ → ℕ → ℕ
-candidate_place race candidate = 16 * race + candidate
+candidate_place race candidate = most_candidates * race + candidate
 
 -- the fact of each candidate holds of what stands at its place
 abbrev pub AtCandidates : Plan → List ℕ → (ℕ → ℕ → ℕ → Type 0) → Type 0
@@ -105,7 +106,7 @@ AtRaces plan table fact = (race : ℕ) → race < length plan.races → fact rac
 
 -- where an instance stands when 16 are left for each race
 abbrev pub instance_place : ℕ → ℕ → ℕ
-instance_place race instance = 16 * race + instance
+instance_place race instance = most_instances * race + instance
 
 -- the fact of each instance holds of what stands at its place
 abbrev pub AtInstances : Plan → List ℕ → (ℕ → ℕ → ℕ → Type 0) → Type 0
@@ -132,14 +133,14 @@ pub record IsSized (plan : Plan) (ledger : Ledger) : Type 0 where
   pub marks : length ledger.codes.marks ≡ all_entries plan
   pub flagged : length ledger.bits.flagged ≡ r_rows plan
   pub places : length ledger.bits.places ≡ all_entries plan
-  pub votes : length ledger.bits.votes ≡ 16 * length plan.races
+  pub votes : length ledger.bits.votes ≡ most_candidates * length plan.races
   pub seen_lefts : length ledger.pointers.lefts ≡ r_rows plan
   pub seen_rights : length ledger.pointers.rights ≡ r_rows plan
   pub paths : length ledger.paths ≡ all_entries plan
   pub audited : length ledger.audits.audited ≡ all_entries plan
   pub papers : length ledger.audits.papers ≡ all_entries plan
   pub audit_counts : length ledger.audits.entries ≡ length plan.races
-  pub both_counts : length ledger.audits.boths ≡ 16 * length plan.races
+  pub both_counts : length ledger.audits.boths ≡ most_instances * length plan.races
 
 pub record TellsCommitments (plan : Plan) (kept : Commitments) (lines : List Placed) : Type 0 where
   pub codes : AtEntries plan kept.codes None (λ race entry digest. digest ≡ code_commitment race entry lines)

@@ -5,7 +5,7 @@ ghost use Rattle.sg_check.specs.Verdict.{total_on};
 ghost use Rattle.sg_forms.specs.Said.{said};
 ghost use Rattle.sg_forms.specs.Spelling.{AreDigits};
 ghost use Rattle.sg_ledger.specs.inside.Reads.{code_kind, row_kind, rule_kind};
-ghost use Rattle.sg_ledger.specs.inside.Tables.{most_totals};
+ghost use Rattle.sg_grammar.specs.Left.{most_totals};
 ghost use Rattle.sg_plan.specs.Ballots.{candidates_of, entry_at, entry_place, r_rows, row_place};
 ghost use Rattle.sg_plan.specs.Limits.{fault_of};
 ghost use Rattle.sg_plan.specs.declared.plan.Plan.{Plan as PlanOf};

@@ -16,8 +16,6 @@ mod paths;
 mod pointers;
 mod sizes;
 mod tables;
-#[cfg(test)]
-mod tests;
 mod totals;
 
 pub use ledger::Ledger;

@@ -1,6 +1,6 @@
 //! Totals, in a list whose room is taken at its start.
 ghost use Rattle.std.specs.Prelude.{◌≡◌, [], ◌∷◌, ◌++◌, ◌<◌, ◌≤◌, IfOk, length, take};
-ghost use Rattle.sg_ledger.specs.inside.Tables.{most_totals};
+ghost use Rattle.sg_grammar.specs.Left.{most_totals};
 
 use sg_check::Total;
 use sg_plan::limits::{MOST_CANDIDATES, MOST_RACES};
@@ -23,7 +23,7 @@ pub struct Totals {
 impl Model for Totals {
     ghost use Rattle.std.specs.Prelude.{◌≡◌, ◌≤◌, List, length, take};
     ghost use Rattle.sg_check.specs.declared.judged.Total.{Total};
-    ghost use Rattle.sg_ledger.specs.inside.Tables.{most_totals};
+    ghost use Rattle.sg_grammar.specs.Left.{most_totals};
 
     ghost Value = { List Total };
 

@@ -11,8 +11,6 @@ mod code;
 pub mod laws;
 mod number;
 mod parts;
-#[cfg(test)]
-mod tests;
 
 pub use any_bytes::hex_bytes;
 pub use bits::is_bits;

@@ -7,8 +7,6 @@
 
 mod calls;
 mod links;
-#[cfg(test)]
-mod tests;
 
 pub use crate::calls::{Calls, Incoming};
 pub use crate::links::Links;

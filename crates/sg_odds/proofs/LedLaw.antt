@@ -14,11 +14,11 @@ use Rattle.sg_grammar.specs.Lines.{placed_of}
 use Rattle.sg_check.proofs.Bounding.{marked_is}
 use Rattle.sg_check.proofs.Counting.{count-same}
 use Rattle.sg_check.specs.Completions.{Completion, is_row_misprinted}
-use Rattle.sg_check.specs.Printings.{IsPrinting, Printing, is_posted_for, marked_code, posted_codes}
+use Rattle.sg_check.specs.Printings.{AreCodesDifferent, Printing, is_posted_for, marked_code, posted_codes}
 use Rattle.sg_odds.specs.Odds.{IsInstanceFull, LedIsPosted, is_led, led}
 use Rattle.sg_odds.proofs.Leading.{count-onto, has_half, pointer, pointer_is, pointers_once}
 
-module _ (plan : Plan) (lines : List Placed) (completion : Completion) (printing : Printing) (is_printing : IsPrinting plan printing)
+module _ (plan : Plan) (lines : List Placed) (completion : Completion) (printing : Printing) (differ : AreCodesDifferent plan printing)
     (race instance candidate : ℕ) (race_in : race < length plan.races) (candidate_in : candidate < candidates_of plan race) (full : IsInstanceFull plan completion race instance) where
   -- the code is printed beside this candidate exactly where the row leads to it
   beside : (entry column shown : ℕ) → entry < entries_of plan race → column < candidates_of plan race → printing race (entry / candidates_of plan race) column ≡ shown
@@ -29,7 +29,7 @@ module _ (plan : Plan) (lines : List Placed) (completion : Completion) (printing
     | inr other ↦
         rw (ne_eqb column candidate other)
         (sym (ne_eqb (printing race (entry / candidates_of plan race) candidate) shown
-        (λ e. is_printing.differ race (entry / candidates_of plan race) column candidate (race_in, in_row) within candidate_in other (is ∙ sym e))))
+        (λ e. differ race (entry / candidates_of plan race) column candidate (race_in, in_row) within candidate_in other (is ∙ sym e))))
   ]
     where
       in_row : entry / candidates_of plan race < rows_of plan race
@@ -73,5 +73,5 @@ module _ (plan : Plan) (lines : List Placed) (completion : Completion) (printing
         ∙ count-onto (pointer plan completion race instance full side.Left) (entries_of plan race) (is_posted_for plan lines printing race candidate) (pointers_once plan completion race instance full side.Left)
 
 pub led_is_posted : LedIsPosted
-led_is_posted lines walked walks completion full printing is_printing race instance candidate race_in instance_in candidate_in none =
-    led_posted walked.next.plan (placed_of walked.posted) completion printing is_printing race instance candidate race_in candidate_in (full.full race instance race_in instance_in) none
+led_is_posted lines walked walks completion full printing differ race instance candidate race_in instance_in candidate_in none =
+    led_posted walked.next.plan (placed_of walked.posted) completion printing differ race instance candidate race_in candidate_in (full.full race instance race_in instance_in) none

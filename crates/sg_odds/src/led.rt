@@ -8,7 +8,7 @@ ghost use Rattle.sg_odds.specs.inside.Gaps.{HasLed};
 ghost use Rattle.sg_odds.specs.inside.Values.{HasValues};
 ghost use Rattle.sg_parts.specs.Given.{completion_of};
 ghost use Rattle.sg_plan.specs.Ballots.{candidates_of};
-ghost use Rattle.sg_plan.specs.Limits.{fault_of};
+ghost use Rattle.sg_plan.specs.Limits.{fault_of, most_rows};
 ghost use Rattle.sg_record.specs.Places.{places_in};
 
 use sg_plan::{Items, NoMemory, Side};
@@ -35,7 +35,7 @@ fn pointer_of(
 /// Counts a row for its candidate, where its entry is marked.
 fn note_row(counts: &mut Items<u32>, is_marked: bool, candidate: u32)
     requires within { candidate < length counts.old }
-    requires few { (at count : ℕ) → slice_get counts.old at ≡ Some count → count ≤ 200000 }
+    requires few { (at count : ℕ) → slice_get counts.old at ≡ Some count → count ≤ most_rows }
     ensures long { length counts.new ≡ length counts.old }
     ensures puts { (at count : ℕ) → slice_get counts.old at ≡ Some count → slice_get counts.new at ≡ Some (count + (if is_marked && candidate == at then 1 else 0)) }
 {

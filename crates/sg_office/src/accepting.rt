@@ -1,5 +1,5 @@
 //! How an office answers an ask: what it accepts, it keeps, and its keeper with it.
-ghost use Rattle.std.specs.Prelude.{◌≡◌, ◌-◌, ◌<◌, ◌≤◌, ◌^◌, ◌∷◌, ◌++◌, [], List, IfOk, OnOk, OnErr, true, false, length, slice_set};
+ghost use Rattle.std.specs.Prelude.{◌≡◌, ◌≢◌, ◌-◌, ◌<◌, ◌≤◌, ◌^◌, ◌∷◌, ◌++◌, [], List, IfOk, OnOk, OnErr, true, false, length, slice_set};
 ghost use Rattle.sg_outside.specs.Faults.{Rose};
 ghost use Rattle.sg_plan.specs.Ballots.{ballots_of};
 ghost use Rattle.sg_keeper.specs.Rows.{HasFaultCause, IsAscii, IsAsciiChange, IsNewChange, done_is, is_new, with_change};
@@ -189,6 +189,7 @@ impl Office {
         ensures left { K.tells keeper.old → is_done result ≡ false → K.rows keeper.new ≡ K.rows keeper.old }
         ensures later { K.faults keeper.old ≤ K.faults keeper.new }
         ensures cause { result ≡ Reply.Store → Rose (K.faults keeper.old) (K.faults keeper.new) }
+        ensures unfailed { result ≢ Reply.Store → K.faults keeper.new ≡ K.faults keeper.old }
     {
         self.office_law();
         let Ok(body) = self.body(alloc, act) else {
@@ -215,6 +216,7 @@ impl Office {
         ensures left { K.tells keeper.old → is_done result ≡ false → K.rows keeper.new ≡ K.rows keeper.old }
         ensures later { K.faults keeper.old ≤ K.faults keeper.new }
         ensures cause { result ≡ Reply.Store → Rose (K.faults keeper.old) (K.faults keeper.new) }
+        ensures unfailed { result ≢ Reply.Store → K.faults keeper.new ≡ K.faults keeper.old }
     {
         self.office_law();
         let Ok(text) = self.text(alloc, act) else {
@@ -254,6 +256,7 @@ impl Office {
         ensures left { K.tells keeper.old → is_done result ≡ false → K.rows keeper.new ≡ K.rows keeper.old }
         ensures later { K.faults keeper.old ≤ K.faults keeper.new }
         ensures cause { result ≡ Reply.Store → Rose (K.faults keeper.old) (K.faults keeper.new) }
+        ensures unfailed { result ≢ Reply.Store → K.faults keeper.new ≡ K.faults keeper.old }
     {
         self.office_law();
         match ask {

@@ -3,7 +3,7 @@ ghost use Rattle.std.specs.Prelude.{◌≡◌, ◌++◌, ◌+◌, ◌&&◌, pos,
 ghost use Rattle.std.specs.Ordering.{int_eq};
 ghost use Rattle.std.specs.List.{filter_map, list_all};
 ghost use Rattle.std.specs.Str.{is_utf8};
-ghost use Rattle.sg_plan.specs.Limits.{first_bad};
+ghost use Rattle.sg_plan.specs.Limits.{first_bad, most_claims};
 ghost use Rattle.sg_forms.specs.Spelling.{IsCode};
 ghost use Rattle.sg_desks.specs.ActTexts.{act_text as act_text_of};
 ghost use Rattle.sg_keeper.specs.declared.asks.Act.TheVariants as act;
@@ -16,11 +16,9 @@ use crate::numbers::{ballot_number, small};
 use sg_desks::act_text;
 use sg_histories::Claim;
 use sg_keeper::{Act, ClaimRow};
+use sg_plan::limits::MOST_CLAIMS;
 use sg_plan::{BallotIndex, Items, NoMemory, Word, codes_of};
 use std::alloc::Global;
-
-/// The most claims.
-const MOST_CLAIMS: usize = 10_000;
 
 /// The claim, where its ballot has the race and the code is one of the version.
 fn fit_claim(index: &BallotIndex, version: u32, ballot: u32, race: u32, code: u32) -> Option<Claim>
@@ -60,7 +58,7 @@ fn row_claim(index: &BallotIndex, row: &ClaimRow) -> Option<Claim>
 
 /// The row has the number of the claim at this place.
 fn is_next(at: usize, row: &ClaimRow) -> bool
-    ensures { result ≡ (int_eq row.now.claim (pos (at + 1)) && nat_lt at 10000) }
+    ensures { result ≡ (int_eq row.now.claim (pos (at + 1)) && nat_lt at most_claims) }
 {
     if at >= MOST_CLAIMS {
         return false;

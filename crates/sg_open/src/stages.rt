@@ -13,6 +13,7 @@ use crate::fault::{OpenFault, bad_row};
 use crate::texts::{close_text, draw_text};
 use sg_desks::act_of;
 use sg_keeper::{Act, StageRow};
+use sg_plan::limits::MOST_PUBLIC_BYTES;
 use sg_plan::{Draw, Items, NoMemory, Plan, Stage, Word};
 use std::alloc::Global;
 
@@ -35,7 +36,7 @@ fn fit_draw(drawn: Draw) -> Option<Draw>
             if bytes.len() < 1 {
                 return None;
             }
-            if bytes.len() > 4096 {
+            if bytes.len() > MOST_PUBLIC_BYTES {
                 return None;
             }
             Some(Draw::Public(bytes))

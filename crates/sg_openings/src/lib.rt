@@ -2,8 +2,6 @@
 #![tactic(auto)]
 
 mod counts;
-#[cfg(test)]
-mod tests;
 mod writing;
 
 pub use writing::put_openings;

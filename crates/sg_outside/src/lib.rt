@@ -9,8 +9,6 @@ mod cutter;
 mod faults;
 mod memory;
 mod streams;
-#[cfg(test)]
-mod tests;
 
 pub use crate::cutter::{Got, Lines, line_end};
 pub use crate::faults::{Failed, NoMemory};

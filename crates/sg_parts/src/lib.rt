@@ -13,6 +13,3 @@ pub use checks::posted_half;
 pub use looks::{item_at, row_at};
 pub use parts::{Completion, Parts, Printing, RecountFault, RowGiven};
 pub use read::read_parts;
-
-#[cfg(test)]
-mod tests;

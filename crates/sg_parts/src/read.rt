@@ -7,7 +7,7 @@ ghost use Rattle.sg_parts.specs.Given.{AreOpenings, ArePrinted, IsAccepted, IsGi
 ghost use Rattle.sg_parts.specs.declared.parts.RecountFault.TheVariants.{Completion as OffCompletion};
 ghost use Rattle.sg_parts.specs.inside.Reading.{AreRight, Begins, HasCompletion, HasPrinting, IsCompletionFault, IsPrintingFault, IsRecordFault, IsRecordRead, IsRest, IsRestFault, IsRowsFault, IsStandFault, completion_fault, row_fault};
 ghost use Rattle.sg_parts.specs.inside.Rows.{fault_at};
-ghost use Rattle.sg_plan.specs.Limits.{fault_of};
+ghost use Rattle.sg_plan.specs.Limits.{fault_of, most_rows};
 ghost use Rattle.sg_record.specs.Formed.{has_rows};
 ghost use Rattle.sg_record.specs.Places.{places_in};
 
@@ -100,7 +100,7 @@ fn end_completion(
     rows: Items<Items<Items<RowGiven>>>,
     count: usize,
 ) -> Result<Items<Items<Items<RowGiven>>>, RecountFault>
-    requires count { count ≤ 200000 }
+    requires count { count ≤ most_rows }
     requires few { before ≤ 2000000 }
     ensures ok { IfOk result (λ out. (out ≡ rows) × (length bytes.now ≤ end)) }
     ensures err { IfErr result (λ fault. (end < length bytes.now) × (fault ≡ OffCompletion (before + count + 2))) }
@@ -142,7 +142,7 @@ fn read_completion(
 /// The fault, where so many lines stand before the completion.
 fn completion_fault(before: u32, fault: RowsFault) -> RecountFault
     requires few { before ≤ 2000000 }
-    requires off { fault_at fault ≤ 200000 }
+    requires off { fault_at fault ≤ most_rows }
     ensures { result ≡ completion_fault before fault }
 {
     match fault {

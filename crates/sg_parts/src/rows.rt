@@ -7,7 +7,7 @@ ghost use Rattle.sg_parts.specs.inside.Rows.{HasInstances, HasRaces, HasRows, St
 ghost use Rattle.sg_forms.specs.Spelling.{IsRow};
 ghost use Rattle.sg_forms.specs.declared.line.RowOpening.{RowOpening as OpeningSeen};
 ghost use Rattle.sg_plan.specs.Ballots.{r_rows};
-ghost use Rattle.sg_plan.specs.Limits.{fault_of};
+ghost use Rattle.sg_plan.specs.Limits.{fault_of, most_rows};
 
 use crate::cutting::is_same;
 use crate::parts::RowGiven;
@@ -135,7 +135,7 @@ fn read_instances(
 ) -> Result<(Items<Items<RowGiven>>, usize), RowsFault>
     requires start { start ≤ length bytes.now }
     requires few { instances ≤ 16 }
-    requires rows { count ≤ 200000 }
+    requires rows { count ≤ most_rows }
     ensures ok { IfOk result (λ read. HasInstances instances count bytes.now (lines_of (drop start bytes.now)) read.0 read.1) }
     ensures err { IfErr result (Stops (instances * count) (lines_of (drop start bytes.now))) }
 {

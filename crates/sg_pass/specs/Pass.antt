@@ -1,13 +1,14 @@
 -- What a pass stands for, and what it says of the lines so far.
 use Rattle.std.specs.Prelude.{◌≡◌, ℕ, Bool, true, false, List, length, Option, Some, None, IsSome, is_none, is_some}
 use Rattle.std.specs.Option.{option_map, option_map_or}
+use Rattle.sg_grammar.specs.Head.{is_behind}
 use Rattle.sg_plan.specs.declared.plan.Plan.{Plan}
 use Rattle.sg_check.specs.Verdict.{AreFine, IsFirstBad, least_broken}
 use Rattle.sg_check.specs.declared.judged.Kind.{Kind}
 use Rattle.sg_commit.specs.declared.Sealer.{Sealer}
 use Rattle.sg_ledger.specs.declared.ledger.Ledger.{Ledger}
 use Rattle.sg_pass.specs.FirstSeal.{first_seal}
-use Rattle.sg_pass.specs.inside.Taking.{Stands, is_behind}
+use Rattle.sg_pass.specs.inside.Taking.{Stands}
 use Rattle.sg_pass.specs.declared.pass.Pass.{Pass}
 use Rattle.sg_pass.specs.declared.pass.Step.{Step}
 use Rattle.sg_pass.specs.declared.pass.Step.TheVariants.{More, Over, Ready}

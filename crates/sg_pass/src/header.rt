@@ -1,6 +1,7 @@
 //! A line of the plan, or the first behind it, taken behind lines that are fine.
 ghost use Rattle.std.specs.Prelude.{◌≡◌, ℕ, ◌<◌, is_some, List, IfOk, IsSome, OnErr, None, Some};
-ghost use Rattle.sg_pass.specs.inside.Taking.{Advances, IsNoPlanLine, Stands, StandsSome, is_behind, next_seal, opened_by, or_seal};
+ghost use Rattle.sg_grammar.specs.Head.{is_behind};
+ghost use Rattle.sg_pass.specs.inside.Taking.{Advances, IsNoPlanLine, Stands, StandsSome, next_seal, opened_by, or_seal};
 ghost use Rattle.sg_plan.specs.Limits.{fault_of};
 ghost use Rattle.sg_grammar.specs.Left.{lines_left};
 

@@ -1,10 +1,11 @@
 //! A line behind the plan, taken behind lines that are fine.
 ghost use Rattle.std.specs.Prelude.{◌≡◌, ℕ, ◌+◌, ◌<◌, ◌≤◌, true, List, [], ◌∷◌, ◌++◌, length, None, Some};
+ghost use Rattle.sg_grammar.specs.Head.{is_behind};
 ghost use Rattle.sg_check.specs.Kinds.{first_bad};
 ghost use Rattle.sg_check.specs.Verdict.{total_on};
 ghost use Rattle.sg_forms.specs.Said.{said};
 ghost use Rattle.sg_ledger.specs.Tells.{HasDigits, Tells, TellsSome, totals_kept};
-ghost use Rattle.sg_pass.specs.inside.Taking.{Advances, IsNoPlanLine, Stands, StandsSome, is_behind, next_seal, or_seal};
+ghost use Rattle.sg_pass.specs.inside.Taking.{Advances, IsNoPlanLine, Stands, StandsSome, next_seal, or_seal};
 ghost use Rattle.sg_plan.specs.Limits.{fault_of};
 ghost use Rattle.sg_grammar.specs.Left.{lines_left};
 ghost use Rattle.sg_grammar.specs.Placed.{Placed};

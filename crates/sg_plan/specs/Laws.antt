@@ -2,7 +2,7 @@
 -- (this project's rules for the record).
 use Rattle.std.specs.Prelude.{◌≡◌, ℕ, ◌/◌, ◌%◌, ◌<◌, ◌≤◌, ◌↔◌, true, length, None}
 use Rattle.sg_plan.specs.Ballots.{IsBallotOf, all_entries, ballot_has, ballot_row, ballots_of, candidates_of, entries_of, entry_at, entry_place, r_rows, row_place, rows_of, votes_of}
-use Rattle.sg_plan.specs.Limits.{KeepsLimits, fault_of}
+use Rattle.sg_plan.specs.Limits.{KeepsLimits, fault_of, most_ballots, most_rows}
 use Rattle.sg_plan.specs.declared.plan.Plan.{Plan}
 
 -- LIMITS
@@ -19,14 +19,14 @@ pub record Bounds (plan : Plan) : Type 0 where
   pub few_instances : plan.instances ≤ 16
   pub few_styles : length plan.styles ≤ 32
   pub one_ballot : 1 ≤ ballots_of plan
-  pub few_ballots : ballots_of plan ≤ 20000
+  pub few_ballots : ballots_of plan ≤ most_ballots
   pub two_candidates : (race : ℕ) → race < length plan.races → 2 ≤ candidates_of plan race
   pub few_candidates : (race : ℕ) → candidates_of plan race ≤ 16
   pub few_votes : (race : ℕ) → votes_of plan race ≤ candidates_of plan race
   pub few_rows : (race : ℕ) → rows_of plan race ≤ ballots_of plan
-  pub few_entries : (race : ℕ) → race < length plan.races → entries_of plan race ≤ 200000
-  pub few_all_entries : all_entries plan ≤ 200000
-  pub few_r_rows : r_rows plan ≤ 200000
+  pub few_entries : (race : ℕ) → race < length plan.races → entries_of plan race ≤ most_rows
+  pub few_all_entries : all_entries plan ≤ most_rows
+  pub few_r_rows : r_rows plan ≤ most_rows
 
 -- a plan without a fault keeps them
 abbrev pub BoundsAreKept : Type 0

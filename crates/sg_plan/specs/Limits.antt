@@ -12,6 +12,80 @@ use Rattle.sg_plan.specs.declared.plan.Race.{Race}
 use Rattle.sg_plan.specs.declared.plan.Run.{Run}
 use Rattle.sg_plan.specs.declared.plan.Style.{Style}
 
+-- THE LIMITS: each has its name here, as in `sg_plan::limits`, and nowhere else a value
+
+-- the most races of an election; it has one or more
+abbrev pub most_races : ℕ
+most_races = 32
+
+-- the fewest candidates of a race
+abbrev pub least_candidates : ℕ
+least_candidates = 2
+
+-- the most candidates of a race
+abbrev pub most_candidates : ℕ
+most_candidates = 16
+
+-- the most styles of paper; a plan has one or more
+abbrev pub most_styles : ℕ
+most_styles = 32
+
+-- the most ballots; a plan has one or more
+abbrev pub most_ballots : ℕ
+most_ballots = 20000
+
+-- the most instances of table R; each race has one or more
+abbrev pub most_instances : ℕ
+most_instances = 16
+
+-- the most rows of table R, over all races and instances
+abbrev pub most_rows : ℕ
+most_rows = 200000
+
+-- the longest name, in bytes; it has one or more
+abbrev pub longest_name : ℕ
+longest_name = 64
+
+-- the most stations of an office; it has one or more
+abbrev pub most_stations : ℕ
+most_stations = 32
+
+-- the most public bytes of a draw; a draw by public bytes has one or more
+abbrev pub most_public_bytes : ℕ
+most_public_bytes = 4096
+
+-- the most claims that an office takes, and so the most disputes of a record
+abbrev pub most_claims : ℕ
+most_claims = 10000
+
+-- the longest line of a record, in bytes, its line feed included
+abbrev pub longest_line : ℕ
+longest_line = 16384
+
+-- the most bits on a line of flags or places
+abbrev pub most_bits : ℕ
+most_bits = 64
+
+-- the longest election file, in bytes
+abbrev pub longest_election : ℕ
+longest_election = 1048576
+
+-- the most lines of asks that are read
+abbrev pub most_asks : ℕ
+most_asks = 100000
+
+-- the longest line of an ask, in bytes, its line feed included; and the longest body of a request
+abbrev pub longest_ask : ℕ
+longest_ask = 65536
+
+-- the longest head of a request, in bytes
+abbrev pub longest_head : ℕ
+longest_head = 8192
+
+-- the most fields of a request's head
+abbrev pub most_fields : ℕ
+most_fields = 64
+
 -- TESTS OF ITEMS
 
 -- a version of the record
@@ -20,7 +94,7 @@ is_version version = version == 1 || version == 2
 
 -- a number of instances of table R
 abbrev pub is_instance_count : ℕ → Bool
-is_instance_count instances = is_within 1 16 instances
+is_instance_count instances = is_within 1 most_instances instances
 
 -- an earlier race has the name
 abbrev pub races_have : List Race → List ℕ → Bool
@@ -33,7 +107,7 @@ styles_have earlier name = list_any (λ style. bytes_eq style.name name) earlier
 -- a race but for its candidates' names: a name that no earlier race has, 2 to 16 candidates,
 -- and 1 vote to as many as there are candidates
 abbrev pub race_head_keeps : List Race → List ℕ → ℕ → ℕ → Bool
-race_head_keeps earlier name candidates votes = (is_name_word name && not (races_have earlier name)) && (is_within 2 16 candidates && is_within 1 candidates votes)
+race_head_keeps earlier name candidates votes = (is_name_word name && not (races_have earlier name)) && (is_within least_candidates most_candidates candidates && is_within 1 candidates votes)
 
 -- a candidate of a race: a name that no earlier candidate of the race has
 abbrev pub candidate_keeps : List (List ℕ) → List ℕ → Bool
@@ -52,7 +126,7 @@ style_keeps races earlier style = (is_name_word style.name && not (styles_have e
 -- a run of a plan with so many styles: it names a style, gives it one ballot or more,
 -- and with the earlier runs it gives at most 20,000
 abbrev pub run_keeps : ℕ → List Run → Run → Bool
-run_keeps styles earlier run = nat_lt run.style styles && (nat_le 1 run.count && nat_le (length (ballot_styles earlier) + run.count) 20000)
+run_keeps styles earlier run = nat_lt run.style styles && (nat_le 1 run.count && nat_le (length (ballot_styles earlier) + run.count) most_ballots)
 
 -- TESTS OF LISTS
 
@@ -77,11 +151,11 @@ race_keeps earlier race = race_head_keeps earlier race.name (length race.candida
 
 -- one of the first 32 races, with its limits
 abbrev pub race_fits : List Race → Race → Bool
-race_fits earlier race = nat_lt (length earlier) 32 && race_keeps earlier race
+race_fits earlier race = nat_lt (length earlier) most_races && race_keeps earlier race
 
 -- one of the first 32 styles, with its limits
 abbrev pub style_fits : ℕ → List Style → Style → Bool
-style_fits races earlier style = nat_lt (length earlier) 32 && style_keeps races earlier style
+style_fits races earlier style = nat_lt (length earlier) most_styles && style_keeps races earlier style
 
 -- the first race at fault: race 32 is, where there are more than 32
 abbrev pub race_fault : List Race → Option ℕ
@@ -116,7 +190,7 @@ fault_of plan = first_of (
     ∷ option_map fault.Race (race_fault plan.races)
     ∷ option_map fault.Style (style_fault (length plan.races) plan.styles)
     ∷ option_map fault.Run (run_fault (length plan.styles) plan.runs)
-    ∷ fault_unless (nat_le (r_rows plan) 200000) (fault.TooLarge (r_rows plan))
+    ∷ fault_unless (nat_le (r_rows plan) most_rows) (fault.TooLarge (r_rows plan))
     ∷ [])
 
 -- each test of a plan is passed
@@ -127,15 +201,15 @@ pub record PassesTests (plan : Plan) : Type 0 where
   pub races : race_fault plan.races ≡ None
   pub styles : style_fault (length plan.races) plan.styles ≡ None
   pub runs : run_fault (length plan.styles) plan.runs ≡ None
-  pub rows : nat_le (r_rows plan) 200000 ≡ true
+  pub rows : nat_le (r_rows plan) most_rows ≡ true
 
 -- THE SAME IN PLAIN FORM
 
 -- a race with its own limits
 pub record KeepsRace (race : Race) : Type 0 where
   pub name : IsName race.name
-  pub two_candidates : 2 ≤ length race.candidates
-  pub most_candidates : length race.candidates ≤ 16
+  pub two_candidates : least_candidates ≤ length race.candidates
+  pub most_candidates : length race.candidates ≤ most_candidates
   pub candidates : All IsName race.candidates
   pub different : AllPairs (λ a b. a ≢ b) race.candidates
   pub one_vote : 1 ≤ race.votes
@@ -158,16 +232,16 @@ pub record KeepsLimits (plan : Plan) : Type 0 where
   pub version : (plan.version ≡ 1) ⊎ (plan.version ≡ 2)
   pub name : IsName plan.name
   pub one_instance : 1 ≤ plan.instances
-  pub most_instances : plan.instances ≤ 16
+  pub most_instances : plan.instances ≤ most_instances
   pub one_race : 1 ≤ length plan.races
-  pub most_races : length plan.races ≤ 32
+  pub most_races : length plan.races ≤ most_races
   pub races : All KeepsRace plan.races
   pub race_names : AllPairs (λ a b. a.name ≢ b.name) plan.races
   pub one_style : 1 ≤ length plan.styles
-  pub most_styles : length plan.styles ≤ 32
+  pub most_styles : length plan.styles ≤ most_styles
   pub styles : All (KeepsStyle (length plan.races)) plan.styles
   pub style_names : AllPairs (λ a b. a.name ≢ b.name) plan.styles
   pub one_run : 1 ≤ length plan.runs
   pub runs : All (KeepsRun (length plan.styles)) plan.runs
-  pub most_ballots : ballots_of plan ≤ 20000
-  pub most_rows : r_rows plan ≤ 200000
+  pub most_ballots : ballots_of plan ≤ most_ballots
+  pub most_rows : r_rows plan ≤ most_rows

@@ -1,6 +1,7 @@
 //! Counts over the runs of a plan, in the time of the runs and of the races of their styles.
 ghost use Rattle.std.specs.Prelude.{◌≡◌, ◌+◌, ◌*◌, ◌<◌, ◌≤◌, ◌^◌, if◌then◌else◌, ℕ, true, false, length, take, slice_get, count_by};
 ghost use Rattle.std.specs.Option.{option_map_or};
+ghost use Rattle.sg_plan.specs.Limits.{most_ballots};
 ghost use Rattle.sg_plan.specs.Ballots.{all_entries, ballot_styles, candidates_of, entries_before, entries_of, rows_of, style_has};
 
 use crate::items::Items;
@@ -92,7 +93,7 @@ pub fn place_of_row(plan: &Plan, race: u32, row: u32) -> u32
 /// How many entries the race has.
 pub fn count_entries(plan: &Plan, race: u32) -> u32
     requires race { race < length plan.now.races }
-    requires few_ballots { length (ballot_styles plan.now.runs) ≤ 20000 }
+    requires few_ballots { length (ballot_styles plan.now.runs) ≤ most_ballots }
     requires few_candidates { candidates_of plan.now race ≤ 16 }
     ensures { result ≡ entries_of plan.now race }
 {
@@ -102,7 +103,7 @@ pub fn count_entries(plan: &Plan, race: u32) -> u32
 /// How many entries all races have.
 pub fn count_all_entries(plan: &Plan) -> u64
     requires few_races { length plan.now.races ≤ 32 }
-    requires few_ballots { length (ballot_styles plan.now.runs) ≤ 20000 }
+    requires few_ballots { length (ballot_styles plan.now.runs) ≤ most_ballots }
     requires few_candidates { (race : ℕ) → candidates_of plan.now race ≤ 16 }
     ensures { result ≡ all_entries plan.now }
 {

@@ -2,7 +2,7 @@
 ghost use Rattle.std.specs.Prelude.{◌≡◌, ◌+◌, ◌≤◌, ◌<◌, ◌++◌, if◌then◌else◌, None, true, IfOk, OnOk, length};
 ghost use Rattle.std.specs.List.{range_with_len};
 ghost use Rattle.sg_plan.specs.Ballots.{ballot_styles, style_has};
-ghost use Rattle.sg_plan.specs.Limits.{fault_of};
+ghost use Rattle.sg_plan.specs.Limits.{fault_of, most_ballots};
 ghost use Rattle.sg_plan.specs.inside.Index.{ballots_to, ballots_with, counts_before, counts_to, firsts_to};
 ghost use Rattle.sg_plan.specs.Runs.{run_numbers};
 
@@ -15,8 +15,8 @@ use std::alloc::Global;
 
 /// Of each ballot, the number of its run.
 pub fn number_runs(alloc: Global, runs: &Items<Run>) -> Result<RunNumbers, NoMemory>
-    requires runs { length runs.now ≤ 20000 }
-    requires ballots { length (ballot_styles runs.now) ≤ 20000 }
+    requires runs { length runs.now ≤ most_ballots }
+    requires ballots { length (ballot_styles runs.now) ≤ most_ballots }
     ensures { IfOk result (λ numbers. numbers ≡ run_numbers 0 runs.now) }
 {
     let mut numbers = RunNumbers::with_room(alloc, count_ballots(runs) as usize)?;
@@ -28,7 +28,7 @@ pub fn number_runs(alloc: Global, runs: &Items<Run>) -> Result<RunNumbers, NoMem
 
 /// Of each run, how many ballots come before it.
 pub fn count_starts(alloc: Global, runs: &Items<Run>) -> Result<Items<u16>, NoMemory>
-    requires { length (ballot_styles runs.now) ≤ 20000 }
+    requires { length (ballot_styles runs.now) ≤ most_ballots }
     ensures { IfOk result (λ starts. starts ≡ counts_before (λ style. true) 0 runs.now) }
 {
     let mut starts = Items::with_room(alloc, runs.len())?;
@@ -54,7 +54,7 @@ pub fn count_races(alloc: Global, plan: &Plan) -> Result<Items<u16>, NoMemory>
 
 /// The same of one race, behind the others.
 fn push_counts(counts: &mut Items<u16>, plan: &Plan, race: u32) -> Result<(), NoMemory>
-    requires { length (ballot_styles plan.now.runs) ≤ 20000 }
+    requires { length (ballot_styles plan.now.runs) ≤ most_ballots }
     ensures { OnOk result (counts.new ≡ counts.old ++ counts_before (style_has plan.now race) 0 plan.now.runs) }
 {
     let mut count = 0;
@@ -81,7 +81,7 @@ pub fn list_ballots(alloc: Global, plan: &Plan) -> Result<Items<u16>, NoMemory>
 
 /// The same of one race, behind the others.
 fn push_ballots(ballots: &mut Items<u16>, plan: &Plan, race: u32) -> Result<(), NoMemory>
-    requires { length (ballot_styles plan.now.runs) ≤ 20000 }
+    requires { length (ballot_styles plan.now.runs) ≤ most_ballots }
     ensures { OnOk result (ballots.new ≡ ballots.old ++ ballots_with (style_has plan.now race) 1 (ballot_styles plan.now.runs)) }
 {
     let mut first = 1;

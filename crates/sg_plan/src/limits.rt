@@ -1,7 +1,7 @@
 //! The limits of an election, and the first fault of a plan.
 ghost use Rattle.std.specs.Prelude.{◌≡◌, ℕ, ◌<◌, ◌+◌, ◌^◌, ◌≤◌, [], None, Some, MatchResult, length, nat_lt, nat_le, ◌&&◌};
 ghost use Rattle.sg_plan.specs.Ballots.{ballot_styles, candidates_of, r_rows};
-ghost use Rattle.sg_plan.specs.Limits.{candidate_keeps, each_keeps, fault_of, first_bad, race_fault, race_fits, race_head_keeps, race_keeps, races_have, rises, run_fault, run_keeps, style_fault, style_fits, style_keeps, styles_have};
+ghost use Rattle.sg_plan.specs.Limits.{candidate_keeps, each_keeps, fault_of, first_bad, most_ballots, most_candidates, most_instances, most_races, race_fault, race_fits, race_head_keeps, race_keeps, races_have, rises, run_fault, run_keeps, style_fault, style_fits, style_keeps, styles_have};
 
 use crate::ballots::count_all_entries;
 use crate::items::Items;
@@ -75,6 +75,12 @@ pub const MOST_ASKS: u32 = 100_000;
 
 /// The longest line of an ask, in bytes, its line feed included; and the longest body of a request.
 pub const LONGEST_ASK: usize = 65_536;
+
+/// The longest head of a request, in bytes.
+pub const LONGEST_HEAD: usize = 8_192;
+
+/// The most fields of a request's head.
+pub const MOST_FIELDS: usize = 64;
 
 /// All candidates' names are names, and no two are the same.
 fn are_candidates(names: &Items<Word>) -> bool
@@ -233,8 +239,8 @@ fn bad_style(races: usize, styles: &Items<Style>) -> Option<u32>
 
 /// The run keeps its limits, in a plan of so many styles whose earlier runs give so many ballots.
 pub fn is_run(styles: usize, ballots: u32, run: &Run) -> bool
-    requires { ballots ≤ 20000 }
-    ensures { result ≡ (nat_lt run.now.style styles && (nat_le 1 run.now.count && nat_le (ballots + run.now.count) 20000)) }
+    requires { ballots ≤ most_ballots }
+    ensures { result ≡ (nat_lt run.now.style styles && (nat_le 1 run.now.count && nat_le (ballots + run.now.count) most_ballots)) }
 {
     if run.style as usize >= styles {
         return false;
@@ -271,10 +277,10 @@ fn bad_run(styles: usize, runs: &Items<Run>) -> Option<u32>
 
 /// How many rows of table R all races have in all instances.
 fn count_table_rows(plan: &Plan) -> u64
-    requires few_instances { plan.now.instances ≤ 16 }
-    requires few_races { length plan.now.races ≤ 32 }
-    requires few_ballots { length (ballot_styles plan.now.runs) ≤ 20000 }
-    requires few_candidates { (race : ℕ) → candidates_of plan.now race ≤ 16 }
+    requires few_instances { plan.now.instances ≤ most_instances }
+    requires few_races { length plan.now.races ≤ most_races }
+    requires few_ballots { length (ballot_styles plan.now.runs) ≤ most_ballots }
+    requires few_candidates { (race : ℕ) → candidates_of plan.now race ≤ most_candidates }
     ensures { result ≡ r_rows plan.now }
 {
     u64::from(plan.instances) * count_all_entries(plan)

@@ -4,13 +4,12 @@ use Rattle.std.proofs.lemmas.Bool.{and_from, and_parts, eq-eqb, le-leb, leb-true
 use Rattle.std.proofs.lemmas.List.{length-map}
 use Rattle.std.specs.List.{list_all, range_with_len}
 use Rattle.sg_plan.specs.Ballots.{candidates_of, entries_of}
-use Rattle.sg_plan.specs.Limits.{fault_of}
+use Rattle.sg_plan.specs.Limits.{fault_of, most_claims}
 use Rattle.sg_plan.specs.declared.plan.Draw.{Draw}
 use Rattle.sg_plan.specs.declared.plan.Plan.{Plan}
 use Rattle.sg_plan.specs.declared.plan.Stage.TheVariants as stage
 use Rattle.sg_streams.specs.Numbers.{numbers_below}
 use Rattle.sg_tables.proofs.Lists.{length-map_below}
-use Rattle.sg_grammar.specs.Walk.{most_disputes}
 use Rattle.sg_record.specs.Formed.{each_passes, has_candidates, has_entries, has_rows, is_draw, is_formed}
 use Rattle.sg_post.specs.Fits.{claim_fits, fates_fit, stage_fits}
 use Rattle.sg_post.specs.Marks.{flag_of, is_set, total_of}
@@ -65,8 +64,8 @@ pub posted-formed : (plan : Plan) (seed : List ℕ) (fates : List Told) (draw : 
     → stage_fits (stage.Drawn draw) claims ≡ true → list_all (claim_fits plan) claims ≡ true → is_formed (posted_record plan seed fates draw claims) ≡ true
 unfolding is_formed
 posted-formed plan seed fates draw claims fine fit fits claimed =
-    let parts = and_parts (is_draw draw) (nat_le (length claims) most_disputes) fits in
-    let few = leb-true (length claims) most_disputes parts.1 in
+    let parts = and_parts (is_draw draw) (nat_le (length claims) most_claims) fits in
+    let few = leb-true (length claims) most_claims parts.1 in
     let many : length (map (dispute_of plan seed) claims) ≡ length claims = length-map claims (dispute_of plan seed) in
     rw (
       fine,
@@ -78,6 +77,6 @@ posted-formed plan seed fates draw claims fine fit fits claimed =
       candidates-are plan (total_of plan seed fates),
       parts.0,
       rows-are plan (opened_row plan seed fates draw),
-      le-leb (length (map (dispute_of plan seed) claims)) most_disputes (omega (arith, many, few)),
+      le-leb (length (map (dispute_of plan seed) claims)) most_claims (omega (arith, many, few)),
       claims-disputes plan seed claims fine claimed,
     ) refl

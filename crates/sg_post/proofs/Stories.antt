@@ -2,11 +2,11 @@
 use Rattle.std.proofs.Common.{◌≡◌, nat_le, true, ◌&&◌, length, ap, ◌∙◌, sym}
 use Rattle.std.proofs.lemmas.Bool.{and_parts}
 use Rattle.std.specs.List.{list_all}
+use Rattle.sg_plan.specs.Limits.{most_claims}
 use Rattle.sg_plan.specs.declared.plan.Draw.{Draw}
 use Rattle.sg_plan.specs.declared.plan.Plan.{Plan}
 use Rattle.sg_plan.specs.declared.plan.Stage.{Stage}
 use Rattle.sg_plan.specs.declared.plan.Stage.TheVariants as stage
-use Rattle.sg_grammar.specs.Walk.{most_disputes}
 use Rattle.sg_record.specs.Formed.{is_draw}
 use Rattle.sg_post.specs.Fits.{claim_fits, fates_fit, stage_fits, story_fits}
 use Rattle.sg_post.specs.declared.story.Story.{Story}
@@ -26,4 +26,4 @@ story-parts plan story fit =
 pub story-draw : (plan : Plan) (story : Story) (draw : Draw) → story_fits plan story ≡ true → story.stage ≡ stage.Drawn draw → is_draw draw ≡ true
 story-draw plan story draw fit is =
     let at : stage_fits (stage.Drawn draw) story.claims ≡ true = ap (λ (s : Stage). stage_fits s story.claims) (sym is) ∙ (story-parts plan story fit).stage in
-    (and_parts (is_draw draw) (nat_le (length story.claims) most_disputes) at).0
+    (and_parts (is_draw draw) (nat_le (length story.claims) most_claims) at).0

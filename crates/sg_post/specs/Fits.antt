@@ -1,13 +1,13 @@
 -- Which stories an office may post (this project's rules for the record).
 use Rattle.std.specs.Prelude.{ℕ, ◌==◌, nat_le, nat_lt, Bool, true, ◌&&◌, List, [], ◌∷◌, length}
 use Rattle.std.specs.List.{list_all}
+use Rattle.sg_plan.specs.Limits.{most_claims}
 use Rattle.sg_plan.specs.Ballots.{ballot_has}
 use Rattle.sg_plan.specs.Codes.{is_code}
 use Rattle.sg_plan.specs.Fates.{fate_fits}
 use Rattle.sg_plan.specs.declared.plan.Plan.{Plan}
 use Rattle.sg_plan.specs.declared.plan.Stage.{Stage}
 use Rattle.sg_plan.specs.declared.plan.Stage.TheVariants as stage
-use Rattle.sg_grammar.specs.Walk.{most_disputes}
 use Rattle.sg_record.specs.Formed.{is_draw}
 use Rattle.sg_post.specs.declared.story.Claimed.{Claimed}
 use Rattle.sg_post.specs.declared.story.Story.{Story}
@@ -26,7 +26,7 @@ claim_fits plan claimed = ballot_has plan claimed.ballot claimed.race && is_code
 abbrev pub stage_fits : Stage → List Claimed → Bool
 stage_fits stage.Voting claims = length claims == 0
 stage_fits stage.Closed claims = length claims == 0
-stage_fits (stage.Drawn draw) claims = is_draw draw && nat_le (length claims) most_disputes
+stage_fits (stage.Drawn draw) claims = is_draw draw && nat_le (length claims) most_claims
 
 -- the story may be posted
 abbrev pub story_fits : Plan → Story → Bool

@@ -130,7 +130,7 @@ fn put_story<O: Sink>(
 /// nothing of the record is kept but a line and the running seal.
 ///
 /// `Written`: the whole text was appended. `SinkFailed`: a front of it was appended, and the sink has counted a fault.
-/// `NoMemory`: a front of it was appended. Memory is wanted for one line alone, before the first is written.
+/// `NoMemory`: nothing was written. Memory is wanted for one line alone, before the first is written.
 #[tactic(auto, unfolding(crate::specs::Posted::posted_text))]
 pub fn write_posted<O: Sink>(
     alloc: Global,
@@ -143,6 +143,7 @@ pub fn write_posted<O: Sink>(
     requires posting { IsPosting tables.now.plan tables.now.seed story.now.fates posting.now }
     ensures ends { WriteEnds result (seen (O.written out.old) (O.faults out.old)) (seen (O.written out.new) (O.faults out.new)) (posted_text tables.now.plan tables.now.seed story.now) }
     ensures later { O.faults out.old ≤ O.faults out.new }
+    ensures quiet { result ≡ Wrote.NoMemory → out.new ≡ out.old }
 {
     let Ok(mut pen) = Pen::sealing(alloc, tables.plan().version) else {
         return Wrote::NoMemory;

@@ -6,14 +6,14 @@ use Rattle.std.proofs.lemmas.Option.{cond_some}
 use Rattle.std.specs.List.{flat_map, list_all}
 use Rattle.sg_plan.specs.Ballots.{ballot_has}
 use Rattle.sg_plan.specs.Codes.{codes_of, is_code}
-use Rattle.sg_plan.specs.Limits.{fault_of}
+use Rattle.sg_plan.specs.Limits.{fault_of, most_claims}
 use Rattle.sg_plan.specs.declared.plan.Plan.{Plan}
 use Rattle.sg_forms.specs.Said.{Said}
 use Rattle.sg_forms.specs.Said.Said.{Audited, Cast, Code, Dispute, Over, Spoiled, Voided}
 use Rattle.sg_forms.specs.declared.line.CodeLine.{CodeLine}
 use Rattle.sg_grammar.specs.Due.{audit, race_codes, results}
 use Rattle.sg_grammar.specs.Placed.Placed.{Begun, CodeAt, Disputed, OverAt}
-use Rattle.sg_grammar.specs.Walk.{Next, Taken, after_block, after_dispute, begins, behind, first_of, in_cast, in_order, is_column, is_later, is_race_left, is_whole, is_whole_at, most_disputes, take_line, took}
+use Rattle.sg_grammar.specs.Walk.{Next, Taken, after_block, after_dispute, begins, behind, first_of, in_cast, in_order, is_column, is_later, is_race_left, is_whole, is_whole_at, take_line, took}
 use Rattle.sg_grammar.specs.declared.state.Block.TheVariants as block
 use Rattle.sg_grammar.specs.declared.state.Head.TheVariants as head
 use Rattle.sg_grammar.specs.declared.state.Part.{Part}
@@ -37,7 +37,7 @@ pub record DisputesOf (plan : Plan) (count : ℕ) (lines : List Said) : Type 0 w
   pub disputes : List DisputeBlock
   pub is : lines ≡ flat_map dispute_lines disputes
   pub pass : list_all (is_dispute plan) disputes ≡ true
-  pub few : count + length disputes ≤ most_disputes
+  pub few : count + length disputes ≤ most_claims
 
 -- the results, and then disputes
 pub record ResultsOf (plan : Plan) (lines : List Said) : Type 0 where
@@ -82,7 +82,7 @@ pub record DueOf (plan : Plan) (due : List Slot) (may_begin : Part) (lines : Lis
 abbrev pub IsFew : Part → Type 0
 IsFew (part.Ballots last) = Unit {0}
 IsFew (part.Cast ballot race column) = Unit {0}
-IsFew (part.Disputes count) = count ≤ most_disputes
+IsFew (part.Disputes count) = count ≤ most_claims
 
 -- what is known of lines behind another one
 abbrev Known : Plan → List Said → Next → Type 0
@@ -232,10 +232,10 @@ add_dispute plan count one lines rest is passes others = record {
 dispute-back : (plan : Plan) (count : ℕ) (said : Said) (lines : List Said) (end : Next) (taken : Taken) → AreIn plan.version (said ∷ lines) → Known plan lines end
     → after_dispute plan count said ≡ Some taken → Goes taken.next lines end → DisputesOf plan count (said ∷ lines)
 dispute-back plan count (Dispute ballot race code word) lines end taken all known e goes =
-    let on = under (nat_lt count most_disputes && (nat_lt race (length plan.races) && ballot_has plan ballot race))
+    let on = under (nat_lt count most_claims && (nat_lt race (length plan.races) && ballot_has plan ballot race))
     (took (Disputed ballot race code word) (behind plan (race_codes plan block.Dispute ballot race) (part.Disputes (count + 1)))) taken lines end e goes in
-    let tests = and_parts (nat_lt count most_disputes) (nat_lt race (length plan.races) && ballot_has plan ballot race) on.0 in
-    let less = ltb-true count most_disputes tests.0 in
+    let tests = and_parts (nat_lt count most_claims) (nat_lt race (length plan.races) && ballot_has plan ballot race) on.0 in
+    let less = ltb-true count most_claims tests.0 in
     let rest = known (race_codes plan block.Dispute ballot race) (part.Disputes (count + 1)) (omega (arith, less)) on.1 in
     let more : DisputesOf plan (count + 1) rest.back = rest.others in
     let kept = AreIn-parts plan.version rest.front rest.back (subst (AreIn plan.version) rest.is all.1) in

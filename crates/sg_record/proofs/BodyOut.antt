@@ -4,14 +4,14 @@ use Rattle.std.proofs.lemmas.Bool.{and_parts, lt-ltb}
 use Rattle.std.proofs.lemmas.List.{append_assoc, length-append}
 use Rattle.std.specs.List.{flat_map, list_all}
 use Rattle.sg_plan.specs.Ballots.{ballot_has}
-use Rattle.sg_plan.specs.Limits.{fault_of}
+use Rattle.sg_plan.specs.Limits.{fault_of, most_claims}
 use Rattle.sg_plan.specs.declared.plan.Plan.{Plan}
 use Rattle.sg_forms.specs.Said.{Said}
 use Rattle.sg_forms.specs.Said.Said.{Ballots}
 use Rattle.sg_forms.specs.declared.line.CodeLine.{CodeLine}
 use Rattle.sg_grammar.specs.Due.{audit, commits, each, race_code_commits, race_codes, race_row_commits}
 use Rattle.sg_grammar.specs.Placed.Placed.{Begun, CodeAt, Disputed, OverAt}
-use Rattle.sg_grammar.specs.Walk.{Next, after_run, behind, body_line, is_later, most_disputes, take_line, took}
+use Rattle.sg_grammar.specs.Walk.{Next, after_run, behind, body_line, is_later, take_line, took}
 use Rattle.sg_grammar.specs.declared.state.Block.TheVariants as block
 use Rattle.sg_grammar.specs.declared.state.Head.TheVariants as head
 use Rattle.sg_grammar.specs.declared.state.Part.TheVariants as part
@@ -31,7 +31,7 @@ use Rattle.sg_record.specs.declared.record.DisputeBlock.{DisputeBlock}
 
 -- DISPUTES
 
-pub disputes-out : (plan : Plan) (count : ℕ) (disputes : List DisputeBlock) → list_all (is_dispute plan) disputes ≡ true → count + length disputes ≤ most_disputes
+pub disputes-out : (plan : Plan) (count : ℕ) (disputes : List DisputeBlock) → list_all (is_dispute plan) disputes ≡ true → count + length disputes ≤ most_claims
     → Goes (behind plan [] (part.Disputes count)) (flat_map dispute_lines disputes) (behind plan [] (part.Disputes (count + length disputes)))
 unfolding take_line
 disputes-out plan count [] pass few =
@@ -42,7 +42,7 @@ disputes-out plan count (one ∷ disputes) pass few =
     let sides = and_parts ((nat_lt one.race (length plan.races) && ballot_has plan one.ballot one.race) && is_code plan one.code)
     (are_due plan (race_codes plan block.Dispute one.ballot one.race) one.codes) parts.0 in
     let tests = and_parts (nat_lt one.race (length plan.races) && ballot_has plan one.ballot one.race) (is_code plan one.code) sides.0 in
-    let less : nat_lt count most_disputes ≡ true = lt-ltb count most_disputes (omega arith) in
+    let less : nat_lt count most_claims ≡ true = lt-ltb count most_claims (omega arith) in
     let rest = disputes-out plan (count + 1) disputes parts.1 (omega arith) in
     let sum : (count + 1) + length disputes ≡ count + length (one ∷ disputes) = omega arith in
     let end : Next = behind plan [] (part.Disputes (count + length (one ∷ disputes))) in (

@@ -3,7 +3,7 @@ use Rattle.std.proofs.Common.{◌≡◌, ℕ, ◌+◌, ◌-◌, ◌*◌, Bool, t
 use Rattle.std.proofs.lemmas.Option.{same_Some}
 use Rattle.std.proofs.lemmas.List.Elements.{All-cons, All-head, All-nil, All-tail}
 use Rattle.sg_plan.specs.Ballots.{ballot_has, r_rows}
-use Rattle.sg_plan.specs.Limits.{candidate_keeps, is_version, race_head_keeps, run_keeps, style_keeps}
+use Rattle.sg_plan.specs.Limits.{candidate_keeps, is_version, most_claims, most_instances, most_races, most_styles, race_head_keeps, run_keeps, style_keeps}
 use Rattle.sg_plan.specs.Names.{is_name_word, is_within}
 use Rattle.sg_plan.specs.declared.plan.Plan.{Plan}
 use Rattle.sg_forms.proofs.LineLaws.{lines_are_read, lines_are_spelled}
@@ -14,10 +14,10 @@ use Rattle.sg_forms.specs.Spelling.{IsInRange, spelling}
 use Rattle.sg_grammar.proofs.Claims.{if_some, if_then-claim, option_map-some}
 use Rattle.sg_grammar.proofs.FirstLines.{take_bytes-line, walk-first, walk-none}
 use Rattle.sg_grammar.specs.Due.{audit, commits, race_codes, results}
-use Rattle.sg_grammar.specs.Head.{Making, behind_candidate, head_line, last_candidates, made, most_instances, most_races, most_styles, no_plan, run_line, style_line, with_cand, with_instances, with_name, with_race, with_run, with_style, with_version}
+use Rattle.sg_grammar.specs.Head.{Making, behind_candidate, head_line, last_candidates, made, no_plan, run_line, style_line, with_cand, with_instances, with_name, with_race, with_run, with_style, with_version}
 use Rattle.sg_grammar.specs.Placed.{Placed}
 use Rattle.sg_grammar.specs.Placed.Placed.{Begun, CodeAt, CodeCommitAt, Disputed, DrawnFull, DrawnPublic, FlagsAt, OfPlan, OverAt, PaperAt, PlacesAt, RowAt, RowCommitAt, SealAt, TotalAt}
-use Rattle.sg_grammar.specs.Walk.{Next, Taken, Walked, after_block, after_dispute, after_run, behind, body_line, first_of, headed, in_cast, in_code, in_code_commit, in_draw, in_flags, in_head, in_order, in_paper, in_places, in_row, in_row_commit, in_seal, in_total, is_column, is_later, is_race_left, most_disputes, place, start, take_at, take_bytes, take_line, taking, took, walk, walked_on}
+use Rattle.sg_grammar.specs.Walk.{Next, Taken, Walked, after_block, after_dispute, after_run, behind, body_line, first_of, headed, in_cast, in_code, in_code_commit, in_draw, in_flags, in_head, in_order, in_paper, in_places, in_row, in_row_commit, in_seal, in_total, is_column, is_later, is_race_left, place, start, take_at, take_bytes, take_line, taking, took, walk, walked_on}
 use Rattle.sg_grammar.specs.declared.state.Block.{Block}
 use Rattle.sg_grammar.specs.declared.state.Block.TheVariants as block
 use Rattle.sg_grammar.specs.declared.state.Head.{Head}
@@ -137,7 +137,7 @@ in_cast-behind plan ballot race column said t e = after_block-behind plan ballot
 
 after_dispute-behind : (plan : Plan) (count : ℕ) (said : Said) (t : Taken) → after_dispute plan count said ≡ Some t → IsBehind plan t
 after_dispute-behind plan count (Dispute ballot race code word) t e =
-    if_then-claim (IsBehind plan) (nat_lt count most_disputes && (nat_lt race (length plan.races) && ballot_has plan ballot race))
+    if_then-claim (IsBehind plan) (nat_lt count most_claims && (nat_lt race (length plan.races) && ballot_has plan ballot race))
     (took (Disputed ballot race code word) (behind plan (race_codes plan block.Dispute ballot race) (part.Disputes (count + 1)))) t (λ ok. (refl, refl, tt)) e
 after_dispute-behind plan count said t e = cc
 

@@ -5,9 +5,8 @@ use Rattle.std.specs.List.{list_all}
 use Rattle.std.specs.Option.{is_none}
 use Rattle.sg_plan.proofs.PlanLaws.{bounds}
 use Rattle.sg_plan.specs.Ballots.{candidates_of, entries_of}
-use Rattle.sg_plan.specs.Limits.{fault_of}
+use Rattle.sg_plan.specs.Limits.{fault_of, most_claims}
 use Rattle.sg_plan.specs.declared.plan.Plan.{Plan}
-use Rattle.sg_grammar.specs.Walk.{most_disputes}
 use Rattle.sg_record.specs.Formed.{are_blocks, each_passes, has_candidates, has_entries, has_rows, is_dispute, is_draw, is_formed}
 use Rattle.sg_record.specs.inside.Parts.{HasRaces}
 use Rattle.sg_record.specs.declared.record.Record.{Record}
@@ -33,7 +32,7 @@ pub formed_parts : (posted : Record) → is_formed posted ≡ true → FormedLis
 unfolding is_formed
 formed_parts posted e =
     let plan = posted.plan in
-    let behind_rows = nat_le (length posted.disputes) most_disputes && list_all (is_dispute plan) posted.disputes in
+    let behind_rows = nat_le (length posted.disputes) most_claims && list_all (is_dispute plan) posted.disputes in
     let behind_draw = has_rows plan posted.rows && behind_rows in
     let behind_totals = is_draw posted.draw && behind_draw in
     let behind_places = has_candidates plan posted.totals && behind_totals in
@@ -51,7 +50,7 @@ formed_parts posted e =
     let totals = and_parts (has_candidates plan posted.totals) behind_totals places.1 in
     let draw = and_parts (is_draw posted.draw) behind_draw totals.1 in
     let rows = and_parts (has_rows plan posted.rows) behind_rows draw.1 in
-    let disputes = and_parts (nat_le (length posted.disputes) most_disputes) (list_all (is_dispute plan) posted.disputes) rows.1 in
+    let disputes = and_parts (nat_le (length posted.disputes) most_claims) (list_all (is_dispute plan) posted.disputes) rows.1 in
     record {
       plan = none_there (fault_of plan) limits.0;
       code_commits = codes.0;

@@ -5,11 +5,10 @@ use Rattle.std.specs.List.{list_all}
 use Rattle.std.specs.Option.{is_none}
 use Rattle.sg_commit.specs.declared.Digest.{Digest}
 use Rattle.sg_plan.specs.Ballots.{candidates_of, entries_of}
-use Rattle.sg_plan.specs.Limits.{fault_of}
+use Rattle.sg_plan.specs.Limits.{fault_of, most_claims}
 use Rattle.sg_plan.specs.declared.plan.Plan.{Plan}
 use Rattle.sg_forms.specs.Spelling.{IsInRange}
 use Rattle.sg_grammar.proofs.Claims.{is_none-None}
-use Rattle.sg_grammar.specs.Walk.{most_disputes}
 use Rattle.sg_record.proofs.EachItem.{Each-any, Each-from_all, Each-from_test, Each-length, all-from_Each, test-from_Each}
 use Rattle.sg_record.proofs.Filling.{Each}
 use Rattle.sg_record.proofs.SectionLines.{AreCommits, AreResults, Commits, HasPlaces, HasTotals, Results}
@@ -88,7 +87,7 @@ pub record IsFormed (posted : Record) (first second third : Digest) : Type 0 whe
   pub commits : AreCommits posted.plan (commits_of posted first)
   pub blocks : are_blocks posted.plan 0 posted.ballots ≡ true
   pub results : AreResults posted.plan.version posted.plan (results_of posted second third)
-  pub few : length posted.disputes ≤ most_disputes
+  pub few : length posted.disputes ≤ most_claims
   pub disputes : list_all (is_dispute posted.plan) posted.disputes ≡ true
 
 -- the same with its seals
@@ -119,7 +118,7 @@ form-from posted formed draw =
     let seven = and_parts _ _ six.1 in
     let eight = and_parts _ _ seven.1 in
     let nine = and_parts _ _ eight.1 in
-    let ten = and_parts (nat_le (length posted.disputes) most_disputes) (list_all (is_dispute plan) posted.disputes) nine.1 in
+    let ten = and_parts (nat_le (length posted.disputes) most_claims) (list_all (is_dispute plan) posted.disputes) nine.1 in
     let seals = three posted.seals (eqb-true (length posted.seals) 3 front.1) in
     record {
       first = seals.0;
@@ -158,7 +157,7 @@ form-from posted formed draw =
             ),
           ),
         );
-        few = leb-true (length posted.disputes) most_disputes ten.0;
+        few = leb-true (length posted.disputes) most_claims ten.0;
         disputes = ten.1;
       };
     }
@@ -186,4 +185,4 @@ form-to posted first second third is =
     (and_from (has_rows plan posted.rows) _
     (instances-to plan (λ race items. Each (λ (k : ℕ) (x : RowOpening). Any x) 0 (entries_of plan race - 0) items) posted.rows
     (λ race items all. any-to (entries_of plan race) items all) results.1.1.1.0)
-    (and_from (nat_le (length posted.disputes) most_disputes) (list_all (is_dispute plan) posted.disputes) (le-leb (length posted.disputes) most_disputes is.few) is.disputes)))))))))
+    (and_from (nat_le (length posted.disputes) most_claims) (list_all (is_dispute plan) posted.disputes) (le-leb (length posted.disputes) most_claims is.few) is.disputes)))))))))

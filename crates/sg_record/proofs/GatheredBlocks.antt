@@ -4,14 +4,14 @@ use Rattle.std.proofs.lemmas.Bool.{and_parts, eq-eqb, lt-ltb}
 use Rattle.std.proofs.lemmas.List.{append-nil, append_assoc}
 use Rattle.std.specs.List.{flat_map, list_all}
 use Rattle.sg_plan.specs.Ballots.{ballot_has, candidates_of, races_of_ballot}
-use Rattle.sg_plan.specs.Limits.{fault_of}
+use Rattle.sg_plan.specs.Limits.{fault_of, most_claims}
 use Rattle.sg_plan.specs.declared.plan.Plan.{Plan}
 use Rattle.sg_forms.specs.Said.{Said}
 use Rattle.sg_forms.specs.Said.Said.{Code}
 use Rattle.sg_forms.specs.declared.line.CodeLine.{CodeLine}
 use Rattle.sg_grammar.specs.Due.{audit, ballot_codes, code_line, each, race_codes}
 use Rattle.sg_grammar.specs.Placed.Placed.{Begun, CodeAt, Disputed, OverAt}
-use Rattle.sg_grammar.specs.Walk.{Next, behind, is_later, most_disputes, take_line, took}
+use Rattle.sg_grammar.specs.Walk.{Next, behind, is_later, take_line, took}
 use Rattle.sg_grammar.specs.declared.state.Block.TheVariants as block
 use Rattle.sg_grammar.specs.declared.state.Part.TheVariants as part
 use Rattle.sg_grammar.specs.declared.state.Slot.{Slot}
@@ -222,7 +222,7 @@ dispute_codes-put plan made one (slot.Code block.Audited ballot race column ∷ 
 dispute_codes-put plan made one (slot.Code block.Cast ballot race column ∷ due) (code ∷ codes) before are passes = cc
 dispute_codes-put plan made one (first ∷ due) (code ∷ codes) before are passes = cc
 
-pub disputes-gathers : (plan : Plan) (count : ℕ) (disputes : List DisputeBlock) (made : Record) → list_all (is_dispute plan) disputes ≡ true → count + length disputes ≤ most_disputes
+pub disputes-gathers : (plan : Plan) (count : ℕ) (disputes : List DisputeBlock) (made : Record) → list_all (is_dispute plan) disputes ≡ true → count + length disputes ≤ most_claims
     → Gathers (behind plan [] (part.Disputes count)) made (flat_map dispute_lines disputes) (behind plan [] (part.Disputes (count + length disputes)))
     (record made { disputes = made.disputes ++ disputes })
 unfolding take_line
@@ -236,7 +236,7 @@ disputes-gathers plan count (one ∷ disputes) made pass few =
     let sides = and_parts ((nat_lt one.race (length plan.races) && ballot_has plan one.ballot one.race) && is_code plan one.code)
     (are_due plan (race_codes plan block.Dispute one.ballot one.race) one.codes) parts.0 in
     let tests = and_parts (nat_lt one.race (length plan.races) && ballot_has plan one.ballot one.race) (is_code plan one.code) sides.0 in
-    let less : nat_lt count most_disputes ≡ true = lt-ltb count most_disputes (omega arith) in
+    let less : nat_lt count most_claims ≡ true = lt-ltb count most_claims (omega arith) in
     let due : List Slot = race_codes plan block.Dispute one.ballot one.race in
     let sum : (count + 1) + length disputes ≡ count + length (one ∷ disputes) = omega arith in
     let end : Next = behind plan [] (part.Disputes (count + length (one ∷ disputes))) in

@@ -4,7 +4,7 @@ use Rattle.std.proofs.lemmas.Bool.{and_parts, eq-eqb, eqb-true, lt-ltb}
 use Rattle.std.proofs.lemmas.List.{map-append}
 use Rattle.std.specs.List.{flat_map, list_all, list_any}
 use Rattle.sg_plan.specs.Ballots.{ballot_has, candidates_of, races_of_ballot}
-use Rattle.sg_plan.specs.Limits.{fault_of}
+use Rattle.sg_plan.specs.Limits.{fault_of, most_claims}
 use Rattle.sg_plan.specs.declared.plan.Plan.{Plan}
 use Rattle.sg_forms.specs.Said.{Said}
 use Rattle.sg_forms.specs.Said.Said.{Code, Over}
@@ -12,7 +12,7 @@ use Rattle.sg_forms.specs.declared.line.CodeLine.{CodeLine}
 use Rattle.sg_grammar.specs.Due.{audit, ballot_codes, code_line, each, numbered, race_codes}
 use Rattle.sg_grammar.specs.Placed.{Placed}
 use Rattle.sg_grammar.specs.Placed.Placed.{CodeAt, OfPlan, OverAt}
-use Rattle.sg_grammar.specs.Walk.{Next, behind, is_later, most_disputes, take_line}
+use Rattle.sg_grammar.specs.Walk.{Next, behind, is_later, take_line}
 use Rattle.sg_grammar.specs.declared.state.Block.{Block}
 use Rattle.sg_grammar.specs.declared.state.Block.TheVariants as block
 use Rattle.sg_grammar.specs.declared.state.Part.TheVariants as part
@@ -216,7 +216,7 @@ columns-as plan kind ballot race at (suc count) (code ∷ codes) due =
       columns-as plan kind ballot race (at + 1) count codes parts.1,
     )
 
-pub disputes-as : (plan : Plan) (count : ℕ) (disputes : List DisputeBlock) → list_all (is_dispute plan) disputes ≡ true → count + length disputes ≤ most_disputes
+pub disputes-as : (plan : Plan) (count : ℕ) (disputes : List DisputeBlock) → list_all (is_dispute plan) disputes ≡ true → count + length disputes ≤ most_claims
     → GoesAs (behind plan [] (part.Disputes count)) (flat_map dispute_lines disputes) (flat_map dispute_places disputes) (behind plan [] (part.Disputes (count + length disputes)))
 unfolding take_line
 disputes-as plan count [] pass few =
@@ -227,7 +227,7 @@ disputes-as plan count (one ∷ disputes) pass few =
     let sides = and_parts ((nat_lt one.race (length plan.races) && ballot_has plan one.ballot one.race) && is_code plan one.code)
     (are_due plan (race_codes plan block.Dispute one.ballot one.race) one.codes) parts.0 in
     let tests = and_parts (nat_lt one.race (length plan.races) && ballot_has plan one.ballot one.race) (is_code plan one.code) sides.0 in
-    let less : nat_lt count most_disputes ≡ true = lt-ltb count most_disputes (omega arith) in
+    let less : nat_lt count most_claims ≡ true = lt-ltb count most_claims (omega arith) in
     let rest = disputes-as plan (count + 1) disputes parts.1 (omega arith) in
     let sum : (count + 1) + length disputes ≡ count + length (one ∷ disputes) = omega arith in
     let end : Next = behind plan [] (part.Disputes (count + length (one ∷ disputes))) in (

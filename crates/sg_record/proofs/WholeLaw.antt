@@ -2,14 +2,14 @@
 use Rattle.std.proofs.Common.{◌≡◌, ◌≤◌, length, ℕ, true, false, List, [], ◌∷◌, ◌++◌, map, Option, Some, None, refl, sym, subst, ap, ◌∙◌, arith}
 use Rattle.std.specs.List.{flat_map, list_all}
 use Rattle.std.specs.Option.{option_map_or}
-use Rattle.sg_plan.specs.Limits.{fault_of}
+use Rattle.sg_plan.specs.Limits.{fault_of, most_claims}
 use Rattle.sg_plan.specs.declared.plan.Plan.{Plan}
 use Rattle.sg_forms.specs.Said.{Said}
 use Rattle.sg_forms.specs.Said.Said.{Version}
 use Rattle.sg_forms.specs.Spelling.{spelling}
 use Rattle.sg_grammar.proofs.Making.{runs-fault}
 use Rattle.sg_grammar.specs.Due.{commits}
-use Rattle.sg_grammar.specs.Walk.{most_disputes, Next, Walked, is_whole, start, walk}
+use Rattle.sg_grammar.specs.Walk.{Next, Walked, is_whole, start, walk}
 use Rattle.sg_grammar.specs.declared.state.Part.TheVariants as part
 use Rattle.sg_record.proofs.BodyBack.{BlocksOf, body-back}
 use Rattle.sg_record.proofs.BytesWalk.{All-from_AreIn, start-said}
@@ -52,7 +52,7 @@ record_of-lines plan c blocks r disputes =
 
 -- it is formed, where its parts are
 record_of-formed : (plan : Plan) (c : Commits) (blocks : List BallotBlock) (r : Results) (disputes : List DisputeBlock) → fault_of plan ≡ None → AreCommits plan c → are_blocks plan 0 blocks ≡ true
-    → AreResults plan.version plan r → length disputes ≤ most_disputes → list_all (is_dispute plan) disputes ≡ true → is_formed (record_of plan c blocks r disputes) ≡ true
+    → AreResults plan.version plan r → length disputes ≤ most_claims → list_all (is_dispute plan) disputes ≡ true → is_formed (record_of plan c blocks r disputes) ≡ true
 record_of-formed plan c blocks r disputes fine are_commits are_ballots are_results few are_disputes =
     form-to (record_of plan c blocks r disputes) c.1.1 r.1.0 r.1.1.1.1 (record {
       fine = fine;

@@ -4,13 +4,13 @@ use Rattle.std.specs.Prelude.{ℕ, ◌+◌, ◌==◌, nat_lt, nat_le, Bool, true
 use Rattle.std.specs.List.{list_all}
 use Rattle.sg_plan.specs.Ballots.{ballot_has, candidates_of, entries_of, races_of_ballot}
 use Rattle.sg_plan.specs.Codes.{is_code}
-use Rattle.sg_plan.specs.Limits.{fault_of}
+use Rattle.sg_plan.specs.Limits.{fault_of, most_claims, most_public_bytes}
 use Rattle.sg_plan.specs.declared.plan.Draw.{Draw}
 use Rattle.sg_plan.specs.declared.plan.Draw.TheVariants as drawn
 use Rattle.sg_plan.specs.declared.plan.Plan.{Plan}
 use Rattle.sg_forms.specs.declared.line.CodeLine.{CodeLine}
 use Rattle.sg_grammar.specs.Due.{ballot_codes, each, race_codes}
-use Rattle.sg_grammar.specs.Walk.{in_order, is_column, is_later, is_race_left, most_disputes}
+use Rattle.sg_grammar.specs.Walk.{in_order, is_column, is_later, is_race_left}
 use Rattle.sg_grammar.specs.declared.state.Block.TheVariants as block
 use Rattle.sg_grammar.specs.declared.state.Slot.{Slot}
 use Rattle.sg_grammar.specs.declared.state.Slot.TheVariants as slot
@@ -97,7 +97,7 @@ is_dispute plan one =
 -- the public bytes are 1 to 4,096
 abbrev pub is_draw : Draw → Bool
 is_draw drawn.Full = true
-is_draw (drawn.Public bytes) = nat_le 1 (length bytes) && nat_le (length bytes) 4096
+is_draw (drawn.Public bytes) = nat_le 1 (length bytes) && nat_le (length bytes) most_public_bytes
 
 -- THE WHOLE
 
@@ -113,4 +113,4 @@ is_formed posted =
     && (has_candidates posted.plan posted.totals
     && (is_draw posted.draw
     && (has_rows posted.plan posted.rows
-    && (nat_le (length posted.disputes) most_disputes && list_all (is_dispute posted.plan) posted.disputes)))))))))
+    && (nat_le (length posted.disputes) most_claims && list_all (is_dispute posted.plan) posted.disputes)))))))))

@@ -5,9 +5,9 @@ ghost use Rattle.std.specs.Prelude.{◌≡◌, ℕ, ◌==◌, ◌<◌, ◌≤◌
 ghost use Rattle.std.specs.List.{list_all, list_any};
 ghost use Rattle.std.specs.Option.{option_map_or};
 ghost use Rattle.sg_plan.specs.Ballots.{candidates_of, entries_of, races_of_ballot};
-ghost use Rattle.sg_plan.specs.Limits.{fault_of};
+ghost use Rattle.sg_plan.specs.Limits.{fault_of, most_claims};
 ghost use Rattle.sg_grammar.specs.Due.{ballot_codes, each, race_codes};
-ghost use Rattle.sg_grammar.specs.Walk.{in_order, most_disputes};
+ghost use Rattle.sg_grammar.specs.Walk.{in_order};
 ghost use Rattle.sg_grammar.specs.declared.state.Block.{Block};
 ghost use Rattle.sg_grammar.specs.declared.state.Block.TheVariants as block;
 ghost use Rattle.sg_grammar.specs.declared.state.Slot.{Slot};
@@ -337,7 +337,7 @@ fn are_all_disputes(plan: &Plan, index: &BallotIndex, disputes: &[DisputeBlock])
 /// At most 10,000 disputes, each as it should be.
 fn are_disputes(plan: &Plan, index: &BallotIndex, disputes: &Items<DisputeBlock>) -> bool
     requires { index.now ≡ plan.now }
-    ensures { result ≡ (nat_le (length disputes.now) most_disputes && list_all (is_dispute plan.now) disputes.now) }
+    ensures { result ≡ (nat_le (length disputes.now) most_claims && list_all (is_dispute plan.now) disputes.now) }
 {
     if disputes.len() > MOST_CLAIMS {
         return false;
@@ -378,7 +378,7 @@ impl Record {
 fn has_lists(posted: &Record, index: &BallotIndex) -> bool
     requires limits { fault_of posted.now.plan ≡ None }
     requires indexed { index.now ≡ posted.now.plan }
-    ensures { result ≡ (has_entries posted.now.plan posted.now.code_commits && (has_rows posted.now.plan posted.now.row_commits && (are_blocks posted.now.plan 0 posted.now.ballots && (has_rows posted.now.plan posted.now.flags && (has_entries posted.now.plan posted.now.places && (has_candidates posted.now.plan posted.now.totals && (is_draw posted.now.draw && (has_rows posted.now.plan posted.now.rows && (nat_le (length posted.now.disputes) most_disputes && list_all (is_dispute posted.now.plan) posted.now.disputes))))))))) }
+    ensures { result ≡ (has_entries posted.now.plan posted.now.code_commits && (has_rows posted.now.plan posted.now.row_commits && (are_blocks posted.now.plan 0 posted.now.ballots && (has_rows posted.now.plan posted.now.flags && (has_entries posted.now.plan posted.now.places && (has_candidates posted.now.plan posted.now.totals && (is_draw posted.now.draw && (has_rows posted.now.plan posted.now.rows && (nat_le (length posted.now.disputes) most_claims && list_all (is_dispute posted.now.plan) posted.now.disputes))))))))) }
 {
     has_entries(&posted.plan, &posted.code_commits)
         && has_rows(&posted.plan, &posted.row_commits)

@@ -1,5 +1,6 @@
 //! Section 3 of a record, written: the draw and the openings.
 ghost use Rattle.std.specs.Prelude.{◌≡◌, ◌≤◌, ◌<◌, ◌*◌, ◌∷◌, ◌++◌, [], length, true};
+ghost use Rattle.sg_plan.specs.Limits.{most_public_bytes};
 ghost use Rattle.sg_forms.specs.Said.Said.{DrawPublic, Row};
 ghost use Rattle.sg_lines.specs.Words.{encode_lower};
 ghost use Rattle.sg_record.specs.Formed.{is_draw};
@@ -32,7 +33,7 @@ pub fn put_draw<O: Sink>(pen: &mut Pen, draw: &Draw, out: &mut O) -> Result<(), 
 /// Writes the draw of these public bytes.
 fn put_public<O: Sink>(pen: &mut Pen, bytes: &[u8], out: &mut O) -> Result<(), Failed>
     requires some { 1 ≤ length bytes.now }
-    requires most { length bytes.now ≤ 4096 }
+    requires most { length bytes.now ≤ most_public_bytes }
     ensures { Writes O.written O.faults pen.old out.old pen.new out.new result (DrawPublic (encode_lower bytes.now) ∷ []) }
 {
     know_bytes(bytes);

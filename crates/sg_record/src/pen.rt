@@ -3,7 +3,8 @@ ghost use Rattle.std.specs.Prelude.{◌≡◌, ◌≤◌, ◌∷◌, [], ℕ, Li
 ghost use Rattle.sha2.specs.Sha256.{sha256};
 ghost use Rattle.sg_forms.specs.Said.{said};
 ghost use Rattle.sg_forms.specs.Said.Said.{Seal};
-ghost use Rattle.sg_forms.specs.Spelling.{FitsForm, longest_line};
+ghost use Rattle.sg_forms.specs.Spelling.{FitsForm};
+ghost use Rattle.sg_plan.specs.Limits.{longest_line};
 ghost use Rattle.sg_record.specs.Pens.{IsSealOf, TakesIn, Writes};
 ghost use Rattle.sg_record.specs.Writing.{IsVersion};
 
@@ -26,7 +27,7 @@ pub struct Pen {
 
 impl Model for Pen {
     ghost use Rattle.std.specs.Prelude.{◌≡◌, vec_len};
-    ghost use Rattle.sg_forms.specs.Spelling.{longest_line};
+    ghost use Rattle.sg_plan.specs.Limits.{longest_line};
     ghost use Rattle.sg_record.specs.Pens.{Ink};
     ghost use Rattle.sg_record.specs.Writing.{IsVersion};
 

@@ -11,7 +11,7 @@ use Rattle.sg_record.specs.Places.{places_in, walk_of}
 use Rattle.sg_record.specs.declared.record.Record.{Record}
 use Rattle.sg_check.proofs.BoundLaws.{among_total, totals_bound}
 use Rattle.sg_check.specs.Bounds.{DifferByAtMost}
-use Rattle.sg_check.specs.Completions.{IsCompletion, OpensNoneTwice, altered_rows, is_altered}
+use Rattle.sg_check.specs.Completions.{OpensNoneTwice, altered_rows, is_altered}
 use Rattle.sg_check.specs.Printings.{StandsWith, posted_codes}
 use Rattle.sg_check.specs.Verdict.{IsGood, totals_in}
 use Rattle.sg_check.specs.declared.judged.Total.{Total}
@@ -49,8 +49,8 @@ module _ (given : Given) (parts : AreParts given) where
       (λ (l : List Placed). DifferByAtMost (altered_rows posted.plan l (completion_of given.rows) (printing_of given.codes) race instance) (total_of l race candidate)
       (posted_codes posted.plan l (printing_of given.codes) race candidate))
       same
-      (totals_bound (texts_in posted) parts.accepted.totals (walk_of posted) (record { walks = over; yes = parts.accepted.yes }) (printing_of given.codes) (completion_of given.rows) parts.is_printing
-      (subst (λ (l : List Placed). StandsWith posted.plan l (printing_of given.codes)) (sym same) parts.stands) (subst (λ (l : List Placed). IsCompletion posted.plan l (completion_of given.rows)) (sym same) parts.completes)
+      (totals_bound (texts_in posted) parts.accepted.totals (walk_of posted) (record { walks = over; yes = parts.accepted.yes }) (printing_of given.codes) (completion_of given.rows) parts.is_printing.differ
+      (subst (λ (l : List Placed). StandsWith posted.plan l (printing_of given.codes)) (sym same) parts.stands)
       (subst (λ (l : List Placed). OpensNoneTwice l (completion_of given.rows)) (sym same) parts.none_twice)
       (record { race = race; candidate = candidate; count = total_of (placed_of (walk_of posted).posted) race candidate }) instance
       (subst (λ (l : List Total). Contains l (record { race = race; candidate = candidate; count = total_of (placed_of (walk_of posted).posted) race candidate })) (sym totals_are) contained) instance_in)

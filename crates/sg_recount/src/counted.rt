@@ -1,5 +1,6 @@
 //! How many rows of an instance have each pointer.
 ghost use Rattle.std.specs.Prelude.{◌≡◌, ℕ, ◌+◌, ◌≤◌, ◌==◌, if◌then◌else◌, IfOk, Some, length, slice_get};
+ghost use Rattle.sg_plan.specs.Limits.{most_rows};
 ghost use Rattle.sg_check.specs.Facts.{points_to};
 ghost use Rattle.sg_recount.specs.inside.Counted.{HasCounts};
 
@@ -11,7 +12,7 @@ use std::alloc::Global;
 
 /// Counts the pointer of a half, if it has one that is below the count of rows.
 fn note_half(counts: &mut Items<u32>, half: Option<Opening>)
-    requires { (pointer count : ℕ) → slice_get counts.old pointer ≡ Some count → count ≤ 200000 }
+    requires { (pointer count : ℕ) → slice_get counts.old pointer ≡ Some count → count ≤ most_rows }
     ensures long { length counts.new ≡ length counts.old }
     ensures puts { (pointer count : ℕ) → slice_get counts.old pointer ≡ Some count → slice_get counts.new pointer ≡ Some (count + (if points_to pointer half then 1 else 0)) }
 {
@@ -33,7 +34,7 @@ pub(crate) fn count_pointers(
     instance: u32,
     count: u32,
 ) -> Result<Items<u32>, NoMemory>
-    requires { count ≤ 200000 }
+    requires { count ≤ most_rows }
     ensures { IfOk result (λ counts. HasCounts rows.now on race instance count count counts) }
 {
     let mut counts = Items::filled(alloc, 0, count as usize)?;

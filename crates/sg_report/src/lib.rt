@@ -2,7 +2,5 @@
 #![tactic(auto)]
 
 mod report;
-#[cfg(test)]
-mod tests;
 
 pub use report::{word_for, write_no, write_report, write_yes};

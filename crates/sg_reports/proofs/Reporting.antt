@@ -6,6 +6,7 @@ use Rattle.sg_outside.specs.Streams.{Seen}
 use Rattle.sg_outside.proofs.StreamLemmas.{Keeps-refl}
 use Rattle.sg_audit.proofs.Judging.{took_nothing}
 use Rattle.sg_towns.proofs.Answering.{took_nothing as took_no_lines}
+use Rattle.sg_court.proofs.Heard.{took_nothing as took_no_bytes}
 use Rattle.sg_court.specs.Odds.{OddsDue}
 use Rattle.sg_court.specs.Recounts.{RecountDue}
 use Rattle.sg_court.specs.Says.{Says, Shows}
@@ -39,6 +40,6 @@ is_reported County status input input' out out' (inr (inr (inr (inr (inr says)))
 -- where memory was wanted, and nothing was done
 pub memory_reports : (report : Report) (input out : Seen) → ReportSays report 9 input input out out
 memory_reports Audit input out = inr (inr (inr (inr (refl, record { taken = took_nothing input.bytes; written = Keeps-refl out.bytes }))))
-memory_reports Recount input out = inr (inr (inr (refl, refl)))
-memory_reports Odds input out = inr (inr (inr (refl, refl)))
+memory_reports Recount input out = inr (inr (inr (refl, record { taken = took_no_bytes input.bytes; written = refl })))
+memory_reports Odds input out = inr (inr (inr (refl, record { taken = took_no_bytes input.bytes; written = refl })))
 memory_reports County input out = inr (inr (inr (inr (inr (refl, record { taken = took_no_lines input.bytes; written = Keeps-refl out.bytes })))))

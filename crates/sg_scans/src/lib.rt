@@ -6,8 +6,6 @@ mod file;
 mod header;
 pub mod laws;
 mod rows;
-#[cfg(test)]
-mod tests;
 
 pub use fields::ScanLine;
 pub use file::{ScansFault, read_scans};

@@ -3,8 +3,6 @@
 
 mod due;
 mod reading;
-#[cfg(test)]
-mod tests;
 
 pub use due::{Due, list_due};
 pub use reading::{is_ballot_line, read_codes};

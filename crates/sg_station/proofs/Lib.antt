@@ -1,4 +1,5 @@
 -- The proofs.
 mod Growing
 mod Going
+pub mod Keeping
 mod ServeEnds

@@ -1,14 +1,14 @@
 -- How `serve` ends, from what was opened and how the run over the connections ended.
-use Rattle.std.proofs.Common.{◌≡◌, ℕ, ◌≤◌, List, inl, inr, refl, ap, ◌∙◌, arith}
+use Rattle.std.proofs.Common.{◌≡◌, ℕ, ◌≤◌, List, inl, inr, refl, ap, sym, ◌∙◌, arith}
 use Rattle.std.specs.Prelude.{Option}
 use Rattle.sg_outside.specs.Streams.{Seen}
 use Rattle.sg_keeper.specs.declared.rows.Rows.{Rows}
 use Rattle.sg_keeper.specs.declared.setup.Setup.{Setup}
 use Rattle.sg_histories.specs.Histories.{Entry}
-use Rattle.sg_histories.specs.Standing.{IsOffice, StandsFor}
+use Rattle.sg_histories.specs.Standing.{StandsFor}
 use Rattle.sg_histories.specs.ValidRows.{Damaged, opening}
 use Rattle.sg_histories.specs.declared.kept.Kept.{Kept}
-use Rattle.sg_clerk.specs.Opening.{IsOpen, LineEnds, shown_status}
+use Rattle.sg_clerk.specs.Opening.{IsOfRows, IsOpen, LineEnds, shown_status}
 use Rattle.sg_clerk.specs.Shown.{damaged_line}
 use Rattle.sg_clerk.specs.declared.shown.Shown.{Shown}
 use Rattle.sg_clerk.specs.declared.shown.Shown.TheVariants as shown
@@ -81,22 +81,24 @@ shut_says how kept port count tells still rows middle after before now faults op
 
 -- behind an office that was opened
 pub office_serves : (how : Ending) (kept : Kept) (port count : ℕ) (tells still : Type 0) (rows middle after : Rows) (before now : Scene) (faults : ℕ)
-    → IsOffice kept → (tells → IsOpen kept rows) → (tells → still) → (tells → middle ≡ rows) → before.keep_faults ≤ faults
+    → IsOfRows kept tells rows → (tells → IsOpen kept rows) → (tells → still) → (tells → middle ≡ rows) → before.keep_faults ≤ faults
     → ServesPort how kept port count still middle after (at_count before faults) now → ServeSays (ending_status how) port count tells rows after before now
-office_serves how kept port count tells still rows middle after before now faults office opens told same later (inl talks) =
+office_serves how kept port count tells still rows middle after before now faults starts opens told same later (inl talks) =
+    let has = starts.1 in
     let from : (history : List Entry) → StandsFor kept history → ServesCalls how kept.setup history count tells rows after (listening port before) now
     = λ history stands. serves_from how kept.setup history count tells still rows middle after (listening port before) now faults told same later (talks history stands) in
     inl (record {
       setup = kept.setup;
       how = how;
       status_is = refl;
-      start = office.history;
-      lawful = office.stands.lawful;
-      serves = from office.history office.stands;
+      start = has.history;
+      lawful = has.stands.lawful;
+      from = λ was. (has.text, sym (starts.2 was) ∙ has.rows_are);
+      serves = from has.history has.stands;
       whole = λ was. (opens was).whole;
       each = λ was text history lawful is. from history ((opens was).each text history lawful is);
     })
-office_serves how kept port count tells still rows middle after before now faults office opens told same later (inr shut) =
+office_serves how kept port count tells still rows middle after before now faults starts opens told same later (inr shut) =
     shut_says how kept port count tells still rows middle after before now faults opens told same shut
 
 -- NO OFFICE IS OPENED

@@ -17,14 +17,15 @@ abbrev pub out_at : Scene → Seen
 out_at scene = record { bytes = scene.written; faults = scene.write_faults }
 
 -- 0, 4, 6 or 9, by how the run over the connections ended: An office was opened and the port listened on, and connections were
--- served by the office's talk, from a lawful history of its setup on. Where the keeper tells its rows, they open to this setup,
--- and the same is so from each lawful history whose rows they are.
+-- served by the office's talk, from a lawful history of its setup on. Where the keeper tells its rows, they open to this setup
+-- and are that history's, and the same is so from each other lawful history whose rows they are.
 pub record HasServed (status port count : ℕ) (tells : Type 0) (rows rows' : Rows) (before now : Scene) : Type 0 where
   pub setup : Setup
   pub how : Ending
   pub status_is : status ≡ ending_status how
   pub start : List Entry
   pub lawful : Lawful setup start
+  pub from : tells → (text : List ℕ) × (rows ≡ rows_of setup text start)
   pub serves : ServesCalls how setup start count tells rows rows' (listening port before) now
   pub whole : tells → opening rows ≡ Whole setup
   pub each : tells → (text : List ℕ) (history : List Entry) → Lawful setup history → rows ≡ rows_of setup text history

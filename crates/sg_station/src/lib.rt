@@ -1,6 +1,7 @@
 //! The command `serve`: connections are taken and served one after another, and each has its line.
 #![tactic(auto)]
 
+pub mod laws;
 mod serving;
 mod station;
 

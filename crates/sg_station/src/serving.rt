@@ -31,7 +31,6 @@ pub fn serve<L: Links, K: Keeper, O: Sink>(
 {
     match open_kept(alloc, keeper) {
         Opened::Office(office) => {
-            office.office_law();
             let mut office = office;
             ending_status(serve_calls(alloc, port, count, links, keeper, &mut office, out))
         }

@@ -1,5 +1,5 @@
 //! The keeper over a database.
-ghost use Rattle.std.specs.Prelude.{◌≡◌, ◌≢◌, ◌≤◌, false, true, IfOk, None, Some, OnOk, OnErr};
+ghost use Rattle.std.specs.Prelude.{◌≡◌, ◌≢◌, ◌≤◌, ◌↔◌, false, true, IfOk, None, Some, OnOk, OnErr};
 ghost use Rattle.sg_outside.specs.Faults.{Rose};
 ghost use Rattle.sg_keeper.specs.Laws.{RowsRise};
 ghost use Rattle.sg_keeper.specs.Rows.{HasFaultCause, IsAscii, IsAsciiChange, IsNewChange, with_change, with_setup};
@@ -21,6 +21,8 @@ fn refused(faults: &mut u64, cause: &mut Option<Error>, error: Error) -> KeepFau
     ensures failed { result ≡ KeepFault.Failed → Rose faults.old faults.new }
     ensures kept { result ≡ KeepFault.Failed → (cause.new ≡ Some error) × (error ≢ Error.SqliteFailure ErrorCode.OutOfMemory) }
     ensures memory { result ≡ KeepFault.NoMemory → cause.new ≡ cause.old }
+    ensures uncounted { result ≡ KeepFault.NoMemory → faults.new ≡ faults.old }
+    ensures wanted { (result ≡ KeepFault.NoMemory) ↔ (error ≡ Error.SqliteFailure ErrorCode.OutOfMemory) }
 {
     match error {
         Error::SqliteFailure(ErrorCode::OutOfMemory) => KeepFault::NoMemory,

@@ -5,5 +5,6 @@ pub mod OneOrders
 pub mod Ordered
 pub mod SeedKeys
 mod ShortOrders
+mod StreamNumbers
 pub mod Unused
 pub mod WordFacts

@@ -1,5 +1,6 @@
 //! The coins that say which side of a row is opened.
 ghost use Rattle.std.specs.Prelude.{◌≡◌, ◌+◌, ◌^◌, ◌<◌, ◌≤◌, length};
+ghost use Rattle.sg_plan.specs.Limits.{most_public_bytes};
 ghost use Rattle.sg_streams.specs.CoinSides.{coin_seed, coin_of, side_of_word as side_of, CoinPlace};
 
 use crate::reading::Words;
@@ -14,7 +15,7 @@ const COIN_MARK: [u8; 7] = *b"SC2COIN";
 /// The seed of the coins: SHA-256 of `SC2COIN` and the public bytes, 4,096 at most.
 #[tactic(auto, unfolding(crate::specs::CoinSides::coin_seed))]
 pub fn coin_key(public: &[u8]) -> Seed
-    requires { length public.now ≤ 4096 }
+    requires { length public.now ≤ most_public_bytes }
     ensures { result.0 ≡ coin_seed public.now }
 {
     let mut hasher = Sha256::new();

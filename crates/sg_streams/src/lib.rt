@@ -18,6 +18,3 @@ pub use reading::{Words, word};
 pub use row_codes::codes;
 pub use seeds::{Seed, stream};
 pub use short_orders::short_order;
-
-#[cfg(test)]
-mod tests;

@@ -12,8 +12,6 @@ mod status;
 mod streams;
 mod talk;
 mod tcp_links;
-#[cfg(test)]
-mod tests;
 mod watch;
 mod words;
 

@@ -6,9 +6,6 @@ ghost use Rattle.std.specs.Io.KnownBytes.{Keeps, WriteAppends};
 ghost use Rattle.sg_outside.specs.Faults.{HasCause, counted_up};
 ghost use Rattle.sg_outside.specs.Streams.{PutAppends};
 
-#[cfg(test)]
-mod tests;
-
 use sg_outside::{Failed, NoMemory, Sink, Source};
 use std::alloc::Global;
 use std::io::{self, BufWriter, ErrorKind, Read, Stdin, Stdout, Write};

@@ -12,6 +12,3 @@ mod table_set;
 
 pub use opening_walks::{LeftOpenings, QOpenings, RightOpenings};
 pub use table_set::Tables;
-
-#[cfg(test)]
-mod tests;

@@ -3,7 +3,5 @@
 
 mod answered;
 pub mod laws;
-#[cfg(test)]
-mod tests;
 
 pub use answered::Answered;

@@ -2,6 +2,7 @@
 use Rattle.std.specs.Prelude.{◌≡◌, ℕ, ◌<◌, ◌≤◌, ◌⊎◌, List, ◌++◌, length, map, Option, IfSome}
 use Rattle.std.specs.List.{concat}
 use Rattle.std.specs.Io.KnownBytes.{Appends, Consumes, IsAtEnd, Keeps}
+use Rattle.sg_plan.specs.Limits.{longest_line}
 use Rattle.sg_outside.specs.Faults.{Rose}
 use Rattle.sg_outside.specs.Streams.{AppendsFront, Seen}
 use Rattle.sg_outside.specs.TextLines.{AreLines, HasNoFeed, lines_of}
@@ -28,7 +29,7 @@ pub record TookLines (before now : Option (List ℕ)) : Type 0 where
   pub rest : List ℕ
   pub lines : AreLines done
   pub unsettled : IsUnsettled done
-  pub few : length rest ≤ 16384
+  pub few : length rest ≤ longest_line
   pub taken : Consumes before now (concat done ++ rest)
 
 -- of these bytes whole lines that settle nothing were taken, and behind them fewer than 16,384 bytes, without a line feed
@@ -38,7 +39,7 @@ pub record TookUnsettled (before now : Option (List ℕ)) : Type 0 where
   pub lines : AreLines done
   pub unsettled : IsUnsettled done
   pub unended : HasNoFeed rest
-  pub few : length rest < 16384
+  pub few : length rest < longest_line
   pub taken : Consumes before now (concat done ++ rest)
 
 -- a yes has read the input to its end; another answer took at most one line, or as many bytes, behind lines that settle nothing

@@ -1,5 +1,6 @@
 //! A county's lines, fed to a tally one by one, and the report of the answer.
 ghost use Rattle.std.specs.Prelude.{◌≡◌, ◌⊎◌, ℕ, List, [], Option, false, not, true};
+ghost use Rattle.sg_plan.specs.Limits.{longest_line};
 ghost use Rattle.sg_outside.specs.Streams.{Seen, seen};
 ghost use Rattle.sg_county.specs.Tally.{StandsFor, is_more, is_open};
 ghost use Rattle.sg_towns.specs.Counts.{CountySays};
@@ -151,7 +152,7 @@ fn heard_at(stop: Stop, tally: Tally) -> Heard
 fn take_lines<S: Source>(tally: &mut Tally, alloc: Global, lines: Lines, input: &mut S) -> Stop
     requires stands { StandsFor tally.old [] }
     requires open { is_open tally.old ≡ true }
-    requires fresh { lines ≡ record { limit = 16384; text = []; ahead = []; is_over = false } }
+    requires fresh { lines ≡ record { limit = longest_line; text = []; ahead = []; is_over = false } }
     ensures { Stops result tally.new (seen (S.left input.old) (S.faults input.old)) (seen (S.left input.new) (S.faults input.new)) }
 {
     let mut lines = lines;

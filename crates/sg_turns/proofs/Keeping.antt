@@ -23,19 +23,22 @@ use Rattle.sg_histories.specs.Standing.{text_at}
 use Rattle.sg_histories.proofs.DoneActs.{acts_stay, done_acts_are_kept}
 use Rattle.sg_histories.proofs.Stamps.{rows_tell, stamps_stand_once}
 use Rattle.sg_histories.proofs.Talks.{turns_stay_lawful}
-use Rattle.sg_turns.specs.Laws.{TalksKeep}
+use Rattle.sg_turns.specs.Laws.{GrowsTo, TalksKeep}
 use Rattle.sg_turns.specs.Turns.{AskTurn}
+use Rattle.sg_turns.proofs.Growing.{grows_on, turn_grows}
 
 -- what stood in a history stands in the next one
-abbrev Stays : List Entry → List Entry → Type 0
+abbrev pub Stays : List Entry → List Entry → Type 0
 Stays history next = (station number : ℕ) (done : Act) → act_of_stamp history station number ≡ Some done → act_of_stamp next station number ≡ Some done
 
 -- the text of an act stands in the rows at its station's number
-abbrev IsAt : Setup → List Entry → Stamp → Act → Type 0
+abbrev pub IsAt : Setup → List Entry → Stamp → Act → Type 0
 IsAt setup history stamp done = (text : List ℕ) → text_at stamp.station stamp.number (rows_of setup text history).dones ≡ Some (act_text setup.plan.version done)
 
-record StepKeeps (setup : Setup) (bytes : List ℕ) (answer : Answered) (before after : List Entry) : Type 0 where
+-- what an answer to bytes keeps
+pub record StepKeeps (setup : Setup) (bytes : List ℕ) (answer : Answered) (before after : List Entry) : Type 0 where
   pub lawful : Lawful setup after
+  pub grows : GrowsTo before after
   pub stays : Stays before after
   pub done : (stamp : Stamp) (done : Act) (said : Body) → answer ≡ answered.Reply (reply.Done said) → asked setup.plan.version bytes ≡ Ok (ask.Do stamp done) → IsAt setup after stamp done
 
@@ -53,11 +56,12 @@ still : (setup : Setup) (bytes : List ℕ) (answer : Answered) (before after : L
     → ((said : Body) → answer ≡ answered.Reply (reply.Done said) → ⊥) → StepKeeps setup bytes answer before after
 still setup bytes answer before after lawful same none = record {
   lawful = subst (Lawful setup) (sym same) lawful;
+  grows = ([], same);
   stays = λ station number done is. subst (λ (h : List Entry). act_of_stamp h station number ≡ Some done) (sym same) is;
   done = λ stamp done said is asks. absurd (none said is);
 }
 
-step_keeps : (setup : Setup) (bytes : List ℕ) (answer : Answered) (before after : List Entry) → Lawful setup before
+pub step_keeps : (setup : Setup) (bytes : List ℕ) (answer : Answered) (before after : List Entry) → Lawful setup before
     → Answers (AskTurn setup) setup.plan.version bytes answer before after → StepKeeps setup bytes answer before after
 step_keeps setup bytes answered.NotJson before after lawful answers = still setup bytes answered.NotJson before after lawful answers.1 (λ said is. cc)
 step_keeps setup bytes answered.Shape before after lawful answers = still setup bytes answered.Shape before after lawful answers.1 (λ said is. cc)
@@ -67,6 +71,7 @@ step_keeps setup bytes (answered.Reply said) before after lawful answers =
     let turn = answers.2.1 in
     record {
       lawful = turns_stay_lawful setup before was said after comes lawful turn;
+      grows = turn_grows setup before was said after turn;
       stays = acts_stay setup before was said after turn;
       done = λ stamp done body is asks text.
           let reply_is : said ≡ reply.Done body = ap (reply_in said) is in
@@ -99,6 +104,7 @@ contained x xs y P first other (suc k, within, is) = other (k, omega (arith, wit
 pub talks_keep : TalksKeep
 talks_keep setup [] history next lawful talk = record {
   lawful = subst (Lawful setup) (sym talk) lawful;
+  grows = ([], talk);
   once = stamps_stand_once setup next (subst (Lawful setup) (sym talk) lawful);
   done = λ exchange stamp done said text among is asks. absurd (omega (arith, among.1));
   stays = λ station number done is. subst (λ (h : List Entry). act_of_stamp h station number ≡ Some done) (sym talk) is;
@@ -109,6 +115,7 @@ talks_keep setup (exchange ∷ exchanges) history next lawful talk =
     let rest = talks_keep setup exchanges middle next step.lawful talk.2 in
     record {
       lawful = rest.lawful;
+      grows = grows_on history middle next step.grows rest.grows;
       once = rest.once;
       done = λ other stamp done said text among is asks.
           contained exchange exchanges other (text_at stamp.station stamp.number (rows_of setup text next).dones ≡ Some (act_text setup.plan.version done))

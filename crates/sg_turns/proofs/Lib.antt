@@ -3,4 +3,5 @@ mod Plain
 mod Posting
 mod Writable
 mod Turning
-mod Keeping
+pub mod Growing
+pub mod Keeping

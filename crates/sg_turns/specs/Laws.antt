@@ -1,5 +1,5 @@
 -- The laws of an office's talk: what it keeps.
-use Rattle.std.specs.Prelude.{◌≡◌, ℕ, ◌≤◌, List, count_by, Some, Ok, Contains}
+use Rattle.std.specs.Prelude.{◌≡◌, ℕ, ◌≤◌, List, ◌++◌, count_by, Some, Ok, Contains}
 use Rattle.sg_keeper.specs.declared.asks.Act.{Act}
 use Rattle.sg_keeper.specs.declared.asks.Ask.TheVariants as ask
 use Rattle.sg_keeper.specs.declared.asks.Stamp.{Stamp}
@@ -22,10 +22,16 @@ KeepsDone setup exchanges next = (exchange : Exchange) (stamp : Stamp) (done : A
     → exchange.answer ≡ answered.Reply (reply.Done said) → asked setup.plan.version exchange.bytes ≡ Ok (ask.Do stamp done)
     → text_at stamp.station stamp.number (rows_of setup text next).dones ≡ Some (act_text setup.plan.version done)
 
--- What a talk from one history to the next keeps: the next is lawful, and each station's number stands in it at most
--- once; acts that were done are in the rows; and what stood in the history still stands.
+-- the next history is the history with further entries, or with none: of its entries none is gone, changed or moved, and
+-- the newest stand first
+abbrev pub GrowsTo : List Entry → List Entry → Type 0
+GrowsTo history next = (more : List Entry) × (next ≡ more ++ history)
+
+-- What a talk from one history to the next keeps: the history grows to the next, which is lawful, and each station's number
+-- stands in it at most once; acts that were done are in the rows; and what stood in the history still stands.
 pub record TalkKeeps (setup : Setup) (exchanges : List Exchange) (history next : List Entry) : Type 0 where
   pub lawful : Lawful setup next
+  pub grows : GrowsTo history next
   pub once : (station number : ℕ) → count_by (is_stamped station number) next ≤ 1
   pub done : KeepsDone setup exchanges next
   pub stays : (station number : ℕ) (done : Act) → act_of_stamp history station number ≡ Some done → act_of_stamp next station number ≡ Some done

@@ -1,2 +1,3 @@
 -- What a reader of the laws of unaltered histories believes.
+pub mod GoingOn
 pub mod UnalteredHistories

@@ -12,8 +12,6 @@ mod number;
 mod sample;
 mod service;
 mod table;
-#[cfg(test)]
-mod tests;
 mod texts;
 mod usage_line;
 

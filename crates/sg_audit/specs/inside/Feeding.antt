@@ -2,6 +2,7 @@
 use Rattle.std.specs.Prelude.{◌≡◌, ◌≤◌, ℕ, true, false, List, Option}
 use Rattle.std.specs.List.{concat}
 use Rattle.std.specs.Io.KnownBytes.{Consumes}
+use Rattle.sg_plan.specs.Limits.{longest_line}
 use Rattle.sg_outside.specs.Cutting.{Cutting, to_come}
 use Rattle.sg_outside.specs.Streams.{Seen}
 use Rattle.sg_outside.specs.TextLines.{AreLines}
@@ -16,7 +17,7 @@ pub record IsFed (pass : Pass) (lines : Cutting) (before now : Option (List ℕ)
   pub taken : Consumes before (to_come lines now) (concat done)
   pub unbroken : is_open pass ≡ true
   pub goes_on : lines.is_over ≡ false
-  pub limit : lines.limit ≡ 16384
+  pub limit : lines.limit ≡ longest_line
 
 -- the same of lines that go on behind the plan, where the source failed as often at first as it has by now, or less often
 pub record IsFedBehind (pass : Pass) (lines : Cutting) (first now : Seen) : Type 0 where

@@ -39,6 +39,13 @@ IsAdded setup rows rows' = (rows.setup ≡ None) × (rows' ≡ with_setup rows (
 abbrev pub IsHad : Rows → Rows → Type 0
 IsHad rows rows' = ((text : List ℕ) × (rows.setup ≡ Some text)) × (rows' ≡ rows)
 
+-- what came of adding a setup, where none was kept before
+abbrev pub AddsSetup : Keeping → Setup → (tells : Type 0) → Rows → Rows → ℕ → ℕ → Type 0
+AddsSetup keeping.Kept setup tells rows rows' faults faults' = tells → rows.setup ≡ None → rows' ≡ with_setup rows (setup_text setup)
+AddsSetup keeping.Begun setup tells rows rows' faults faults' = ⊥
+AddsSetup keeping.Fault setup tells rows rows' faults faults' = Rose faults faults' × AreSame tells rows rows'
+AddsSetup keeping.NoMemory setup tells rows rows' faults faults' = AreSame tells rows rows'
+
 -- what came of keeping a setup
 abbrev pub KeepsSetup : Keeping → Setup → (tells : Type 0) → Rows → Rows → ℕ → ℕ → Type 0
 KeepsSetup keeping.Kept setup tells rows rows' faults faults' = tells → IsAdded setup rows rows'

@@ -1,12 +1,13 @@
 -- How the input is read line by line.
-use Rattle.std.specs.Prelude.{◌≡◌, ℕ, ◌+◌, ◌<◌, ◌≤◌, ◌⊎◌, false, List, ◌++◌, length, Option}
+use Rattle.std.specs.Prelude.{◌≡◌, ℕ, ◌+◌, ◌*◌, ◌<◌, ◌≤◌, ◌⊎◌, false, List, ◌++◌, length, Option}
 use Rattle.std.specs.List.{concat}
 use Rattle.std.specs.Io.KnownBytes.{Consumes, IsAtEnd}
+use Rattle.sg_plan.specs.Limits.{longest_line}
 use Rattle.sg_outside.specs.Cutting.{Cutting, to_come}
 use Rattle.sg_outside.specs.Faults.{Rose}
 use Rattle.sg_outside.specs.Streams.{Seen}
 use Rattle.sg_outside.specs.TextLines.{AreLines, HasNoFeed, IsLine}
-use Rattle.sg_court.specs.Heard.{IsRead}
+use Rattle.sg_court.specs.Heard.{IsRead, TookFew}
 use Rattle.sg_court.specs.declared.hearing.Heard.{Heard}
 use Rattle.sg_court.specs.declared.hearing.Heard.TheVariants as heard
 use Rattle.sg_court.specs.declared.hearing.Step.{Step}
@@ -15,8 +16,8 @@ use Rattle.sg_court.specs.declared.hearing.Step.TheVariants as step
 -- what was heard of an input
 abbrev pub Hears : Heard → Seen → Seen → Type 0
 Hears (heard.Text text) input input' = IsRead input.bytes input'.bytes text
-Hears heard.Fault input input' = Rose input.faults input'.faults
-Hears heard.NoMemory input input' = Unit {0}
+Hears heard.Fault input input' = Rose input.faults input'.faults × TookFew input.bytes input'.bytes
+Hears heard.NoMemory input input' = TookFew input.bytes input'.bytes
 
 -- one more line was cut, and put behind the text
 pub record TakesLine (lines lines' : Cutting) (text text' : List ℕ) (before now : Option (List ℕ)) : Type 0 where
@@ -24,8 +25,8 @@ pub record TakesLine (lines lines' : Cutting) (text text' : List ℕ) (before no
   pub grown : text' ≡ text ++ lines'.text
   pub taken : Consumes (to_come lines before) (to_come lines' now) lines'.text
   pub goes_on : lines'.is_over ≡ false
-  pub limit : lines'.limit ≡ 16384
-  pub few : length lines'.text + length lines'.ahead ≤ 16384
+  pub limit : lines'.limit ≡ longest_line
+  pub few : length lines'.text + length lines'.ahead ≤ longest_line
 
 -- the last bytes were cut, which have no line feed, and put behind the text: those before the end, or as many as a line has
 pub record TakesRest (lines : Cutting) (text text' : List ℕ) (before now : Option (List ℕ)) : Type 0 where
@@ -33,7 +34,14 @@ pub record TakesRest (lines : Cutting) (text text' : List ℕ) (before now : Opt
   pub unended : HasNoFeed rest
   pub grown : text' ≡ text ++ rest
   pub taken : Consumes (to_come lines before) now rest
-  pub ends : IsAtEnd now ⊎ (length rest ≡ 16384)
+  pub few : length rest ≤ longest_line
+  pub ends : IsAtEnd now ⊎ (length rest ≡ longest_line)
+
+-- whatever became of it: at most as many bytes were taken as a line has, those included that were held before
+pub record TakesFew (lines : Cutting) (before now : Option (List ℕ)) : Type 0 where
+  pub bytes : List ℕ
+  pub taken : Consumes (to_come lines before) now bytes
+  pub few : length bytes ≤ longest_line
 
 abbrev pub Steps : Step → (lines lines' : Cutting) (text text' : List ℕ) (input input' : Seen) → Type 0
 Steps step.More lines lines' text text' input input' = TakesLine lines lines' text text' input.bytes input'.bytes
@@ -49,5 +57,6 @@ pub record HasTaken (count : ℕ) (text : List ℕ) (lines : Cutting) (before no
   pub few : count ≤ 2060003
   pub taken : Consumes before (to_come lines now) (concat done)
   pub goes_on : lines.is_over ≡ false
-  pub limit : lines.limit ≡ 16384
-  pub held : length lines.ahead < 16384
+  pub limit : lines.limit ≡ longest_line
+  pub held : length lines.ahead < longest_line
+  pub bound : length text + length lines.ahead ≤ count * longest_line

@@ -1,5 +1,6 @@
 -- What the desk's private functions have read. Only clauses of private functions cite this.
 use Rattle.std.specs.Prelude.{◌≡◌, ℕ, ◌+◌, ◌<◌, ◌≤◌, Bool, true, false, List, [], length, take, slice_range}
+use Rattle.sg_plan.specs.Limits.{longest_ask}
 use Rattle.httparse.specs.declared.spans.HeaderSpan.{HeaderSpan}
 use Rattle.httparse.specs.Spans.{IsRequestWithin, IsRequestOf}
 use Rattle.sg_http.specs.declared.heads.Found.{Found}
@@ -34,7 +35,7 @@ EndsBody came.Failed end goal is_ended = (end < goal) × (is_ended ≡ false)
 
 -- a body that is asked for is no longer than the limit
 abbrev pub HasFewBytes : Asked → Type 0
-HasFewBytes (asks.Body n) = n ≤ 65536
+HasFewBytes (asks.Body n) = n ≤ longest_ask
 HasFewBytes (asks.Refused fault) = Unit {0}
 HasFewBytes (asks.Sees look) = Unit {0}
 

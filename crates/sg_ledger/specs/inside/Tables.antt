@@ -33,10 +33,6 @@ abbrev pub with_votes : ℕ → ℕ → List ℕ → ℕ → List ℕ → List �
 with_votes candidates first votes place [] = votes
 with_votes candidates first votes place (bit ∷ bits) = with_votes candidates first (if bit == 0x31 then with_one_more most_votes votes (first + place % candidates) else votes) (place + 1) bits
 
--- the most totals of a plan: 32 races of 16 candidates
-abbrev pub most_totals : ℕ
-most_totals = 512
-
 -- what is known of column `at` is against the code of the column: another column's and the same code, or this column's
 -- and another code
 abbrev pub shows_another : ℕ → ℕ → ℕ → Option ℕ → Bool

@@ -26,6 +26,7 @@ use Rattle.sg_open.specs.declared.ballots.BallotTold.{BallotTold}
 use Rattle.sg_open.specs.declared.ballots.Found.{Found}
 use Rattle.sg_open.specs.declared.fault.OpenFault.{OpenFault}
 use Rattle.sg_open.specs.declared.fault.OpenFault.TheVariants as fault
+use Rattle.sg_open.specs.declared.opening.Told.{Told}
 use Rattle.sg_open.specs.inside.Telling.{ballot_told, draw_told, row_claim, small_of}
 
 -- FAULTS
@@ -125,6 +126,10 @@ pub record IsJudged (setup : Setup) (rows : Rows) (stations : List ℕ → Optio
   pub none : damage_of setup (act_in setup.plan.version) rows ≡ None
   pub voids : first_bad (void_passes setup.plan.version stations (found_after setup.plan stations (nothing_found setup.plan) rows.ballots).scanners) [] rows.voids ≡ None
   pub slots : kept ≡ voided_after setup.plan.version stations (found_after setup.plan stations (nothing_found setup.plan) rows.ballots).scanners (found_after setup.plan stations (nothing_found setup.plan) rows.ballots).slots rows.voids
+
+-- what is kept with this setup, of what the rows tell
+abbrev pub kept_of : Setup → Told → Kept
+kept_of setup told = record { setup = setup; slots = told.slots; stage = told.course.stage; claims = told.course.claims; dones = told.dones }
 
 -- what is kept is what these rows tell
 pub record KeepsRows (kept : Kept) (rows : Rows) : Type 0 where

@@ -3,6 +3,7 @@ use Rattle.std.specs.Prelude.{ℕ, ◌+◌, ◌^◌, nat_lt, ℤ, pos, if◌then
 use Rattle.std.specs.List.{join_with_byte}
 use Rattle.std.specs.Option.{option_and_then, option_map}
 use Rattle.std.specs.Ordering.{int_eq}
+use Rattle.sg_plan.specs.Limits.{most_claims}
 use Rattle.sg_plan.specs.Fates.{fate_fits}
 use Rattle.sg_plan.specs.declared.plan.Draw.{Draw}
 use Rattle.sg_plan.specs.declared.plan.Fate.{Fate}
@@ -102,4 +103,4 @@ row_claim plan row = option_and_then (act_claim plan) (claim_act row)
 
 -- what a row tells that should be of the claim behind so many others
 abbrev pub claim_told : Plan → Bool → ℕ → ClaimRow → Option Claim
-claim_told plan drawn place row = if (int_eq row.claim (pos (place + 1)) && nat_lt place 10000) && drawn then row_claim plan row else None
+claim_told plan drawn place row = if (int_eq row.claim (pos (place + 1)) && nat_lt place most_claims) && drawn then row_claim plan row else None

@@ -20,13 +20,6 @@ use Rattle.sg_grammar.specs.Walk.{Next, Posted, read_next, start, take_bytes, ta
 use Rattle.sg_grammar.specs.declared.state.Head.{Head}
 use Rattle.sg_grammar.specs.declared.state.Head.TheVariants as head
 
--- BEHIND THE PLAN
-
--- a line behind those of the plan stands
-abbrev pub is_behind : Head → Bool
-is_behind head.Whole = true
-is_behind stage = false
-
 -- the bytes are no line of the plan that may stand next
 abbrev pub IsNoPlanLine : Next → List ℕ → Type 0
 IsNoPlanLine expect bytes = (said : Said) → read_next expect bytes ≡ Some said → head_line expect.plan expect.head said ≡ None

@@ -2,6 +2,7 @@
 use Rattle.std.specs.Prelude.{◌≡◌, ℕ, true, false, List, Option}
 use Rattle.std.specs.List.{concat}
 use Rattle.std.specs.Io.KnownBytes.{Consumes}
+use Rattle.sg_plan.specs.Limits.{longest_line}
 use Rattle.sg_outside.specs.Cutting.{Cutting, to_come}
 use Rattle.sg_outside.specs.TextLines.{AreLines}
 use Rattle.sg_county.specs.Tally.{IsUnsettled, StandsFor, is_open}
@@ -16,4 +17,4 @@ pub record IsFed (tally : Tally) (lines : Cutting) (before now : Option (List �
   pub taken : Consumes before (to_come lines now) (concat done)
   pub still : is_open tally ≡ true
   pub goes_on : lines.is_over ≡ false
-  pub limit : lines.limit ≡ 16384
+  pub limit : lines.limit ≡ longest_line

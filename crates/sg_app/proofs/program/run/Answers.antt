@@ -1,10 +1,12 @@
 -- What is said of the command that was run is said of the one that the words ask for.
-use Rattle.std.proofs.Common.{◌≡◌, Some}
+use Rattle.std.proofs.Common.{◌≡◌, Some, ap, refl}
 use Rattle.sg_outside.specs.Streams.{Seen, seen}
+use Rattle.sg_clerk.proofs.Grown.{same_grows}
 use Rattle.sg_words.specs.Command.{command_in}
 use Rattle.sg_words.specs.declared.command.Command.TheVariants as command
 use Rattle.sg_app.specs.Outside.{Outside}
 use Rattle.sg_app.proofs.Completing.{says_complete}
+use Rattle.sg_app.proofs.Growing.{command_grows}
 use Rattle.sg_app.proofs.Headlines.{audit_headline}
 use Rattle.sg_app.proofs.Obeyed.{memory_says, says_for}
 use Rattle.sg_app.proofs.program.run.Goals as goal
@@ -99,3 +101,32 @@ returns-in-Err-clause-says g c =
       keep_faults = g.K.Keeper.faults c.args.keeper.now;
     } in
     λ asked is. memory_says asked (g.K.Keeper.tells c.args.keeper.now) (g.K.Keeper.rows c.args.keeper.now) now
+
+pub returns-in-Ok-Some-clause-grows : goal.returns-in-Ok-Some-clause-grows
+returns-in-Ok-Some-clause-grows g c =
+    let before : Outside = record {
+      left = g.S.Source.left c.args.input.now;
+      board = g.L.Links.board c.args.links.now;
+      written = g.O.Sink.written c.args.out.now;
+      read_faults = g.S.Source.faults c.args.input.now;
+      link_faults = g.L.Links.faults c.args.links.now;
+      write_faults = g.O.Sink.faults c.args.out.now;
+      keep_faults = g.K.Keeper.faults c.args.keeper.now;
+    } in
+    let now : Outside = record {
+      left = g.S.Source.left c.obey.new.input;
+      board = g.L.Links.board c.obey.new.links;
+      written = g.O.Sink.written c.obey.new.out;
+      read_faults = g.S.Source.faults c.obey.new.input;
+      link_faults = g.L.Links.faults c.obey.new.links;
+      write_faults = g.O.Sink.faults c.obey.new.out;
+      keep_faults = g.K.Keeper.faults c.obey.new.keeper;
+    } in
+    command_grows c.in-Ok-Some.command c.obey.result (g.K.Keeper.tells c.args.keeper.now) (g.K.Keeper.rows c.args.keeper.now) (g.K.Keeper.rows c.obey.new.keeper) before now
+    c.obey.ensures.says (λ unasked. ap g.K.Keeper.rows (c.obey.ensures.unkept unasked)) c.obey.ensures.same
+
+pub returns-in-Ok-None-clause-grows : goal.returns-in-Ok-None-clause-grows
+returns-in-Ok-None-clause-grows g c told = same_grows (g.K.Keeper.rows c.args.keeper.now) (g.K.Keeper.rows c.args.keeper.now) refl
+
+pub returns-in-Err-clause-grows : goal.returns-in-Err-clause-grows
+returns-in-Err-clause-grows g c told = same_grows (g.K.Keeper.rows c.args.keeper.now) (g.K.Keeper.rows c.args.keeper.now) refl

@@ -17,7 +17,7 @@ returns-in-Init-clause-says g c =
     (rw c.begun_status.ensures
     (init_says c.init.result (seen (g.S.Source.left c.args.input.now) (g.S.Source.faults c.args.input.now)) (seen (g.S.Source.left c.init.new.input) (g.S.Source.faults c.init.new.input))
     (g.K.Keeper.tells c.args.keeper.now) (g.K.Keeper.rows c.args.keeper.now) (g.K.Keeper.rows c.init.new.keeper) (g.K.Keeper.faults c.args.keeper.now) (g.K.Keeper.faults c.init.new.keeper)
-    (seen (g.O.Sink.written c.args.out.now) (g.O.Sink.faults c.args.out.now)) (seen (g.O.Sink.written c.init.new.out) (g.O.Sink.faults c.init.new.out)) c.init.ensures.ends))
+    (seen (g.O.Sink.written c.args.out.now) (g.O.Sink.faults c.args.out.now)) (seen (g.O.Sink.written c.init.new.out) (g.O.Sink.faults c.init.new.out)) c.init.ensures.bounded c.init.ensures.ends))
 
 pub returns-in-Sheet-clause-says : goal.returns-in-Sheet-clause-says
 returns-in-Sheet-clause-says g c =

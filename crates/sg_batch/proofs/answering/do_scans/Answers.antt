@@ -5,7 +5,7 @@ use Rattle.sg_batch.proofs.ScanEnds.{does_lines, does_lost, does_refused, does_u
 use Rattle.sg_batch.proofs.answering.do_scans.Goals as goal
 
 pub answer_lines-requires : goal.answer_lines-requires
-answer_lines-requires g c = c.in-Scans.ensures.0.0
+answer_lines-requires g c = c.in-Scans.ensures.reads.0.0
 
 pub returns-in-Scans-clause-does : goal.returns-in-Scans-clause-does
 returns-in-Scans-clause-does g c = λ history stands.
@@ -24,7 +24,7 @@ returns-in-Scans-clause-does g c = λ history stands.
       keep_faults = g.K.Keeper.faults c.answer_lines.new.keeper;
     } in
     does_lines c.answer_lines.result c.args.office.now.setup history (g.K.Keeper.tells c.args.keeper.now) (g.K.Keeper.rows c.args.keeper.now) (g.K.Keeper.rows c.answer_lines.new.keeper)
-    c.in-Scans.lines before now c.in-Scans.ensures (c.answer_lines.ensures.answers history stands)
+    c.in-Scans.lines before now c.in-Scans.ensures.reads (c.answer_lines.ensures.answers history stands)
 
 pub returns-in-Bad-clause-does : goal.returns-in-Bad-clause-does
 returns-in-Bad-clause-does g c = λ history stands.
@@ -41,7 +41,7 @@ returns-in-Bad-clause-does g c = λ history stands.
       read_faults = g.S.Source.faults c.read_scan_file.new.input;
       write_faults = g.O.Sink.faults c.refuse_file.new.out;
     } in
-    does_refused c.refuse_file.result c.in-Bad.why c.args.office.now.setup history (g.K.Keeper.tells c.args.keeper.now) (g.K.Keeper.rows c.args.keeper.now) before now refl c.in-Bad.ensures c.refuse_file.ensures
+    does_refused c.refuse_file.result c.in-Bad.why c.args.office.now.setup history (g.K.Keeper.tells c.args.keeper.now) (g.K.Keeper.rows c.args.keeper.now) before now refl c.in-Bad.ensures.reads c.refuse_file.ensures
 
 pub returns-in-Fault-clause-does : goal.returns-in-Fault-clause-does
 returns-in-Fault-clause-does g c = λ history stands.
@@ -53,7 +53,7 @@ returns-in-Fault-clause-does g c = λ history stands.
       keep_faults = g.K.Keeper.faults c.args.keeper.now;
     } in
     let now : Moment = record before { left = g.S.Source.left c.read_scan_file.new.input; read_faults = g.S.Source.faults c.read_scan_file.new.input } in
-    does_unread c.args.office.now.setup history (g.K.Keeper.tells c.args.keeper.now) (g.K.Keeper.rows c.args.keeper.now) before now refl refl c.in-Fault.ensures
+    does_unread c.args.office.now.setup history (g.K.Keeper.tells c.args.keeper.now) (g.K.Keeper.rows c.args.keeper.now) before now refl refl c.in-Fault.ensures.reads
 
 pub returns-in-NoMemory-clause-does : goal.returns-in-NoMemory-clause-does
 returns-in-NoMemory-clause-does g c = λ history stands.

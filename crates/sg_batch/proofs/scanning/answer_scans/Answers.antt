@@ -25,7 +25,7 @@ returns-in-Office-clause-says g c =
     rw c.scans_status.ensures
     (scans_talk c.do_scans.result c.in-Office.office (g.K.Keeper.tells c.args.keeper.now) (g.K.Keeper.tells c.open_kept.new.keeper)
     (g.K.Keeper.rows c.args.keeper.now) (g.K.Keeper.rows c.open_kept.new.keeper) (g.K.Keeper.rows c.do_scans.new.keeper) before now (g.K.Keeper.faults c.open_kept.new.keeper)
-    c.office_law.ensures c.in-Office.ensures.opens c.in-Office.ensures.told c.in-Office.ensures.same c.in-Office.ensures.later c.do_scans.ensures.does)
+    c.in-Office.ensures.starts c.in-Office.ensures.opens c.in-Office.ensures.told c.in-Office.ensures.same c.in-Office.ensures.later c.do_scans.ensures.bounded c.do_scans.ensures.does)
 
 pub returns-in-Damaged-clause-says : goal.returns-in-Damaged-clause-says
 returns-in-Damaged-clause-says g c =

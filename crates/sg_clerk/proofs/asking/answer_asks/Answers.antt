@@ -23,7 +23,7 @@ returns-in-Office-clause-says g c =
     rw c.ending_status.ensures
     (office_talks c.do_lines.result c.in-Office.office (g.K.Keeper.tells c.args.keeper.now) (g.K.Keeper.tells c.open_kept.new.keeper)
     (g.K.Keeper.rows c.args.keeper.now) (g.K.Keeper.rows c.open_kept.new.keeper) (g.K.Keeper.rows c.do_lines.new.keeper) before now (g.K.Keeper.faults c.open_kept.new.keeper)
-    c.office_law.ensures c.in-Office.ensures.opens c.in-Office.ensures.told c.in-Office.ensures.same c.in-Office.ensures.later c.do_lines.ensures.does)
+    c.in-Office.ensures.starts c.in-Office.ensures.opens c.in-Office.ensures.told c.in-Office.ensures.same c.in-Office.ensures.later c.do_lines.ensures.does)
 
 pub returns-in-Damaged-clause-says : goal.returns-in-Damaged-clause-says
 returns-in-Damaged-clause-says g c =

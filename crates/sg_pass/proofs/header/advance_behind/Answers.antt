@@ -1,7 +1,7 @@
 use Rattle.std.proofs.Common.{Some, sym, ap, ◌∙◌}
+use Rattle.sg_grammar.specs.Head.{is_behind}
 use Rattle.sg_pass.proofs.Advancing.{kept_advances, kept_closed, kept_opens, opened_advances, opened_stands}
 use Rattle.sg_pass.proofs.header.advance_behind.Goals as goal
-use Rattle.sg_pass.specs.inside.Taking.{is_behind}
 use Rattle.sg_plan.specs.Limits.{fault_of}
 
 pub make-requires : goal.make-requires

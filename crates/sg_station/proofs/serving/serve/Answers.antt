@@ -23,7 +23,7 @@ returns-in-Office-clause-says g c =
     rw c.ending_status.ensures
     (office_serves c.serve_calls.result c.in-Office.office c.args.port c.args.count (g.K.Keeper.tells c.args.keeper.now) (g.K.Keeper.tells c.open_kept.new.keeper)
     (g.K.Keeper.rows c.args.keeper.now) (g.K.Keeper.rows c.open_kept.new.keeper) (g.K.Keeper.rows c.serve_calls.new.keeper) before now (g.K.Keeper.faults c.open_kept.new.keeper)
-    c.office_law.ensures c.in-Office.ensures.opens c.in-Office.ensures.told c.in-Office.ensures.same c.in-Office.ensures.later c.serve_calls.ensures.serves)
+    c.in-Office.ensures.starts c.in-Office.ensures.opens c.in-Office.ensures.told c.in-Office.ensures.same c.in-Office.ensures.later c.serve_calls.ensures.serves)
 
 pub returns-in-Damaged-clause-says : goal.returns-in-Damaged-clause-says
 returns-in-Damaged-clause-says g c =

@@ -1,4 +1,4 @@
-use Rattle.std.proofs.Common.{◌-◌, ◌≤◌, ap, length, ne_eqb, slice_get, sym, arith}
+use Rattle.std.proofs.Common.{◌-◌, ◌≤◌, ap, length, ne_eqb, sym, arith}
 use Rattle.std.proofs.lemmas.Option.{slice_get_past}
 use Rattle.sg_plan.proofs.IndexLists.{length-numbers}
 use Rattle.sg_plan.specs.Ballots.{ballot_styles}

@@ -1,0 +1,106 @@
+-- What `record` writes of told rows only grows, with each command.
+use Rattle.std.proofs.Common.{◌≡◌, ℕ, List, [], ◌++◌, Option, Some, None, inl, inr, refl, ap, sym, subst, ◌∙◌, append-nil}
+use Rattle.sg_outside.specs.Streams.{Seen}
+use Rattle.sg_keeper.specs.SetupReading.{setup_in}
+use Rattle.sg_keeper.specs.declared.rows.Rows.{Rows}
+use Rattle.sg_keeper.specs.declared.setup.Setup.{Setup}
+use Rattle.sg_keeper.proofs.SetupLaw.{setups_are_spelled}
+use Rattle.sg_desks.specs.ActReading.{act_in}
+use Rattle.sg_histories.specs.Histories.{Entry}
+use Rattle.sg_histories.specs.KeptRows.{rows_of}
+use Rattle.sg_histories.specs.Lawful.{Lawful}
+use Rattle.sg_histories.specs.ValidRows.{Whole, damage_of, opening, opening_of, opens_as, opens_from, opens_with}
+use Rattle.sg_histories.proofs.BackAll.{setup_kept}
+use Rattle.sg_histories.proofs.Opening.{lawful_rows_open, open_rows_are_lawful}
+use Rattle.sg_keeper.specs.SetupText.{setup_text}
+use Rattle.sg_clerk.specs.Asked.{DoSays}
+use Rattle.sg_clerk.specs.Begun.{Beginning, InitSays, IsCut, Refusing, StatusSays}
+use Rattle.sg_clerk.specs.Ends.{Moment}
+use Rattle.sg_clerk.specs.Laws.{KeepsPosted, KeepsRecord, PostedGrows}
+use Rattle.sg_clerk.specs.Shown.{IsDueOf, posted_of}
+use Rattle.sg_clerk.proofs.Keeping.{talks_keep_record}
+
+-- ROWS OF ONE SETUP
+
+whole_same : (a b : Setup) → Whole a ≡ Whole b → a ≡ b
+whole_same a b e = cc
+
+-- the text of a setup that is in rows is read as the setup that they open to
+whole_read : (setup : Setup) (rows : Rows) (text : List ℕ) → opening rows ≡ Whole setup → rows.setup ≡ Some text → setup_in text ≡ Some setup
+unfolding opening_of
+whole_read setup rows text whole is = by_setup (setup_in text) refl (ap (λ (t : Option (List ℕ)). opens_from setup_in act_in rows t) (sym is) ∙ whole)
+  where
+    by_damage : (found : Setup) (damage : Option (ℕ × ℕ)) → opens_as found damage ≡ Whole setup → found ≡ setup
+    by_damage found None e = whole_same found setup e
+    by_damage found (Some damage) e = cc
+
+    by_setup : (found : Option Setup) → setup_in text ≡ found → opens_with act_in rows found ≡ Whole setup → setup_in text ≡ Some setup
+    by_setup None read e = cc
+    by_setup (Some found) read e = read ∙ ap Some (by_damage found (damage_of found (act_in found.plan.version) rows) e)
+
+-- the rows of a later history of that setup open to it
+later_whole : (setup : Setup) (rows rows' : Rows) (text : List ℕ) (history next : List Entry) → opening rows ≡ Whole setup → rows ≡ rows_of setup text history → rows' ≡ rows_of setup text next
+    → Lawful setup next → opening rows' ≡ Whole setup
+later_whole setup rows rows' text history next whole is is' lawful =
+    let read = whole_read setup rows text whole (ap (λ (r : Rows). r.setup) is ∙ setup_kept setup text history) in
+    let said = setups_are_spelled text setup read in
+    ap opening (is' ∙ ap (λ (t : List ℕ). rows_of setup t next) said.2) ∙ lawful_rows_open setup next said.0 said.1 lawful
+
+-- WHAT GROWS
+
+-- what is posted of rows before a talk is a front of what is posted of those behind it
+pub talk_grows : (setup : Setup) (start next : List Entry) (rows rows' : Rows) → opening rows ≡ Whole setup → Lawful setup start → (text : List ℕ) → rows ≡ rows_of setup text start → rows' ≡ rows_of setup text next
+    → KeepsRecord setup start next → KeepsPosted rows rows'
+talk_grows setup start next rows rows' whole lawful text is is' keeps other opens =
+    subst (λ (s : Setup). PostedGrows s rows rows') (whole_same setup other (sym whole ∙ opens)) (record {
+      whole = later_whole setup rows rows' text start next whole is is' keeps.lawful;
+      front = λ due due' first last.
+          let early : due ≡ posted_of setup start = first text start lawful is in
+          let late : due' ≡ posted_of setup next = last text next keeps.lawful is' in
+          (keeps.posted.0, late ∙ (keeps.posted.1 ∙ ap (λ (p : List ℕ). p ++ keeps.posted.0) (sym early)));
+    })
+
+-- of the same rows it is the same
+pub same_grows : (rows rows' : Rows) → rows' ≡ rows → KeepsPosted rows rows'
+same_grows rows rows' same setup opens =
+    let found = open_rows_are_lawful setup rows opens in
+    record {
+      whole = ap opening same ∙ opens;
+      front = λ due due' first last.
+          let early : due ≡ posted_of setup found.history = first (setup_text setup) found.history found.lawful found.rows_are in
+          let late : due' ≡ posted_of setup found.history = last (setup_text setup) found.history found.lawful (same ∙ found.rows_are) in
+          ([], late ∙ (sym early ∙ sym (append-nil due)));
+    }
+
+-- of no rows nothing is said
+none_grows : (rows rows' : Rows) → rows.setup ≡ None → KeepsPosted rows rows'
+unfolding opening_of
+none_grows rows rows' none setup opens = absurd (empty_is (ap (λ (t : Option (List ℕ)). opens_from setup_in act_in rows t) (sym none) ∙ opens))
+  where
+    empty_is : opens_from setup_in act_in rows None ≡ Whole setup → ⊥
+    empty_is e = cc
+
+-- `do`
+pub do_grows : (status : ℕ) (tells : Type 0) (rows rows' : Rows) (before now : Moment) → DoSays status tells rows rows' before now → tells → KeepsPosted rows rows'
+do_grows status tells rows rows' before now (inl talks) told =
+    let from = talks.from told in
+    let does = talks.does in
+    talk_grows talks.setup talks.start does.next rows rows' (talks.whole told) talks.lawful from.0 from.1 (does.kept told from.0 from.1)
+    (talks_keep_record talks.setup does.exchanges talks.start does.next talks.lawful does.talk)
+do_grows status tells rows rows' before now (inr closed) told = same_grows rows rows' (closed.same told)
+
+-- `init`
+pub init_grows : (status : ℕ) (input input' : Seen) (tells : Type 0) (rows rows' : Rows) (faults faults' : ℕ) (out out' : Seen) → InitSays status input input' tells rows rows' faults faults' out out' → tells → KeepsPosted rows rows'
+init_grows status input input' tells rows rows' faults faults' out out' ended told = by_status ended.says
+  where
+    by_line : IsCut input tells rows rows' out out' → KeepsPosted rows rows'
+    by_line (Beginning set_up front) = none_grows rows rows' (set_up.fresh told)
+    by_line (Refusing why cause same front) = same_grows rows rows' (same told)
+
+    by_status : StatusSays status input input' tells rows rows' faults faults' out out' → KeepsPosted rows rows'
+    by_status (inl says) = none_grows rows rows' (says.1.set_up.fresh told)
+    by_status (inr (inl says)) = same_grows rows rows' (says.1.same told)
+    by_status (inr (inr (inl says))) = by_line says.1.cut
+    by_status (inr (inr (inr (inl says)))) = same_grows rows rows' (says.1.same told)
+    by_status (inr (inr (inr (inr (inl says))))) = same_grows rows rows' (says.1.same told)
+    by_status (inr (inr (inr (inr (inr says))))) = same_grows rows rows' (says.1.same told)
