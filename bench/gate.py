@@ -27,7 +27,7 @@ def processes():
                 cwd = os.readlink(f"/proc/{name}/cwd")
             except OSError:
                 continue
-            yield int(name), int(words[1]), sum(map(int, words[11:15])) / TICKS, command, cwd
+            yield int(name), int(words[1]), sum(map(int, words[11:13])) / TICKS, command, cwd
 
 
 def kind_of(command, cwd):

@@ -203,12 +203,12 @@ def body_of(client):
     return body if found and lengths == [len(body)] else None
 
 
-def time_of(office):
-    """The seconds that `do` takes for all asks, from the beginning."""
+def time_of(office, way):
+    """The seconds that `do` or `serve` takes for all asks, from the beginning."""
     office.anew()
     run(office.program, "init", office.file)
     start = time.perf_counter()
-    run(office.program, "do", b"\n".join(office.lines) + b"\n")
+    way(0, 3600)
     return time.perf_counter() - start
 
 
@@ -217,11 +217,14 @@ def main(program, times, folder, seed="1"):
     os.chdir(folder)
     office = Office(program, random.Random(int(seed)))
     office.without_kills()
-    longest = time_of(office)
+    ways = {"do": office.do, "serve": office.serve}
+    longest = {word: time_of(office, way) for word, way in ways.items()}
     rounds = 0
     while office.kills["do"] + office.kills["serve"] < int(times):
-        office.round(office.do if rounds % 2 == 0 else office.serve, longest)
+        word = min(ways, key=office.kills.get)
+        office.round(ways[word], longest[word])
         rounds += 1
+        print("%d kills in %d days" % (office.kills["do"] + office.kills["serve"], rounds), file=sys.stderr)
     kills = office.kills
     print(
         "%d kills of do, %d of serve and %d of init in %d days of %d asks: %d times asks were not answered, %d answered acts were sent again; each reply, record and sheet as without kills"

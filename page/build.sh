@@ -9,8 +9,8 @@
 # Debian 12 has it (apt-get install binaryen). Another version of either may make other bytes.
 #
 # `rattle build` gives the proved crate to clang as one LLVM module. The kit's compiler for wasm64 refuses crates that take
-# memory, so that module is compiled for WebAssembly here: retarget.py says how. wasm-opt then makes its memory one of 32 bits,
-# which each browser has.
+# memory, so that module is compiled for WebAssembly here: retarget.py says how. lower.py then makes its memory one of 32 bits,
+# which each browser has, by wasm-opt.
 set -euo pipefail
 top=$(cd "$(dirname "$0")/.." && pwd)
 page=$top/page
@@ -61,8 +61,7 @@ toolchain
 module
 cd "$page"
 python3 retarget.py out/module.bc heap.c out/sg_page64.wasm
-wasm-opt --enable-memory64 --enable-bulk-memory --enable-sign-ext --enable-mutable-globals --enable-nontrapping-float-to-int \
-    --enable-multivalue out/sg_page64.wasm --memory64-lowering -o out/sg_page.wasm
+python3 lower.py out/sg_page64.wasm out/sg_page.wasm
 python3 make_page.py out/sg_page.wasm out/voldkaumi-check.html
 
 sums() { sha256sum out/module.bc out/sg_page.wasm; (cd out && sha256sum voldkaumi-check.html); }

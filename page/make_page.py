@@ -26,7 +26,8 @@ def main(module, out):
     with open(module, "rb") as file:
         wasm = base64.b64encode(file.read()).decode()
     style = part("style.css")
-    script = "\n".join(['"use strict";', "const WASM = %s;" % json.dumps(wasm), "const WORKER = %s;" % json.dumps(part("worker.js")), part("words.js"), part("page.js")])
+    known = json.dumps({"record": part("known.record"), "report": part("known.report")})
+    script = "\n".join(['"use strict";', "const WASM = %s;" % json.dumps(wasm), "const KNOWN = %s;" % known, "const WORKER = %s;" % json.dumps(part("worker.js")), part("words.js"), part("page.js")])
     assert "</" not in script and "</" not in style
     policy = "default-src 'none'; script-src %s 'wasm-unsafe-eval'; worker-src blob:; style-src %s; form-action 'none'; base-uri 'none'" % (named(script), named(style))
     page = part("page.html")

@@ -21,8 +21,7 @@ WORDS = f"""--target={TARGET} -mcpu=lime1 -mllvm -expand-div-rem-bits=64 -mllvm 
 -fdata-sections -mllvm -trap-unreachable -mllvm -disable-machine-licm -mllvm -disable-postra-machine-licm
 -mllvm -sink-common-insts=false --no-default-config -no-canonical-prefixes -fintegrated-cc1 -fno-crash-diagnostics -Werror
 -c""".split()
-FEATURES = os.environ.get("FEATURES", "")
-CPU = '"no-builtin-bcmp" "no-builtin-memcmp" "no-builtin-strlen" "target-cpu"="lime1"' + (f' "target-features"="{FEATURES}"' if FEATURES else "")
+CPU = '"no-builtin-bcmp" "no-builtin-memcmp" "no-builtin-strlen" "target-cpu"="lime1" "target-features"="+simd128"'
 HEAP = ("rattle_alloc", "rattle_realloc", "rattle_dealloc")
 STACK = "1048576"
 GUARDED = """

@@ -33,18 +33,19 @@ for (const key of Object.keys(WORDS)) {
 
 // ---- The worker ----
 
+const WARM = 300; // milliseconds of judging a known record, before a file comes
 let worker, waits, next = 1, ticking = 0, stageOf = "";
-const engine = { size: 0, failed: "" };
+const engine = { size: 0, strange: false, failed: "" };
 
 function startWorker() {
   waits = new Map();
   worker = new Worker(URL.createObjectURL(new Blob([WORKER], { type: "text/javascript" })));
   worker.onmessage = ({ data }) => (data.id ? answered(data) : progressed(data));
   worker.onerror = e => { engine.failed = e.message || "worker"; showEngine(); };
-  return ask("load", { wasm: WASM }).then(
-    () => { engine.size = Math.round((WASM.length * 3) / 4096); showEngine(); },
-    e => { engine.failed = e.message; showEngine(); },
-  );
+  return ask("load", { wasm: WASM, known: KNOWN, ms: WARM }).then(
+    is => { engine.strange = !is; engine.size = Math.round((WASM.length * 3) / 4096); },
+    e => { engine.failed = e.message; },
+  ).then(showEngine);
 }
 
 function ask(name, more = {}) {
@@ -77,7 +78,7 @@ function stage(key, part) {
 }
 
 function showEngine() {
-  the("engine").textContent = engine.failed ? say("not_loaded", engine.failed) : engine.size ? say("loaded", engine.size) : "";
+  the("engine").textContent = engine.failed ? say("not_loaded", engine.failed) : engine.strange ? say("not_known") : engine.size ? say("loaded", engine.size) : "";
 }
 
 // ---- What is known of the files ----

@@ -116,6 +116,7 @@ const WORDS = {
     trust_4: "The same file can be checked by the program itself (voldkaumi audit), or by one that anybody writes, and the answer must be the same.",
     loaded: "The checking part is loaded ({0} KB).",
     not_loaded: "The checking part does not run in this browser ({0}). Take a newer one.",
+    not_known: "The checking part does not work in this browser: a record whose report is known got another one. Take another browser.",
     print: "Print this page",
   },
   de: {
@@ -234,6 +235,7 @@ const WORDS = {
     trust_4: "Dieselbe Datei kann das Programm selbst prüfen (voldkaumi audit) oder eines, das irgendjemand schreibt, und die Antwort muss dieselbe sein.",
     loaded: "Der Teil, der prüft, ist geladen ({0} KB).",
     not_loaded: "Der Teil, der prüft, läuft in diesem Browser nicht ({0}). Nehmen Sie einen neueren.",
+    not_known: "Der Teil, der prüft, arbeitet in diesem Browser nicht richtig: Ein Protokoll mit bekanntem Bericht bekam einen anderen. Nehmen Sie einen anderen Browser.",
     print: "Diese Seite drucken",
   },
 };

@@ -51,13 +51,24 @@ function written(call) {
   }
 }
 
+// Judges a known record for so many milliseconds, again and again, so that the browser has compiled what judges before a file
+// comes. Says whether each report was the known one.
+function tellsKnown({ record, report }, ms) {
+  begin();
+  const at = take(record.length), count = BigInt(record.length);
+  bytesAt(at, count).set(Uint8Array.from(record, sign => sign.charCodeAt(0)));
+  for (const end = performance.now() + ms; ;) {
+    const status = exports.page_audit(at, count, room.at, room.size, room.first);
+    if (status !== 0 || signs(bytesAt(room.at, numberAt(room.first))) !== report) return false;
+    if (performance.now() >= end) return true;
+  }
+}
+
 // What the module is asked. Each answer is looked at by the page alone.
 const asks = {
-  load({ wasm }) {
-    const start = performance.now();
+  load({ wasm, known, ms }) {
     module = new WebAssembly.Module(Uint8Array.from(atob(wasm), c => c.charCodeAt(0)));
-    begin();
-    return { ms: performance.now() - start };
+    return tellsKnown(known, ms);
   },
   audit({ file }) {
     const start = performance.now();

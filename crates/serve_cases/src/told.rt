@@ -1,9 +1,9 @@
 //! What is told of a run.
 use crate::fault::Fault;
 use crate::script::add_marked;
+use sg_clerk::{Ending, ending_status};
 use sg_keeper::{Keeper, Rows};
 use sg_links::Calls;
-use sg_station::{Ending, ending_status};
 use std::alloc::Global;
 
 /// Adds a line: a word, and bytes behind it.

@@ -7,6 +7,7 @@ use Rattle.std.specs.List.{flat_map, list_any, range_with_len}
 use Rattle.std.specs.Prelude.{count_by}
 use Rattle.sg_streams.specs.Numbers.{numbers_below}
 use Rattle.sg_grammar.specs.Due.{numbered}
+use Rattle.sg_check.proofs.Fronts.{any-at}
 use Rattle.sg_accepted.proofs.Sums.{tally}
 
 pub any-map : {A B : Type 0} (test : B → Bool) (f : A → B) (xs : List A) → list_any test (map f xs) ≡ list_any (λ x. test (f x)) xs
@@ -139,3 +140,20 @@ none-range p at (suc count) none = or_from (p at) (list_any p (range_with_len (a
 pub none-below : (p : ℕ → Bool) (count : ℕ) → ((k : ℕ) → k < count → p k ≡ false) → list_any p (numbers_below count) ≡ false
 unfolding numbers_below
 none-below p count none = none-range p 0 count (λ k below. none k (omega (arith, below)))
+
+-- one number of many passes, or none
+any-range : (test : ℕ → Bool) (at count : ℕ) → list_any test (range_with_len at count) ≡ list_any test (numbered (λ k. k ∷ []) at count)
+unfolding numbered
+any-range test at zero = refl
+any-range test at (suc count) = ap (λ (b : Bool). test at || b) (any-range test (at + 1) count)
+
+pub any-number : (test : ℕ → Bool) (count number : ℕ) → number < count → ((k : ℕ) → k < count → k ≢ number → test k ≡ false) → list_any test (numbers_below count) ≡ test number
+unfolding numbers_below
+any-number test count number below others =
+    any-range test 0 count
+    ∙ (any-at test (λ k. k ∷ []) 0 count number (omega arith) (omega (arith, below)) (λ k after before other. ap (λ (b : Bool). b || false) (others k (omega (arith, before)) other))
+    ∙ or_false (test number))
+  where
+    or_false : (b : Bool) → (b || false) ≡ b
+    or_false true = refl
+    or_false false = refl

@@ -30,17 +30,15 @@ use Rattle.sg_post.specs.Marks.{is_audit, is_audited, is_entry_of, told_audits}
 use Rattle.sg_post.specs.Posted.{audited_codes, audited_race_codes, code_in_row, code_line_of, race_codes_of}
 use Rattle.sg_post.specs.declared.story.Told.{Told}
 use Rattle.sg_accepted.proofs.Counted.{count-either, count-row}
-use Rattle.sg_accepted.proofs.Flag.{any-number}
 use Rattle.sg_check.proofs.Fronts.{any-before, any-behind}
-use Rattle.sg_accepted.proofs.Any.{any-flat, any-map, any-never, any-same, none-below, number-any, same_tests}
-use Rattle.sg_accepted.proofs.Blocks.{ShowsRight, block-sum, fates-right, fates_places, paper-is, told_places}
+use Rattle.sg_accepted.proofs.Any.{any-flat, any-map, any-never, any-number, any-same, none-below, number-any, same_tests}
+use Rattle.sg_accepted.proofs.Blocks.{ShowsRight, audit_place, block-sum, fate_places, fates-right, fates_places, paper-is, told_places}
 use Rattle.sg_accepted.proofs.Dispute.{block-any}
 use Rattle.sg_accepted.proofs.Given.{Gives, given-value}
 use Rattle.sg_accepted.proofs.Holds.{holds-none}
 use Rattle.sg_accepted.proofs.Rule.{IsToldAt, told-is}
 use Rattle.sg_accepted.proofs.Sums.{sum-flat, sum-map, sum-number, sum-ones, sum-same, sum-zero, tally}
 use Rattle.sg_record.proofs.PlacedBlocks.{cast_place}
-use Rattle.sg_accepted.proofs.StoryPlaces.{audit_place, fate_places}
 use Rattle.sg_post.proofs.MarkedCodes.{cast_codes_of, cast_overs}
 use Rattle.sg_plan.specs.Fates.{fate_fits}
 use Rattle.sg_accepted.specs.Unaltered.{IsTrueFate}

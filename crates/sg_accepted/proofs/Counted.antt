@@ -6,12 +6,14 @@ use Rattle.std.proofs.lemmas.Bool.{cases_eq, eq-eqb, ne_eqb}
 use Rattle.std.proofs.lemmas.List.Sums.{sum_by-append, sum_by-cons}
 use Rattle.std.proofs.lemmas.Nat.{div-mul-add, div_below}
 use Rattle.std.proofs.lemmas.List.Sorted.{sum_by-IsPermutation}
+use Rattle.sg_plan.proofs.Counting.{count_by-append}
 use Rattle.sg_plan.specs.Ballots.{entries_of}
 use Rattle.sg_plan.specs.declared.plan.Plan.{Plan}
 use Rattle.sg_tables.proofs.TableLaws.{pointer_laws}
 use Rattle.sg_tables.specs.Tables.{left_of}
-use Rattle.sg_streams.proofs.NumberLists.{numbers_below-append}
+use Rattle.sg_streams.proofs.NumberLists.{numbers_below-append, numbers_below-none, numbers_below-push}
 use Rattle.sg_streams.specs.Numbers.{numbers_below}
+use Rattle.sg_check.specs.Printings.{count_below}
 use Rattle.sg_accepted.proofs.Sums.{sum-map, tally}
 
 -- two tests of which at most one is passed
@@ -84,3 +86,15 @@ pub count-lefts : (plan : Plan) (seed : List ℕ) (race instance : ℕ) (p : ℕ
 count-lefts plan seed race instance p =
     sym (sum-map (λ e. tally (p e)) (left_of plan seed race instance) (numbers_below (entries_of plan race)))
     ∙ sum_by-IsPermutation (λ e. tally (p e)) (numbers_below (entries_of plan race)) (map (left_of plan seed race instance) (numbers_below (entries_of plan race))) (pointer_laws.lefts plan seed race instance).listed
+
+-- numbers that pass, in a list of all numbers and one by one
+pub below_counts : (test : ℕ → Bool) (count : ℕ) → count_by test (numbers_below count) ≡ count_below test count
+below_counts test zero = ap (count_by test) numbers_below-none
+below_counts test (suc count) =
+    let next : suc count ≡ count + 1 = omega arith in
+    let parts : count_by test (numbers_below (count + 1)) ≡ count_by test (numbers_below count) + count_by test (count ∷ [])
+    = ap (count_by test) (numbers_below-push count) ∙ count_by-append test (numbers_below count) (count ∷ []) in
+    let one = sum_by-cons (λ (k : ℕ). cond (test k) 1 0) count [] in
+    let none : count_by test [] ≡ 0 = refl in
+    let rest = below_counts test count in
+    ap (λ k. count_by test (numbers_below k)) next ∙ omega (arith, parts, one, none, rest)

@@ -32,14 +32,12 @@ use Rattle.sg_post.specs.Fits.{fates_fit}
 use Rattle.sg_post.specs.Posted.{audited_codes, code_in_row, code_line_of}
 use Rattle.sg_post.specs.declared.story.Claimed.{Claimed}
 use Rattle.sg_post.specs.declared.story.Told.{Told}
-use Rattle.sg_accepted.proofs.Flag.{any-number}
 use Rattle.sg_check.proofs.Fronts.{all-append, all-each, any-at, any-before, any-behind, any-others}
 use Rattle.sg_accepted.proofs.Late.{Good, good-append, good-each, good-one, good-others}
-use Rattle.sg_accepted.proofs.Any.{any-at_place, any-count, any-filter, any-flat, any-map, any-never, any-number_found, any-numbered, any-place, any-same, none-count, number-any, same_tests}
-use Rattle.sg_accepted.proofs.Blocks.{fates_places, sum-fates, told_places}
+use Rattle.sg_accepted.proofs.Any.{any-at_place, any-count, any-filter, any-flat, any-map, any-never, any-number, any-number_found, any-numbered, any-place, any-same, none-count, number-any, same_tests}
+use Rattle.sg_accepted.proofs.Blocks.{audit_place, fate_places, fates_places, sum-fates, told_places}
 use Rattle.sg_accepted.proofs.Rule.{code-value, no_marks}
 use Rattle.sg_record.proofs.PlacedBlocks.{cast_place}
-use Rattle.sg_accepted.proofs.StoryPlaces.{audit_place, fate_places}
 use Rattle.sg_post.proofs.MarkedCodes.{cast-counted, cast_codes_of, cast_overs, counted_codes, posts_code, right-same, shows_mark}
 use Rattle.sg_post.proofs.MarkedCodes.{posts_code}
 use Rattle.sg_accepted.specs.Unaltered.{IsRightClaim, fate_of}

@@ -1,8 +1,10 @@
 -- Kind path: rows lead each entry to its own place, and entries of a ballot row to different candidates.
-use Rattle.std.proofs.Common.{◌≡◌, ◌≢◌, ℕ, ◌/◌, ◌%◌, ◌<◌, ◌==◌, nat_lt, Bool, false, ◌&&◌, ◌||◌, inl, inr, List, [], ◌∷◌, ◌++◌, refl, sym, subst, ap, ◌∙◌}
+use Rattle.std.proofs.Common.{◌≡◌, ◌≢◌, ℕ, ◌/◌, ◌%◌, ◌<◌, ◌==◌, nat_lt, Bool, true, false, ◌&&◌, ◌||◌, inl, inr, List, [], ◌∷◌, ◌++◌, None, refl, sym, subst, ap, ◌∙◌}
 use Rattle.std.proofs.lemmas.Bool.{and_left, and_right, cases_eq, eq-eqb, ne_eqb}
-use Rattle.std.specs.List.{list_any}
+use Rattle.std.specs.List.{list_all, list_any}
 use Rattle.sg_plan.specs.Ballots.{candidates_of, entries_of}
+use Rattle.sg_plan.specs.Limits.{fault_of}
+use Rattle.sg_plan.specs.declared.plan.Draw.{Draw}
 use Rattle.sg_plan.specs.declared.plan.Plan.{Plan}
 use Rattle.sg_commit.specs.declared.Opening.{Opening}
 use Rattle.sg_tables.proofs.TableLaws.{entry_laws, opening_laws, pointer_laws}
@@ -13,17 +15,19 @@ use Rattle.sg_grammar.specs.Placed.Placed.{RowAt}
 use Rattle.sg_check.specs.Kinds.{bad_path, clashes_with, leads_elsewhere}
 use Rattle.sg_check.specs.Verdict.{late}
 use Rattle.sg_accepted.proofs.Late.{Good}
-use Rattle.sg_accepted.proofs.Opening.{OpensRight, OpensRow}
-use Rattle.sg_post.proofs.Each.{EachOf}
+use Rattle.sg_record.specs.Places.{places_in}
+use Rattle.sg_post.specs.Fits.{claim_fits, fates_fit}
+use Rattle.sg_post.specs.Posted.{posted_record}
+use Rattle.sg_post.specs.declared.story.Claimed.{Claimed}
+use Rattle.sg_post.specs.declared.story.Told.{Told}
+use Rattle.sg_facts.proofs.Each.{EachOf, of-append, of-into}
+use Rattle.sg_accepted.proofs.Opening.{OpensRow, opened-opens}
+use Rattle.sg_accepted.proofs.Posted.{SaysRight, all-right}
 
 -- a row opens what its tables say
 abbrev pub RowsRight : Plan → List ℕ → Placed → Type 0
 RowsRight plan seed (RowAt race instance number opening) = (number < entries_of plan race) × OpensRow plan seed race instance number opening
 RowsRight plan seed line = Unit {0}
-
-pub rows-right : (plan : Plan) (seed : List ℕ) (line : Placed) → OpensRight plan seed line → RowsRight plan seed line
-rows-right plan seed (RowAt race instance number opening) right = (right.2, right.3)
-rows-right plan seed line right = tt
 
 -- the pointers of a row that is opened on both sides are an entry and its place
 record Leads (plan : Plan) (seed : List ℕ) (race : ℕ) (left right : Opening) : Type 0 where
@@ -94,13 +98,19 @@ path-good plan seed before (RowAt race instance number (row.Left left)) all is =
 path-good plan seed before (RowAt race instance number (row.Right right)) all is = refl
 path-good plan seed before line all is = refl
 
-each-push : (P : Placed → Type 0) (xs : List Placed) (line : Placed) → EachOf P xs → P line → EachOf P (xs ++ line ∷ [])
-each-push P [] line all is = (is, tt)
-each-push P (x ∷ xs) line all is = (all.0, each-push P xs line all.1 is)
-
 -- all lines
-pub paths-good : (plan : Plan) (seed : List ℕ) (before lines : List Placed) → EachOf (RowsRight plan seed) before → EachOf (RowsRight plan seed) lines → Good (bad_path plan) before lines
+paths-good : (plan : Plan) (seed : List ℕ) (before lines : List Placed) → EachOf (RowsRight plan seed) before → EachOf (RowsRight plan seed) lines → Good (bad_path plan) before lines
 paths-good plan seed before [] all are = refl
 paths-good plan seed before (line ∷ lines) all are =
     ap (λ (b : Bool). b || late (bad_path plan) (before ++ line ∷ []) lines) (path-good plan seed before line all are.0)
-    ∙ paths-good plan seed (before ++ line ∷ []) lines (each-push (RowsRight plan seed) before line all are.0) are.1
+    ∙ paths-good plan seed (before ++ line ∷ []) lines (of-append (RowsRight plan seed) before (line ∷ []) all (are.0, tt)) are.1
+
+says-rows : (plan : Plan) (seed : List ℕ) (fates : List Told) (draw : Draw) (line : Placed) → SaysRight plan seed fates draw line → RowsRight plan seed line
+says-rows plan seed fates draw (RowAt race instance number opening) right = (right.0.2, rw right.1 (opened-opens plan seed fates draw race instance number))
+says-rows plan seed fates draw line right = tt
+
+pub paths-whole : (plan : Plan) (seed : List ℕ) (fates : List Told) (draw : Draw) (claims : List Claimed) → fault_of plan ≡ None → fates_fit plan 0 fates ≡ true → list_all (claim_fits plan) claims ≡ true
+    → Good (bad_path plan) [] (places_in (posted_record plan seed fates draw claims))
+paths-whole plan seed fates draw claims fine fit claimed =
+    let lines = places_in (posted_record plan seed fates draw claims) in
+    paths-good plan seed [] lines tt (of-into (SaysRight plan seed fates draw) (RowsRight plan seed) lines (says-rows plan seed fates draw) (all-right plan seed fates draw claims fine fit claimed))

@@ -1,14 +1,10 @@
 -- Kind pointer: posted pointers are below n, and no two rows of an instance open the same one on a side.
-use Rattle.std.proofs.Common.{◌≡◌, ◌≢◌, ℕ, ◌-◌, ◌<◌, nat_le, Bool, true, false, cond, List, ◌++◌, length, Some, refl, sym, subst, ◌∙◌, append_assoc, arith}
+use Rattle.std.proofs.Common.{◌≡◌, ◌≢◌, ℕ, ◌-◌, ◌<◌, nat_le, Bool, false, List, [], ◌++◌, Some, refl, sym, subst, ◌∙◌, arith}
 use Rattle.std.proofs.lemmas.Bool.{eq-eqb, ne_eqb}
 use Rattle.std.specs.List.{list_any}
 use Rattle.sg_plan.specs.Ballots.{entries_of}
 use Rattle.sg_plan.specs.declared.plan.Draw.{Draw}
-use Rattle.sg_plan.specs.declared.plan.Draw.TheVariants as drawn
 use Rattle.sg_plan.specs.declared.plan.Plan.{Plan}
-use Rattle.sg_plan.specs.declared.plan.Side.{Side}
-use Rattle.sg_plan.specs.declared.plan.Side.TheVariants as side
-use Rattle.sg_streams.specs.CoinSides.{coin_of, coin_seed}
 use Rattle.sg_tables.proofs.TableLaws.{opening_laws, pointer_laws}
 use Rattle.sg_tables.specs.Tables.{left_of as row_left, left_opening_of, right_of as row_right, right_opening_of}
 use Rattle.sg_forms.specs.declared.line.RowOpening.{RowOpening}
@@ -18,25 +14,16 @@ use Rattle.sg_grammar.specs.Placed.{Placed}
 use Rattle.sg_grammar.specs.Placed.Placed.{RowAt}
 use Rattle.sg_check.specs.Facts.{left_of, opens_left, opens_right, points_to, right_of}
 use Rattle.sg_check.specs.Kinds.{bad_left_pointer, bad_pointer, bad_right_pointer}
-use Rattle.sg_post.specs.Marks.{is_audited}
-use Rattle.sg_post.specs.Posted.{both_sides, one_side, opened_row}
+use Rattle.sg_post.specs.Posted.{opened_row, posted_record}
 use Rattle.sg_post.specs.declared.story.Told.{Told}
 use Rattle.sg_check.proofs.BitsFound.{not_le}
 use Rattle.sg_check.proofs.Fronts.{any-behind, any-none}
-use Rattle.sg_accepted.proofs.Late.{Good, good-each, good-one, neither, or_false}
-use Rattle.sg_accepted.proofs.Opening.{OpensRow}
-use Rattle.sg_accepted.proofs.StoryPlaces.{each_row, row_place, row_places}
-
--- what is opened of a row is what its tables say
-pub opened-opens : (plan : Plan) (seed : List ℕ) (fates : List Told) (draw : Draw) (race instance number : ℕ) → OpensRow plan seed race instance number (opened_row plan seed fates draw race instance number)
-unfolding opened_row
-opened-opens plan seed fates drawn.Full race instance number = (refl, refl)
-opened-opens plan seed fates (drawn.Public bytes) race instance number = at_audit (is_audited plan fates race (row_left plan seed race instance number)) (coin_of (coin_seed bytes) race instance number)
-  where
-    at_audit : (b : Bool) (s : Side) → OpensRow plan seed race instance number (cond b (both_sides plan seed race instance number) (one_side plan seed race instance number s))
-    at_audit true s = (refl, refl)
-    at_audit false side.Left = refl
-    at_audit false side.Right = refl
+use Rattle.sg_record.specs.Places.{places_in}
+use Rattle.sg_post.specs.declared.story.Claimed.{Claimed}
+use Rattle.sg_facts.proofs.Each.{of-none}
+use Rattle.sg_accepted.proofs.Late.{Good, good-one, neither, or_false}
+use Rattle.sg_accepted.proofs.Opening.{OpensRow, opened-opens}
+use Rattle.sg_accepted.proofs.Rows.{base-of, by_rows, is_row, row_place, row_places, rows-good, rows-same, rows_base, rows_before}
 
 -- a row with another left pointer does not open this one, nor one with another right pointer
 left-other : (plan : Plan) (seed : List ℕ) (race instance number v : ℕ) (opening : RowOpening) → OpensRow plan seed race instance number opening → row_left plan seed race instance number ≢ v → points_to v (left_of opening) ≡ false
@@ -48,30 +35,6 @@ right-other : (plan : Plan) (seed : List ℕ) (race instance number v : ℕ) (op
 right-other plan seed race instance number v (row.Left o) is other = refl
 right-other plan seed race instance number v (row.Right o) is other = rw is (ne_eqb (right_opening_of plan seed race instance number).value v (λ e. other (sym (opening_laws.right plan seed race instance number) ∙ e)))
 right-other plan seed race instance number v (row.Both o p) is other = rw is.1 (ne_eqb (right_opening_of plan seed race instance number).value v (λ e. other (sym (opening_laws.right plan seed race instance number) ∙ e)))
-
--- THE ROWS BEFORE A ROW: those of earlier races, of earlier instances, and earlier ones of the instance
-
-abbrev pub rows_before : Plan → (ℕ → ℕ → ℕ → List Placed) → ℕ → ℕ → ℕ → List Placed
-rows_before plan f race instance number =
-    numbered (λ r. each (λ i. each (f r i) 0 (entries_of plan r)) 0 plan.instances) 0 race
-    ++ (numbered (λ i. each (f race i) 0 (entries_of plan race)) 0 instance ++ numbered (f race instance) 0 number)
-
--- a kind that holds at each row behind all rows before it, holds of all rows
-pub rows-good : (bad : List Placed → Placed → Bool) (base : List Placed) (plan : Plan) (f : ℕ → ℕ → ℕ → List Placed)
-    → ((race instance number : ℕ) → race < length plan.races → instance < plan.instances → number < entries_of plan race → Good bad (base ++ rows_before plan f race instance number) (f race instance number))
-    → Good bad base (each_row plan f)
-unfolding each_row
-rows-good bad base plan f at_row =
-    good-each bad base (λ r. each (λ i. each (f r i) 0 (entries_of plan r)) 0 plan.instances) (length plan.races - 0)
-    (λ race in_race. good-each bad (base ++ numbered (λ r. each (λ i. each (f r i) 0 (entries_of plan r)) 0 plan.instances) 0 race) (λ i. each (f race i) 0 (entries_of plan race)) (plan.instances - 0)
-    (λ instance in_instances. good-each bad ((base ++ numbered (λ r. each (λ i. each (f r i) 0 (entries_of plan r)) 0 plan.instances) 0 race) ++ numbered (λ i. each (f race i) 0 (entries_of plan race)) 0 instance)
-    (f race instance) (entries_of plan race - 0)
-    (λ number in_rows. subst (λ (l : List Placed). Good bad l (f race instance number))
-    (joined base (numbered (λ r. each (λ i. each (f r i) 0 (entries_of plan r)) 0 plan.instances) 0 race) (numbered (λ i. each (f race i) 0 (entries_of plan race)) 0 instance) (numbered (f race instance) 0 number))
-    (at_row race instance number (omega (arith, in_race)) (omega (arith, in_instances)) (omega (arith, in_rows))))))
-  where
-    joined : (a b c d : List Placed) → a ++ (b ++ (c ++ d)) ≡ ((a ++ b) ++ c) ++ d
-    joined a b c d = sym (append_assoc a b (c ++ d)) ∙ sym (append_assoc (a ++ b) c d)
 
 -- a test that only rows of one instance can pass, and none of the earlier ones passes
 pub rows-none_before : (test : Placed → Bool) (base : List Placed) (plan : Plan) (f : ℕ → ℕ → ℕ → List Placed) (race instance number : ℕ)
@@ -141,3 +104,27 @@ module _ (plan : Plan) (seed : List ℕ) (fates : List Told) (draw : Draw) (base
       rows-good (bad_pointer plan) base plan f
       (λ race instance number in_race in_instances in_rows. good-one (bad_pointer plan) (base ++ rows_before plan f race instance number) (RowAt race instance number (opened_row plan seed fates draw race instance number))
       (row-fine race instance number in_rows (opened_row plan seed fates draw race instance number) (opened-opens plan seed fates draw race instance number)))
+
+-- THE RECORD
+
+no_left : (race instance v : ℕ) (line : Placed) → is_row line ≡ false → opens_left race instance v line ≡ false
+no_left race instance v (RowAt r i n opening) is = cc
+no_left race instance v line is = refl
+
+no_right : (race instance v : ℕ) (line : Placed) → is_row line ≡ false → opens_right race instance v line ≡ false
+no_right race instance v (RowAt r i n opening) is = cc
+no_right race instance v line is = refl
+
+pointer-other : (plan : Plan) (line : Placed) → is_row line ≡ false → (front : List Placed) → bad_pointer plan front line ≡ false
+pointer-other plan (RowAt r i n opening) is front = cc
+pointer-other plan line is front = refl
+
+pub pointers-whole : (plan : Plan) (seed : List ℕ) (fates : List Told) (draw : Draw) (claims : List Claimed) → Good (bad_pointer plan) [] (places_in (posted_record plan seed fates draw claims))
+pointers-whole plan seed fates draw claims =
+    let posted = posted_record plan seed fates draw claims in
+    let base = rows_base posted in
+    by_rows (bad_pointer plan) posted (pointer-other plan)
+    (subst (λ (l : List Placed). Good (bad_pointer plan) base l) (sym (rows-same plan seed fates draw))
+    (pointers-good plan seed fates draw base
+    (λ race instance v. of-none (opens_left race instance v) base (base-of (λ (line : Placed). opens_left race instance v line ≡ false) posted (no_left race instance v)))
+    (λ race instance v. of-none (opens_right race instance v) base (base-of (λ (line : Placed). opens_right race instance v line ≡ false) posted (no_right race instance v)))))

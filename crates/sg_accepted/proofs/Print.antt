@@ -29,14 +29,13 @@ use Rattle.sg_post.specs.Marks.{is_audited}
 use Rattle.sg_post.specs.Posted.{both_sides, one_side, opened_row}
 use Rattle.sg_post.specs.declared.story.Told.{Told}
 use Rattle.sg_accepted.proofs.Counted.{count-lefts}
-use Rattle.sg_accepted.proofs.Flag.{is_row}
 use Rattle.sg_check.proofs.Fronts.{all-append, all-each, given-before, given-behind, given-others}
-use Rattle.sg_accepted.proofs.Late.{Good, good-one, good-others}
-use Rattle.sg_accepted.proofs.Pointer.{rows-good, rows_before}
+use Rattle.sg_accepted.proofs.Late.{Good, good-one}
+use Rattle.sg_accepted.proofs.Marked.{is_some-cond}
+use Rattle.sg_accepted.proofs.Rows.{is_row, row_place, row_places, rows-good, rows_before}
 use Rattle.sg_accepted.proofs.Audits.{audited-code, audited-count, audited-paper}
 use Rattle.sg_accepted.proofs.Blocks.{fates_places}
 use Rattle.sg_accepted.proofs.Sums.{sum-none, sum-numbered, sum-others, sum-range, sum-same, tally}
-use Rattle.sg_accepted.proofs.StoryPlaces.{row_place, row_places}
 use Rattle.sg_accepted.specs.Unaltered.{IsTrueFate}
 use Rattle.sg_post.proofs.Each.{EachOf}
 
@@ -175,10 +174,6 @@ both-audited plan seed fates bytes race instance n = at_audit (is_audited plan f
     at_audit false side.Left = refl
     at_audit false side.Right = refl
 
-is_some-cond : (b : Bool) (v : ℕ) → is_some (cond b (Some v) None) ≡ b
-is_some-cond true v = refl
-is_some-cond false v = refl
-
 module _ (plan : Plan) (seed : List ℕ) (fates : List Told) (draw : Draw) (front : List Placed) (facts : PrintFacts plan seed fates draw front)
     (race instance number : ℕ) (in_race : race < length plan.races) (in_rows : number < entries_of plan race) where
   -- what the front says of the row's entry
@@ -316,10 +311,3 @@ prints-good plan seed fates draw base facts no_both =
 abbrev pub no_row : Placed → Bool
 no_row (RowAt race instance number opening) = false
 no_row line = true
-
-print-other : (plan : Plan) (before : List Placed) (line : Placed) → no_row line ≡ true → bad_print plan before line ≡ false
-print-other plan before (RowAt race instance number opening) is = cc
-print-other plan before line is = refl
-
-pub prints-others : (plan : Plan) (before lines : List Placed) → list_all no_row lines ≡ true → Good (bad_print plan) before lines
-prints-others plan before lines all = good-others (bad_print plan) no_row (print-other plan) before lines all

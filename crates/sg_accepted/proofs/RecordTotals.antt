@@ -1,38 +1,37 @@
 -- The totals of a posted record are those of its story.
-use Rattle.std.proofs.Common.{◌≡◌, ℕ, zero, suc, ◌+◌, ◌-◌, List, [], ◌∷◌, ◌++◌, length, true, Option, None, refl, subst, ap, ◌∙◌, arith}
+use Rattle.std.proofs.Common.{◌≡◌, ◌≢◌, ℕ, zero, suc, ◌+◌, ◌-◌, ◌<◌, ◌≤◌, List, [], ◌∷◌, ◌++◌, length, map, slice_index_or, Option, refl, subst, ap, ◌∙◌, append-nil, arith}
 use Rattle.std.proofs.lemmas.List.Concat.{flat_map-append}
-use Rattle.std.specs.List.{flat_map, list_all}
+use Rattle.std.specs.List.{flat_map}
 use Rattle.std.specs.Option.{option_map_or}
 use Rattle.sg_plan.specs.Ballots.{candidates_of}
-use Rattle.sg_plan.specs.Limits.{fault_of}
 use Rattle.sg_plan.specs.declared.plan.Draw.{Draw}
-use Rattle.sg_plan.specs.declared.plan.Draw.TheVariants as drawn
 use Rattle.sg_plan.specs.declared.plan.Plan.{Plan}
 use Rattle.sg_outside.specs.TextLines.{lines_of}
+use Rattle.sg_streams.specs.Numbers.{numbers_below}
+use Rattle.sg_tables.proofs.Lists.{get_or-map_below}
 use Rattle.sg_forms.specs.Said.{Said}
-use Rattle.sg_grammar.specs.Due.{each, lines_for, numbered}
+use Rattle.sg_grammar.specs.Due.{each, numbered}
 use Rattle.sg_grammar.specs.Placed.{Placed}
-use Rattle.sg_grammar.specs.Placed.Placed.{SealAt}
+use Rattle.sg_grammar.specs.Placed.Placed.{TotalAt}
 use Rattle.sg_grammar.specs.Walk.{Walked}
-use Rattle.sg_record.proofs.BlockLines.{numbered-same}
-use Rattle.sg_record.specs.Lines.{lines_in}
+use Rattle.sg_record.specs.Lines.{indexed, lines_in}
+use Rattle.sg_record.specs.Places.{commit_places, flag_places, places_in, posts, race_result_places, result_places, seal_place, set_places, total_place}
+use Rattle.sg_record.specs.declared.record.Record.{Record}
+use Rattle.sg_check.proofs.Verdicts.{one_verdict}
 use Rattle.sg_check.specs.Verdict.{IsVerdict, total_on, totals_in, totals_of}
 use Rattle.sg_check.specs.declared.judged.Judged.TheVariants as judged
 use Rattle.sg_check.specs.declared.judged.Total.{Total}
-use Rattle.sg_post.specs.Fits.{claim_fits, fates_fit}
-use Rattle.sg_post.specs.Marks.{flag_of, is_set}
-use Rattle.sg_post.specs.Posted.{posted_record, posted_text, seal_2}
+use Rattle.sg_post.specs.Marks.{total_of}
+use Rattle.sg_post.specs.Posted.{posted_record, posted_text}
 use Rattle.sg_post.specs.declared.story.Claimed.{Claimed}
 use Rattle.sg_post.specs.declared.story.Told.{Told}
-use Rattle.sg_post.proofs.Each.{EachOf, of-numbered}
-use Rattle.sg_accepted.proofs.Joining.{base_places, end-of, end_places, front-of, front_places, posted-rows}
-use Rattle.sg_accepted.proofs.Sections.{OfBlocks, fates-of, rows-of}
-use Rattle.sg_accepted.proofs.StoryWalks.{Walks, story-walks}
+use Rattle.sg_facts.proofs.Each.{EachOf, of-into}
+use Rattle.sg_facts.proofs.Rising.{IsPart, all-behind, behind_ballots, behind_commits, behind_results, blocks, blocks_are, commits_are, head, head_is, part_of, results-rise}
+use Rattle.sg_facts.proofs.Sections.{race_flags-of, race_sets-of, seals-of}
 use Rattle.sg_accepted.proofs.Law.{unaltered_is_accepted}
+use Rattle.sg_accepted.proofs.Rows.{indexed-numbers}
+use Rattle.sg_accepted.proofs.StoryWalks.{Walks, story-walks}
 use Rattle.sg_accepted.specs.Totals.{UnalteredHasTotals, UnalteredIsNeverNo, one_total, told_totals}
-use Rattle.sg_check.proofs.Verdicts.{one_verdict}
-use Rattle.sg_record.specs.Places.{draw_place, posts}
-use Rattle.sg_accepted.proofs.StoryPlaces.{ballot_places, flag_place, instance_flag_places, place_bits, posted_places, race_flag_places, race_result_places, race_set_places, race_total_places, result_places, row_bits, row_places, set_place, total_place}
 
 -- over the lines in their places
 totals-posts : (version : ℕ) (lines : List Said) (places : List Placed) → length lines ≡ length places → totals_in (posts version lines places) ≡ flat_map total_on places
@@ -54,11 +53,7 @@ behind-none : (xs ys : List Placed) → EachOf HasNone xs → flat_map total_on 
 behind-none xs ys all = flat_map-append total_on xs ys ∙ ap (λ (l : List Total). l ++ flat_map total_on ys) (none-of xs all)
 
 before-none : (xs ys : List Placed) → EachOf HasNone ys → flat_map total_on (xs ++ ys) ≡ flat_map total_on xs
-before-none xs ys all = flat_map-append total_on xs ys ∙ (ap (λ (l : List Total). flat_map total_on xs ++ l) (none-of ys all) ∙ append_none (flat_map total_on xs))
-  where
-    append_none : (l : List Total) → l ++ [] ≡ l
-    append_none [] = refl
-    append_none (x ∷ xs) = ap (λ l. x ∷ l) (append_none xs)
+before-none xs ys all = flat_map-append total_on xs ys ∙ (ap (λ (l : List Total). flat_map total_on xs ++ l) (none-of ys all) ∙ append-nil (flat_map total_on xs))
 
 flat-numbered : (f : ℕ → List Placed) (at count : ℕ) → flat_map total_on (numbered f at count) ≡ numbered (λ k. flat_map total_on (f k)) at count
 unfolding numbered
@@ -66,58 +61,60 @@ flat-numbered f at zero = refl
 flat-numbered f at (suc count) =
     flat_map-append total_on (f at) (numbered f (at + 1) count) ∙ ap (λ (l : List Total). flat_map total_on (f at) ++ l) (flat-numbered f (at + 1) count)
 
-race-totals : (plan : Plan) (seed : List ℕ) (fates : List Told) (race : ℕ) → flat_map total_on (race_result_places plan seed fates race) ≡ each (one_total plan seed fates race) 0 (candidates_of plan race)
-race-totals plan seed fates race =
-    behind-none (race_flag_places plan seed fates race) (race_set_places plan seed fates race ++ race_total_places plan seed fates race)
-    (of-numbered HasNone (λ instance. instance_flag_places race instance (row_bits plan (flag_of plan seed fates) race instance)) 0 (plan.instances - 0)
-    (λ instance a b. of-numbered HasNone (λ line. flag_place race instance (row_bits plan (flag_of plan seed fates) race instance) line ∷ []) 0 (lines_for (length (row_bits plan (flag_of plan seed fates) race instance)) - 0) (λ line x y. (refl, tt))))
-    ∙ (behind-none (race_set_places plan seed fates race) (race_total_places plan seed fates race)
-    (of-numbered HasNone (set_place race (place_bits plan (is_set plan seed fates) race)) 0 (lines_for (length (place_bits plan (is_set plan seed fates) race)) - 0) (λ line x y. (refl, tt)))
-    ∙ flat-numbered (total_place plan seed fates race) 0 (candidates_of plan race - 0))
+-- lines of other parts have none
+other-none : (line : Placed) → part_of line ≢ 4 → HasNone line
+other-none (TotalAt race candidate count) other = absurd (other refl)
+other-none line other = refl
 
-results-totals : (plan : Plan) (seed : List ℕ) (fates : List Told) → flat_map total_on (result_places plan seed fates) ≡ told_totals plan seed fates
-unfolding result_places told_totals
-results-totals plan seed fates =
-    flat-numbered (race_result_places plan seed fates) 0 (length plan.races - 0)
-    ∙ numbered-same (λ race. flat_map total_on (race_result_places plan seed fates race)) (λ race. each (one_total plan seed fates race) 0 (candidates_of plan race)) 0 (length plan.races - 0) (λ race a. race-totals plan seed fates race)
+part-none : (part : ℕ) (lines : List Placed) → part ≢ 4 → EachOf (IsPart part) lines → EachOf HasNone lines
+part-none part lines other all = of-into (IsPart part) HasNone lines (λ line is. other-none line (λ e. other (let same : part ≡ 4 = omega (arith, is, e) in same))) all
 
-no-total-in : (plan : Plan) (seed : List ℕ) → OfBlocks HasNone plan seed
-no-total-in plan seed = record { begun = λ b. refl; code = λ k b r c x y z. refl; over = λ b r. refl; paper = λ b r l. refl }
+each-within : {A : Type 0} (f g : ℕ → List A) (at count : ℕ) → ((k : ℕ) → k < at + count → f k ≡ g k) → numbered f at count ≡ numbered g at count
+unfolding numbered
+each-within f g at zero same = refl
+each-within f g at (suc count) same =
+    ap (λ l. l ++ numbered f (at + 1) count) (same at (omega arith)) ∙ ap (λ l. g at ++ l) (each-within f g (at + 1) count (λ k b. same k (omega (arith, b))))
 
-draw-none : (draw : Draw) → HasNone (draw_place draw)
-draw-none drawn.Full = refl
-draw-none (drawn.Public bytes) = refl
+module _ (plan : Plan) (seed : List ℕ) (fates : List Told) (draw : Draw) (claims : List Claimed) where
+  abbrev posted : Record
+  posted = posted_record plan seed fates draw claims
 
-places-totals : (plan : Plan) (seed : List ℕ) (fates : List Told) (draw : Draw) (claims : List Claimed) → fault_of plan ≡ None → fates_fit plan 0 fates ≡ true → list_all (claim_fits plan) claims ≡ true
-    → flat_map total_on (posted_places plan seed fates draw claims) ≡ told_totals plan seed fates
-unfolding base_places
-places-totals plan seed fates draw claims fine fit claimed =
-    let rows : List Placed = row_places plan seed fates draw in
-    let ends : List Placed = end_places plan seed fates draw claims in
-    let tail : List Placed = SealAt 2 (seal_2 plan seed fates) ∷ draw_place draw ∷ [] in
-    ap (flat_map total_on) (posted-rows plan seed fates draw claims)
-    ∙ (flat_map-append total_on (base_places plan seed fates draw) (rows ++ ends)
-    ∙ (ap (λ (l : List Total). flat_map total_on (base_places plan seed fates draw) ++ l)
-    (behind-none rows ends (rows-of HasNone plan seed fates draw (λ race instance number a b c. refl))
-    ∙ none-of ends (end-of HasNone plan seed fates draw claims fine claimed (λ number digest. refl) (no-total-in plan seed) (λ ballot race code word. refl)))
-    ∙ (append_none (flat_map total_on (base_places plan seed fates draw))
-    ∙ (behind-none (front_places plan seed) (ballot_places plan seed fates ++ (result_places plan seed fates ++ tail)) (front-of HasNone plan seed (λ said. refl) (λ r e a b. refl) (λ r i n a b c. refl) refl)
-    ∙ (behind-none (ballot_places plan seed fates) (result_places plan seed fates ++ tail) (fates-of HasNone plan seed 0 fates fine (no-total-in plan seed) fit)
-    ∙ (before-none (result_places plan seed fates) tail (refl, (draw-none draw, tt)) ∙ results-totals plan seed fates))))))
-  where
-    append_none : (l : List Total) → l ++ [] ≡ l
-    append_none [] = refl
-    append_none (x ∷ xs) = ap (λ l. x ∷ l) (append_none xs)
+  race-totals : (race : ℕ) → race < length plan.races → flat_map total_on (race_result_places posted race) ≡ each (one_total plan seed fates race) 0 (candidates_of plan race)
+  race-totals race within =
+      let flags = slice_index_or posted.flags race [] in
+      let sets = slice_index_or posted.places race [] in
+      let totals : slice_index_or posted.totals race [] ≡ map (total_of plan seed fates race) (numbers_below (candidates_of plan race))
+      = get_or-map_below (λ r. map (total_of plan seed fates r) (numbers_below (candidates_of plan r))) (length plan.races) race [] within in
+      behind-none (indexed (flag_places race) 0 flags) (set_places race sets ++ indexed (total_place race) 0 (slice_index_or posted.totals race [])) (race_flags-of HasNone race flags (λ i f b. refl))
+      ∙ (behind-none (set_places race sets) (indexed (total_place race) 0 (slice_index_or posted.totals race [])) (race_sets-of HasNone race sets (λ f b. refl))
+      ∙ (ap (λ (l : List ℕ). flat_map total_on (indexed (total_place race) 0 l)) totals
+      ∙ (ap (flat_map total_on) (indexed-numbers (total_place race) (total_of plan seed fates race) (candidates_of plan race))
+      ∙ flat-numbered (λ candidate. total_place race candidate (total_of plan seed fates race candidate)) 0 (candidates_of plan race - 0))))
+
+  results-totals : flat_map total_on (each (race_result_places posted) 0 (length plan.races)) ≡ told_totals plan seed fates
+  unfolding told_totals
+  results-totals =
+      flat-numbered (race_result_places posted) 0 (length plan.races - 0)
+      ∙ each-within (λ race. flat_map total_on (race_result_places posted race)) (λ race. each (one_total plan seed fates race) 0 (candidates_of plan race)) 0 (length plan.races - 0)
+      (λ race b. race-totals race (omega (arith, b)))
+
+  places-totals : flat_map total_on (places_in posted) ≡ told_totals plan seed fates
+  unfolding places_in
+  places-totals =
+      behind-none (head posted) (commit_places posted ++ behind_commits posted) (part-none 0 (head posted) (λ e. omega (arith, e)) (head_is posted))
+      ∙ (behind-none (commit_places posted) (behind_commits posted) (part-none 2 (commit_places posted) (λ e. omega (arith, e)) (commits_are posted))
+      ∙ (behind-none (blocks posted) (behind_ballots posted) (part-none 3 (blocks posted) (λ e. omega (arith, e)) (blocks_are posted))
+      ∙ (before-none (result_places posted) (behind_results posted)
+      (of-into (λ (line : Placed). 5 ≤ part_of line) HasNone (behind_results posted) (λ line less. other-none line (λ e. omega (arith, e, less))) (all-behind 5 (behind_results posted) (results-rise posted)))
+      ∙ (before-none (each (race_result_places posted) 0 (length plan.races)) (seal_place 2 posted.seals) (seals-of HasNone 2 posted.seals (λ d. refl)) ∙ results-totals))))
 
 pub unaltered_has_totals : UnalteredHasTotals
 unaltered_has_totals plan seed story fine unaltered =
     let walks : Walks plan seed story = story-walks plan seed story fine unaltered in
-    let lines : List Said = lines_in (posted_record plan seed story.fates walks.draw story.claims) in
-    let places : List Placed = posted_places plan seed story.fates walks.draw story.claims in
-    let long : length lines ≡ length places = walks.many in
+    let posted : Record = posted_record plan seed story.fates walks.draw story.claims in
     let same : totals_of (lines_of (posted_text plan seed story)) ≡ told_totals plan seed story.fates
     = ap (λ (o : Option Walked). option_map_or (λ (w : Walked). totals_in w.posted) o []) walks.walks
-    ∙ (totals-posts plan.version lines places long ∙ places-totals plan seed story.fates walks.draw story.claims fine walks.fit walks.claimed) in
+    ∙ (totals-posts plan.version (lines_in posted) (places_in posted) walks.many ∙ places-totals plan seed story.fates walks.draw story.claims) in
     subst (λ (t : List Total). IsVerdict (lines_of (posted_text plan seed story)) (judged.Yes t)) same (unaltered_is_accepted plan seed story fine unaltered)
 
 pub unaltered_is_never_no : UnalteredIsNeverNo

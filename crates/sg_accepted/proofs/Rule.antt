@@ -2,7 +2,7 @@
 use Rattle.std.proofs.Common.{◌≡◌, ◌≢◌, ℕ, zero, suc, ◌+◌, ◌-◌, ◌*◌, ◌<◌, ◌≤◌, ◌==◌, nat_le, nat_lt, Bool, true, false, ◌&&◌, ◌||◌, not, cond, inl, inr, List, [], ◌∷◌, ◌++◌, length, map, filter, slice_get, Some, None, refl, sym, subst, ap, ◌∙◌, arith, append_assoc}
 use Rattle.std.proofs.lemmas.Bool.{and_from, and_left, and_parts, and_right, cases_Bool, cases_eq, eq-eqb, eqb-true, lt-leb, ltb-true, ltb-false, ne_eqb, or_from, false_from_ne_true, true≢false}
 use Rattle.std.proofs.lemmas.List.Sums.{sum_by-append, sum_by-cons}
-use Rattle.std.specs.List.{list_all, list_any, range_with_len}
+use Rattle.std.specs.List.{flat_map, list_all, list_any, range_with_len}
 use Rattle.std.specs.Prelude.{count_by, sum_by}
 use Rattle.sg_plan.proofs.PlanLaws.{entry_tells}
 use Rattle.sg_plan.specs.Ballots.{ballot_has, ballot_row, candidates_of, entry_at, is_over, marks_in, races_of_ballot, votes_of}
@@ -20,7 +20,7 @@ use Rattle.sg_forms.specs.Said.Said.{Code, Over, Paper}
 use Rattle.sg_forms.specs.declared.line.CodeLine.{CodeLine}
 use Rattle.sg_grammar.specs.Due.{each}
 use Rattle.sg_grammar.specs.Placed.{Placed}
-use Rattle.sg_grammar.specs.Placed.Placed.{Begun, CodeAt, OverAt, PaperAt}
+use Rattle.sg_grammar.specs.Placed.Placed.{CodeAt, OverAt, PaperAt}
 use Rattle.sg_grammar.specs.declared.state.Block.{Block}
 use Rattle.sg_grammar.specs.declared.state.Block.TheVariants as block
 use Rattle.sg_record.specs.Lines.{cast_race_lines, paper_lines}
@@ -29,20 +29,21 @@ use Rattle.sg_check.specs.Facts.{marks_ballot}
 use Rattle.sg_check.specs.Kinds.{bad_rule, has_repeat, shows_against}
 use Rattle.sg_check.specs.Verdict.{late}
 use Rattle.sg_post.specs.Fits.{fates_fit}
-use Rattle.sg_post.specs.Posted.{audited_codes, code_in_row, code_line_of}
+use Rattle.sg_post.specs.Posted.{audited_codes, code_in_row, code_line_of, told_blocks}
 use Rattle.sg_post.specs.declared.story.Told.{Told}
 use Rattle.sg_accepted.proofs.Late.{Good}
-use Rattle.sg_accepted.proofs.Blocks.{ShowsRight, block-sum, fates-right, fates_places, sum-fates, told_places}
-use Rattle.sg_accepted.proofs.Holds.{holds-below, holds-filter, holds-among, holds-map, holds-none, holds-flat}
+use Rattle.sg_accepted.proofs.Blocks.{ShowsRight, audit_place, block-sum, fate_places, fates-right, fates_places, of-both, posted-blocks, sum-fates, told_places}
+use Rattle.sg_accepted.proofs.Holds.{holds-below, holds-filter, holds-none}
+use Rattle.sg_accepted.proofs.Posted.{HasBlock, fits-each, told-lines}
 use Rattle.sg_accepted.proofs.Sums.{count-one, sum-at, sum-filter, sum-flat, sum-map, sum-number, sum-others, sum-same, sum-zero, tally}
 use Rattle.sg_record.proofs.PlacedBlocks.{cast_place}
-use Rattle.sg_accepted.proofs.StoryPlaces.{audit_place, fate_places}
 use Rattle.sg_post.proofs.MarkedCodes.{cast-counted, cast_codes_of, cast_overs, counted_codes, shows_mark}
 use Rattle.sg_plan.specs.Fates.{fate_fits, mark_fits}
 use Rattle.sg_accepted.specs.Unaltered.{IsTrueFate, fate_of}
 use Rattle.sg_grammar.specs.Lines.{is_cast}
 use Rattle.sg_post.proofs.StoryFits.{fits-later, fits_ballot}
-use Rattle.sg_post.proofs.Each.{EachOf, of-append, of-into, of-numbered}
+use Rattle.sg_post.proofs.Each.{EachOf, of-append, of-flat, of-into}
+use Rattle.sg_facts.proofs.Sections.{blocks-of, papers-of}
 use Rattle.sg_post.proofs.OwnCodes.{marks-have}
 
 -- CODES OF ONE BALLOT
@@ -366,63 +367,21 @@ abbrev pub OverRight : Plan → List ℕ → List Told → Placed → Type 0
 OverRight plan seed fates (OverAt ballot race) = (race < length plan.races) × (marks_of plan seed ballot race (fate_of fates ballot) ≡ 0)
 OverRight plan seed fates line = Unit {0}
 
-over-lines : (plan : Plan) (seed : List ℕ) (fates : List Told) (ballot race : ℕ) (codes : List CodeLine) (marks : List Mark) → race < length plan.races → fate_of fates ballot ≡ fate.Cast marks
-    → EachOf (λ said. OverRight plan seed fates (cast_place ballot said)) (cast_race_lines codes (cast_overs plan marks) race)
-over-lines plan seed fates ballot race codes marks within is =
-    of-append (λ said. OverRight plan seed fates (cast_place ballot said)) (map Code (filter (λ code. code.race == race) codes)) (cond (list_any (λ over. over == race) (cast_overs plan marks)) (Over race ∷ []) [])
-    (codes-not (filter (λ code. code.race == race) codes))
-    (at_over (list_any (λ over. over == race) (cast_overs plan marks)) refl)
-  where
-    codes-not : (list : List CodeLine) → EachOf (λ said. OverRight plan seed fates (cast_place ballot said)) (map Code list)
-    codes-not [] = tt
-    codes-not (code ∷ list) = (tt, codes-not list)
+-- the races that are over on a ballot with this fate
+overs-right : (plan : Plan) (seed : List ℕ) (fates : List Told) (ballot : ℕ) (marks : List Mark) → fate_of fates ballot ≡ fate.Cast marks → EachOf (λ (race : ℕ). OverRight plan seed fates (OverAt ballot race)) (cast_overs plan marks)
+overs-right plan seed fates ballot marks is =
+    holds-filter (λ k. k < length plan.races) (λ (race : ℕ). OverRight plan seed fates (OverAt ballot race)) (is_over plan marks) (numbers_below (length plan.races)) (λ k below passes. (below, rw (is, passes) refl))
+    (holds-below (length plan.races))
 
-    at_over : (b : Bool) → list_any (λ over. over == race) (filter (is_over plan marks) (numbers_below (length plan.races))) ≡ b
-        → EachOf (λ said. OverRight plan seed fates (cast_place ballot said)) (cond b (Over race ∷ []) [])
-    at_over true among =
-        let over : is_over plan marks race ≡ true =
-        holds-among (λ r. is_over plan marks r ≡ true) (filter (is_over plan marks) (numbers_below (length plan.races))) race
-        (holds-filter (λ k. k < length plan.races) (λ r. is_over plan marks r ≡ true) (is_over plan marks) (numbers_below (length plan.races)) (λ k below passes. passes) (holds-below (length plan.races)))
-        among in
-        ((within, rw (is, over) refl), tt)
-    at_over false among = tt
-
-told-over : (plan : Plan) (seed : List ℕ) (fates : List Told) (ballot : ℕ) (what : Fate) → fate_of fates ballot ≡ what → EachOf (OverRight plan seed fates) (told_places plan seed ballot what)
-unfolding told_places
-told-over plan seed fates ballot fate.Unused is = tt
-told-over plan seed fates ballot (fate.Cast marks) is =
-    let codes = cast_codes_of plan seed marks ballot in
-    let lines = each (cast_race_lines codes (cast_overs plan marks)) 0 (length plan.races) in
-    of-append (OverRight plan seed fates) (Begun ballot ∷ map (cast_place ballot) lines) [] (
-      tt,
-      holds-map (λ said. OverRight plan seed fates (cast_place ballot said)) (OverRight plan seed fates) (cast_place ballot) lines (λ said right. right)
-          (of-numbered (λ said. OverRight plan seed fates (cast_place ballot said)) (cast_race_lines codes (cast_overs plan marks)) 0 (length plan.races - 0)
-          (λ race a b. over-lines plan seed fates ballot race codes marks (omega (arith, b)) is)),
-    ) tt
-told-over plan seed fates ballot fate.Spoiled is = (tt, tt)
-told-over plan seed fates ballot (fate.Audited paper) is =
-    let lines = paper_lines (races_of_ballot plan ballot) paper ++ map Code (audited_codes plan seed ballot) in
-    of-append (OverRight plan seed fates) (Begun ballot ∷ map (audit_place ballot) lines) [] (tt, none lines) tt
-  where
-    one : (said : Said) → OverRight plan seed fates (audit_place ballot said)
-    one (Paper r list) = tt
-    one (Code code) = tt
-    one said = tt
-
-    none : (list : List Said) → EachOf (OverRight plan seed fates) (map (audit_place ballot) list)
-    none [] = tt
-    none (said ∷ list) = (one said, none list)
-told-over plan seed fates ballot fate.Voided is = at_version (plan.version == 2)
-  where
-    at_version : (b : Bool) → EachOf (OverRight plan seed fates) (fate_places plan ballot (cond b posted.Voided posted.Spoiled) ++ [])
-    at_version true = (tt, tt)
-    at_version false = (tt, tt)
-
-pub fates-over : (plan : Plan) (seed : List ℕ) (last : ℕ) (fates : List Told) → fates_fit plan last fates ≡ true → EachOf (OverRight plan seed fates) (fates_places plan seed fates)
-unfolding fates_places
-fates-over plan seed last fates fit =
-    holds-flat (IsToldAt last fates) (OverRight plan seed fates) (λ told. told_places plan seed told.ballot told.fate) fates
-    (λ told is. told-over plan seed fates told.ballot told.fate is.1) (told-is plan last fates fit)
+pub fates-over : (plan : Plan) (seed : List ℕ) (last : ℕ) (fates : List Told) → fault_of plan ≡ None → fates_fit plan last fates ≡ true → EachOf (OverRight plan seed fates) (fates_places plan seed fates)
+fates-over plan seed last fates fine fit =
+    let P : Placed → Type 0 = OverRight plan seed fates in
+    subst (λ (l : List Placed). EachOf P l) (posted-blocks plan seed fates)
+    (blocks-of P (λ ballot. tt) plan (flat_map (told_blocks plan seed) fates)
+    (of-flat (HasBlock P plan) (λ (told : Told). fits_ballot plan told.ballot told.fate × IsToldAt last fates told) (told_blocks plan seed) fates
+    (λ told is. told-lines P plan seed fine (λ kind ballot race column has within below. tt) told.ballot told.fate is.0 (λ marks cast. overs-right plan seed fates told.ballot marks (is.1.1 ∙ cast))
+    (λ paper audited. papers-of P (λ ballot race list. tt) told.ballot (races_of_ballot plan told.ballot) paper))
+    (of-both (λ (told : Told). fits_ballot plan told.ballot told.fate) (IsToldAt last fates) fates (fits-each plan last fates fit) (told-is plan last fates fit))))
 
 -- THE KIND
 
@@ -522,4 +481,4 @@ rule-record plan seed last fates base rest fine fit true_fates quiet_base quiet_
     rules-good plan seed last fates [] (base ++ (blocks ++ rest)) fine fit facts tt
     (of-append (ShowsRight plan seed) base (blocks ++ rest) right_base (of-append (ShowsRight plan seed) blocks rest (fates-right plan seed last fates fine fit true_fates) right_rest))
     (of-append (OverRight plan seed fates) base (blocks ++ rest) (no-overs plan seed fates base quiet_base)
-    (of-append (OverRight plan seed fates) blocks rest (fates-over plan seed last fates fit) (no-overs plan seed fates rest quiet_rest)))
+    (of-append (OverRight plan seed fates) blocks rest (fates-over plan seed last fates fine fit) (no-overs plan seed fates rest quiet_rest)))

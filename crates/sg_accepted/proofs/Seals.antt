@@ -1,8 +1,7 @@
 -- Kind seal over a whole posted record: each of the three seals is over all lines before it.
-use Rattle.std.proofs.Common.{◌≡◌, ℕ, zero, suc, ◌+◌, ◌-◌, Bool, true, not, List, [], ◌∷◌, ◌++◌, length, map, slice_index_or, None, refl, sym, subst, ap, ◌∙◌, append_assoc, append-nil, arith}
+use Rattle.std.proofs.Common.{◌≡◌, ℕ, zero, suc, ◌+◌, ◌-◌, Bool, true, not, List, [], ◌∷◌, ◌++◌, length, map, slice_index_or, refl, sym, subst, ap, ◌∙◌, append_assoc, append-nil, arith}
 use Rattle.std.proofs.lemmas.List.{length-append, length-map}
 use Rattle.std.specs.List.{flat_map, list_all}
-use Rattle.sg_plan.specs.Limits.{fault_of}
 use Rattle.sg_plan.specs.declared.plan.Draw.{Draw}
 use Rattle.sg_plan.specs.declared.plan.Draw.TheVariants as drawn
 use Rattle.sg_plan.specs.declared.plan.Plan.{Plan}
@@ -21,17 +20,18 @@ use Rattle.sg_record.specs.declared.record.BlockFate.{BlockFate}
 use Rattle.sg_record.specs.declared.record.BlockFate.TheVariants as blocked
 use Rattle.sg_check.specs.Kinds.{is_bad}
 use Rattle.sg_check.specs.declared.judged.Kind.TheVariants as kind
-use Rattle.sg_post.specs.Fits.{claim_fits, fates_fit}
 use Rattle.sg_post.specs.Posted.{by_entry, by_row, code_commit_of, dispute_of, opened_row, posted_record, row_commit_of, seal_1, seal_2, seal_3, seal_over, told_blocks}
 use Rattle.sg_post.specs.declared.story.Claimed.{Claimed}
 use Rattle.sg_post.specs.declared.story.Told.{Told}
-use Rattle.sg_post.proofs.Each.{EachOf, of-all, of-append, of-test}
+use Rattle.sg_post.proofs.Each.{of-test}
+use Rattle.sg_facts.proofs.Each.{EachOf, of-append}
+use Rattle.sg_facts.proofs.Finding.{of-each}
+use Rattle.sg_facts.proofs.Sections.{ballots-of, codes-of, disputes-of, plan-of, race_results-of, row_commits-of, rows-of}
 use Rattle.sg_accepted.proofs.Late.{Good, good-append}
 use Rattle.sg_accepted.proofs.Seal.{is_seal, posts-append, section-good, unsealed-good}
-use Rattle.sg_accepted.proofs.Sections.{OfBlocks, claims-of, code_commits-of, fates-of, results-of, row_commits-of, rows-of}
-use Rattle.sg_record.specs.Places.{code_commit_place as record_code_place, draw_place, flag_place as record_flag_place, flag_places, instance_row_commit_places, instance_row_places, posts, race_code_commit_places, race_result_places as record_race_places, race_row_commit_places, race_row_places, row_commit_place as record_row_commit_place, row_place as record_row_place, set_place as record_set_place, set_places, total_place as record_total_place}
+use Rattle.sg_record.specs.Places.{block_places as record_block_places, code_commit_place, dispute_places, draw_place, flag_place, flag_places, instance_row_commit_places, instance_row_places, places_in, posts, race_code_commit_places, race_result_places, race_row_commit_places, race_row_places, row_commit_place, row_place, set_place, set_places, total_place}
 use Rattle.sg_record.proofs.PlacedBlocks.{cast_place}
-use Rattle.sg_accepted.proofs.StoryPlaces.{audit_place, ballot_places, block_places, claim_places, code_commit_places, codes-same, commits-same, fate_places, posted_places, result_places, results-same, row_commit_places, row_places, rows-same}
+use Rattle.sg_accepted.proofs.Blocks.{audit_place, fate-same, fate_places}
 use Rattle.sg_plan.specs.Ballots.{races_of_ballot}
 
 -- LISTS PUT TOGETHER OTHERWISE
@@ -43,19 +43,13 @@ group_front : {A : Type 0} (p c r s x : List A) → p ++ ((c ++ (r ++ s)) ++ x) 
 group_front p c r s x =
     ap (λ l. p ++ (l ++ x)) (sym (append_assoc c r s)) ∙ (ap (λ l. p ++ l) (append_assoc (c ++ r) s x) ∙ sym (append_assoc p (c ++ r) (s ++ x)))
 
--- the lines of a record, and their places
+-- the lines of a record, or their places
 group_lines : {A : Type 0} (p c r s b e t o u d : List A)
     → p ++ ((c ++ (r ++ s)) ++ (b ++ ((e ++ t) ++ ((o ++ u) ++ d)))) ≡ (p ++ (c ++ r)) ++ (s ++ ((b ++ e) ++ (t ++ (o ++ (u ++ d)))))
 group_lines p c r s b e t o u d =
     group_front p c r s (b ++ ((e ++ t) ++ ((o ++ u) ++ d)))
     ∙ ap (λ l. (p ++ (c ++ r)) ++ (s ++ l))
     (ap (λ l. b ++ l) (append_assoc e t ((o ++ u) ++ d)) ∙ (sym (append_assoc b e (t ++ ((o ++ u) ++ d))) ∙ ap (λ l. (b ++ e) ++ (t ++ l)) (append_assoc o u d)))
-
-group_places : {A : Type 0} (p c r s b e t o u d : List A)
-    → p ++ ((c ++ (r ++ s)) ++ (b ++ ((e ++ (t ++ (o ++ u))) ++ d))) ≡ (p ++ (c ++ r)) ++ (s ++ ((b ++ e) ++ (t ++ (o ++ (u ++ d)))))
-group_places p c r s b e t o u d =
-    ap (λ l. p ++ ((c ++ (r ++ s)) ++ (b ++ l))) (append_assoc e (t ++ (o ++ u)) d ∙ (ap (λ l. e ++ l) (append_assoc t (o ++ u) d) ∙ sym (append_assoc e t ((o ++ u) ++ d))))
-    ∙ group_lines p c r s b e t o u d
 
 -- A SECTION AND ITS SEAL
 
@@ -110,22 +104,31 @@ fate-length plan ballot blocked.Spoiled = refl
 fate-length plan ballot (blocked.Audited papers codes) = omega (arith, length-map (paper_lines (races_of_ballot plan ballot) papers ++ map Code codes) (audit_place ballot))
 fate-length plan ballot blocked.Voided = refl
 
-blocks-length : (plan : Plan) (blocks : List BallotBlock) → length (flat_map (block_lines plan) blocks) ≡ length (flat_map (block_places plan) blocks)
+blocks-length : (plan : Plan) (blocks : List BallotBlock) → length (flat_map (block_lines plan) blocks) ≡ length (flat_map (record_block_places plan) blocks)
 blocks-length plan [] = refl
 blocks-length plan (one ∷ blocks) =
-    omega (arith, length-append (block_lines plan one) (flat_map (block_lines plan) blocks), length-append (block_places plan one) (flat_map (block_places plan) blocks), fate-length plan one.ballot one.fate, blocks-length plan blocks)
+    omega (
+      arith,
+      length-append (block_lines plan one) (flat_map (block_lines plan) blocks),
+      length-append (record_block_places plan one) (flat_map (record_block_places plan) blocks),
+      fate-length plan one.ballot one.fate ∙ ap length (sym (fate-same plan one.ballot one.fate)),
+      blocks-length plan blocks,
+    )
 
 -- THE RECORD
-
--- blocks and disputes have no seal
-blocks-no_seal : (plan : Plan) (seed : List ℕ) → OfBlocks (λ (line : Placed). not (is_seal line) ≡ true) plan seed
-blocks-no_seal plan seed = record { begun = λ ballot. refl; code = λ k ballot race column a b c. refl; over = λ ballot race. refl; paper = λ ballot race list. refl }
 
 draw-no_seal : (draw : Draw) → not (is_seal (draw_place draw)) ≡ true
 draw-no_seal drawn.Full = refl
 draw-no_seal (drawn.Public bytes) = refl
 
+-- no line but a seal is one
+abbrev IsNoSeal : Placed → Type 0
+IsNoSeal line = not (is_seal line) ≡ true
+
 module _ (plan : Plan) (seed : List ℕ) (fates : List Told) (draw : Draw) (claims : List Claimed) where
+  abbrev record_of : Record
+  record_of = posted_record plan seed fates draw claims
+
   abbrev codes : List Said
   codes = indexed race_code_commit_lines 0 (by_entry plan (code_commit_of plan seed))
 
@@ -154,14 +157,32 @@ module _ (plan : Plan) (seed : List ℕ) (fates : List Told) (draw : Draw) (clai
   abbrev three : List Said
   three = draw_line draw ∷ rows
 
+  abbrev codes_places : List Placed
+  codes_places = indexed race_code_commit_places 0 record_of.code_commits
+
+  abbrev pairs_places : List Placed
+  pairs_places = indexed race_row_commit_places 0 record_of.row_commits
+
+  abbrev block_places : List Placed
+  block_places = flat_map (record_block_places plan) record_of.ballots
+
+  abbrev tally_places : List Placed
+  tally_places = each (race_result_places record_of) 0 (length plan.races)
+
+  abbrev rows_places : List Placed
+  rows_places = indexed race_row_places 0 record_of.rows
+
+  abbrev claim_places : List Placed
+  claim_places = flat_map dispute_places record_of.disputes
+
   abbrev one_places : List Placed
-  one_places = map OfPlan (plan_lines plan) ++ (code_commit_places plan seed ++ row_commit_places plan seed)
+  one_places = map OfPlan (plan_lines plan) ++ (codes_places ++ pairs_places)
 
   abbrev two_places : List Placed
-  two_places = ballot_places plan seed fates ++ result_places plan seed fates
+  two_places = block_places ++ tally_places
 
   abbrev three_places : List Placed
-  three_places = draw_place draw ∷ row_places plan seed fates draw
+  three_places = draw_place draw ∷ rows_places
 
   abbrev seal_line_1 : List Said
   seal_line_1 = Seal 1 (seal_1 plan seed) ∷ []
@@ -192,17 +213,15 @@ module _ (plan : Plan) (seed : List ℕ) (fates : List Told) (draw : Draw) (clai
       ∙ ap (λ (l : List Said). seal_over plan (((one ++ seal_line_1) ++ (two ++ seal_line_2)) ++ (draw_line draw ∷ l))) (append-nil rows))
 
   -- as many lines as places
-  codes_length : length codes ≡ length (code_commit_places plan seed)
+  codes_length : length codes ≡ length codes_places
   codes_length =
-      items-length race_code_commit_lines race_code_commit_places 0 (by_entry plan (code_commit_of plan seed)) (λ race digests. items-length (code_commit_line race) (record_code_place race) 0 digests (λ entry digest. refl))
-      ∙ ap length (codes-same plan seed)
+      items-length race_code_commit_lines race_code_commit_places 0 (by_entry plan (code_commit_of plan seed)) (λ race digests. items-length (code_commit_line race) (code_commit_place race) 0 digests (λ entry digest. refl))
 
-  pairs_length : length pairs ≡ length (row_commit_places plan seed)
+  pairs_length : length pairs ≡ length pairs_places
   pairs_length =
       items-length race_row_commit_lines race_row_commit_places 0 (by_row plan (row_commit_of plan seed))
       (λ race instances. items-length (instance_row_commit_lines race) (instance_row_commit_places race) 0 instances
-      (λ instance commits. items-length (row_commit_line race instance) (record_row_commit_place race instance) 0 commits (λ row commit. refl)))
-      ∙ ap length (commits-same plan seed)
+      (λ instance commits. items-length (row_commit_line race instance) (row_commit_place race instance) 0 commits (λ row commit. refl)))
 
   one_length : length one ≡ length one_places
   one_length =
@@ -212,12 +231,12 @@ module _ (plan : Plan) (seed : List ℕ) (fates : List Told) (draw : Draw) (clai
         pairs_length,
         length-append (plan_lines plan) (codes ++ pairs),
         length-append codes pairs,
-        length-append (map OfPlan (plan_lines plan)) (code_commit_places plan seed ++ row_commit_places plan seed),
-        length-append (code_commit_places plan seed) (row_commit_places plan seed),
+        length-append (map OfPlan (plan_lines plan)) (codes_places ++ pairs_places),
+        length-append codes_places pairs_places,
         length-map (plan_lines plan) OfPlan,
       )
 
-  race_length : (race : ℕ) → length (race_result_lines (posted_record plan seed fates draw claims) race) ≡ length (record_race_places (posted_record plan seed fates draw claims) race)
+  race_length : (race : ℕ) → length (race_result_lines (posted_record plan seed fates draw claims) race) ≡ length (race_result_places (posted_record plan seed fates draw claims) race)
   race_length race =
       let posted : Record = posted_record plan seed fates draw claims in
       let flags : List (List Bool) = slice_index_or posted.flags race [] in
@@ -227,34 +246,32 @@ module _ (plan : Plan) (seed : List ℕ) (fates : List Told) (draw : Draw) (clai
         arith,
         length-append (indexed (flag_lines race) 0 flags) (place_lines race places ++ indexed (total_line race) 0 totals),
         length-append (place_lines race places) (indexed (total_line race) 0 totals),
-        length-append (indexed (flag_places race) 0 flags) (set_places race places ++ indexed (record_total_place race) 0 totals),
-        length-append (set_places race places) (indexed (record_total_place race) 0 totals),
-        items-length (flag_lines race) (flag_places race) 0 flags (λ instance bits. numbers-length (flag_line race instance bits) (record_flag_place race instance bits) 0 (lines_for (length bits) - 0) (λ line. refl)),
-        numbers-length (place_line race places) (record_set_place race places) 0 (lines_for (length places) - 0) (λ line. refl),
-        items-length (total_line race) (record_total_place race) 0 totals (λ candidate count. refl),
+        length-append (indexed (flag_places race) 0 flags) (set_places race places ++ indexed (total_place race) 0 totals),
+        length-append (set_places race places) (indexed (total_place race) 0 totals),
+        items-length (flag_lines race) (flag_places race) 0 flags (λ instance bits. numbers-length (flag_line race instance bits) (flag_place race instance bits) 0 (lines_for (length bits) - 0) (λ line. refl)),
+        numbers-length (place_line race places) (set_place race places) 0 (lines_for (length places) - 0) (λ line. refl),
+        items-length (total_line race) (total_place race) 0 totals (λ candidate count. refl),
       )
 
-  tallies_length : length tallies ≡ length (result_places plan seed fates)
+  tallies_length : length tallies ≡ length tally_places
   tallies_length =
-      numbers-length (race_result_lines (posted_record plan seed fates draw claims)) (record_race_places (posted_record plan seed fates draw claims)) 0 (length plan.races - 0) race_length
-      ∙ ap length (results-same plan seed fates draw claims)
+      numbers-length (race_result_lines (posted_record plan seed fates draw claims)) (race_result_places (posted_record plan seed fates draw claims)) 0 (length plan.races - 0) race_length
 
   two_length : length two ≡ length two_places
   two_length =
       omega (
         arith,
         length-append blocks tallies,
-        length-append (ballot_places plan seed fates) (result_places plan seed fates),
+        length-append block_places tally_places,
         blocks-length plan (flat_map (told_blocks plan seed) fates),
         tallies_length,
       )
 
-  rows_length : length rows ≡ length (row_places plan seed fates draw)
+  rows_length : length rows ≡ length rows_places
   rows_length =
       items-length race_row_lines race_row_places 0 (by_row plan (opened_row plan seed fates draw))
       (λ race instances. items-length instance_row_lines (instance_row_places race) 0 instances
-      (λ instance openings. items-length row_line (record_row_place race instance) 0 openings (λ row opening. refl)))
-      ∙ ap length (rows-same plan seed fates draw)
+      (λ instance openings. items-length row_line (row_place race instance) 0 openings (λ row opening. refl)))
 
   three_length : length three ≡ length three_places
   three_length = omega (arith, rows_length)
@@ -262,46 +279,44 @@ module _ (plan : Plan) (seed : List ℕ) (fates : List Told) (draw : Draw) (clai
   both : {A B : Type 0} (a b : List A) (c d : List B) → length a ≡ length c → length b ≡ length d → length (a ++ b) ≡ length (c ++ d)
   both a b c d p q = omega (arith, length-append a b, length-append c d, p, q)
 
-  -- no line but the seals is one
+  -- the seals
   one_none : NoSeals one_places
   one_none =
-      of-append _ (map OfPlan (plan_lines plan)) (code_commit_places plan seed ++ row_commit_places plan seed) (of-all (λ (line : Placed). not (is_seal line) ≡ true) OfPlan (plan_lines plan) (λ said. refl))
-      (of-append _ (code_commit_places plan seed) (row_commit_places plan seed) (code_commits-of (λ (line : Placed). not (is_seal line) ≡ true) plan seed (λ race entry a b. refl))
-      (row_commits-of (λ (line : Placed). not (is_seal line) ≡ true) plan seed (λ race instance number a b c. refl)))
+      of-append IsNoSeal (map OfPlan (plan_lines plan)) (codes_places ++ pairs_places) (plan-of IsNoSeal plan (λ said. refl))
+      (of-append IsNoSeal codes_places pairs_places (codes-of IsNoSeal record_of (λ r e d. refl)) (row_commits-of IsNoSeal record_of (λ r i x a b. refl)))
 
-  module _ (fine : fault_of plan ≡ None) (fit : fates_fit plan 0 fates ≡ true) (claimed : list_all (claim_fits plan) claims ≡ true) where
-    two_none : NoSeals two_places
-    two_none =
-        of-append _ (ballot_places plan seed fates) (result_places plan seed fates) (fates-of (λ (line : Placed). not (is_seal line) ≡ true) plan seed 0 fates fine (blocks-no_seal plan seed) fit)
-        (results-of (λ (line : Placed). not (is_seal line) ≡ true) plan seed fates (λ race instance from bits. refl) (λ race from bits. refl) (λ race candidate a b. refl))
+  two_none : NoSeals two_places
+  two_none =
+      of-append IsNoSeal block_places tally_places (ballots-of IsNoSeal (λ b. refl) (λ b r. refl) (λ b r l. refl) (λ b code. refl) (λ b code. refl) plan record_of.ballots)
+      (of-each IsNoSeal (race_result_places record_of) 0 (length plan.races) (λ race. race_results-of IsNoSeal record_of race (λ i f b. refl) (λ f b. refl) (λ c n is. refl)))
 
-    three_none : NoSeals three_places
-    three_none = (draw-no_seal draw, rows-of (λ (line : Placed). not (is_seal line) ≡ true) plan seed fates draw (λ race instance number a b c. refl))
+  three_none : NoSeals three_places
+  three_none = (draw-no_seal draw, rows-of IsNoSeal record_of (λ r i x o is. refl))
 
-    four_none : NoSeals (claim_places plan seed claims)
-    four_none = claims-of (λ (line : Placed). not (is_seal line) ≡ true) plan seed claims fine (blocks-no_seal plan seed) (λ ballot race code word. refl) claimed
+  four_none : NoSeals claim_places
+  four_none = disputes-of IsNoSeal record_of.disputes (λ b r c w. refl) (λ b r c code. refl)
 
-    pub seals-good : Good (is_bad kind.Seal plan) [] (posts plan.version (lines_in (posted_record plan seed fates draw claims)) (posted_places plan seed fates draw claims))
-    unfolding posted_places
-    seals-good =
-        let seal_3_line : List Said = Seal 3 (seal_3 plan seed fates draw) ∷ [] in
-        let seal_3_place : List Placed = SealAt 3 (seal_3 plan seed fates draw) ∷ [] in
-        let behind_1 : List Said = one ++ seal_line_1 in
-        let places_1 : List Placed = one_places ++ seal_place_1 in
-        let behind_2 : List Said = behind_1 ++ (two ++ seal_line_2) in
-        let places_2 : List Placed = places_1 ++ (two_places ++ seal_place_2) in
-        let length_1 : length behind_1 ≡ length places_1 = both one seal_line_1 one_places seal_place_1 one_length refl in
-        let length_2 : length behind_2 ≡ length places_2 = both behind_1 (two ++ seal_line_2) places_1 (two_places ++ seal_place_2) length_1 (both two seal_line_2 two_places seal_place_2 two_length refl) in
-        let last = unsealed-good plan (posts plan.version (behind_2 ++ (three ++ seal_3_line)) (places_2 ++ (three_places ++ seal_3_place))) (posts plan.version disputes (claim_places plan seed claims))
-        (no-seals plan.version disputes (claim_places plan seed claims) four_none) in
-        let third = over-step plan behind_2 three disputes places_2 three_places (claim_places plan seed claims) 3 (seal_3 plan seed fates draw) third_is length_2 three_length three_none last in
-        let second = over-step plan behind_1 two (three ++ (Seal 3 (seal_3 plan seed fates draw) ∷ disputes)) places_1 two_places (three_places ++ (SealAt 3 (seal_3 plan seed fates draw) ∷ claim_places plan seed claims))
-        2 (seal_2 plan seed fates) second_is length_1 two_length two_none third in
-        let first = over-step plan [] one (two ++ (Seal 2 (seal_2 plan seed fates) ∷ (three ++ (Seal 3 (seal_3 plan seed fates draw) ∷ disputes)))) [] one_places
-        (two_places ++ (SealAt 2 (seal_2 plan seed fates) ∷ (three_places ++ (SealAt 3 (seal_3 plan seed fates draw) ∷ claim_places plan seed claims)))) 1 (seal_1 plan seed) first_is refl one_length one_none second in
-        let same_lines : lines_in (posted_record plan seed fates draw claims) ≡ one ++ (seal_line_1 ++ (two ++ (seal_line_2 ++ (three ++ (seal_3_line ++ disputes)))))
-        = group_lines (plan_lines plan) codes pairs seal_line_1 blocks tallies seal_line_2 three seal_3_line disputes in
-        let same_places : posted_places plan seed fates draw claims ≡ one_places ++ (seal_place_1 ++ (two_places ++ (seal_place_2 ++ (three_places ++ (seal_3_place ++ claim_places plan seed claims)))))
-        = group_places (map OfPlan (plan_lines plan)) (code_commit_places plan seed) (row_commit_places plan seed) seal_place_1 (ballot_places plan seed fates) (result_places plan seed fates) seal_place_2 three_places seal_3_place (claim_places plan seed claims) in
-        subst (λ (l : List Said). Good (is_bad kind.Seal plan) [] (posts plan.version l (posted_places plan seed fates draw claims))) (sym same_lines)
-        (subst (λ (p : List Placed). Good (is_bad kind.Seal plan) [] (posts plan.version (one ++ (seal_line_1 ++ (two ++ (seal_line_2 ++ (three ++ (seal_3_line ++ disputes)))))) p)) (sym same_places) first)
+  pub seals-good : Good (is_bad kind.Seal plan) [] (posts plan.version (lines_in (posted_record plan seed fates draw claims)) (places_in (posted_record plan seed fates draw claims)))
+  unfolding places_in
+  seals-good =
+      let seal_3_line : List Said = Seal 3 (seal_3 plan seed fates draw) ∷ [] in
+      let seal_3_place : List Placed = SealAt 3 (seal_3 plan seed fates draw) ∷ [] in
+      let behind_1 : List Said = one ++ seal_line_1 in
+      let places_1 : List Placed = one_places ++ seal_place_1 in
+      let behind_2 : List Said = behind_1 ++ (two ++ seal_line_2) in
+      let places_2 : List Placed = places_1 ++ (two_places ++ seal_place_2) in
+      let length_1 : length behind_1 ≡ length places_1 = both one seal_line_1 one_places seal_place_1 one_length refl in
+      let length_2 : length behind_2 ≡ length places_2 = both behind_1 (two ++ seal_line_2) places_1 (two_places ++ seal_place_2) length_1 (both two seal_line_2 two_places seal_place_2 two_length refl) in
+      let last = unsealed-good plan (posts plan.version (behind_2 ++ (three ++ seal_3_line)) (places_2 ++ (three_places ++ seal_3_place))) (posts plan.version disputes claim_places)
+      (no-seals plan.version disputes claim_places four_none) in
+      let third = over-step plan behind_2 three disputes places_2 three_places claim_places 3 (seal_3 plan seed fates draw) third_is length_2 three_length three_none last in
+      let second = over-step plan behind_1 two (three ++ (Seal 3 (seal_3 plan seed fates draw) ∷ disputes)) places_1 two_places (three_places ++ (SealAt 3 (seal_3 plan seed fates draw) ∷ claim_places))
+      2 (seal_2 plan seed fates) second_is length_1 two_length two_none third in
+      let first = over-step plan [] one (two ++ (Seal 2 (seal_2 plan seed fates) ∷ (three ++ (Seal 3 (seal_3 plan seed fates draw) ∷ disputes)))) [] one_places
+      (two_places ++ (SealAt 2 (seal_2 plan seed fates) ∷ (three_places ++ (SealAt 3 (seal_3 plan seed fates draw) ∷ claim_places)))) 1 (seal_1 plan seed) first_is refl one_length one_none second in
+      let same_lines : lines_in (posted_record plan seed fates draw claims) ≡ one ++ (seal_line_1 ++ (two ++ (seal_line_2 ++ (three ++ (seal_3_line ++ disputes)))))
+      = group_lines (plan_lines plan) codes pairs seal_line_1 blocks tallies seal_line_2 three seal_3_line disputes in
+      let same_places : places_in record_of ≡ one_places ++ (seal_place_1 ++ (two_places ++ (seal_place_2 ++ (three_places ++ (seal_3_place ++ claim_places)))))
+      = group_lines (map OfPlan (plan_lines plan)) codes_places pairs_places seal_place_1 block_places tally_places seal_place_2 three_places seal_3_place claim_places in
+      subst (λ (l : List Said). Good (is_bad kind.Seal plan) [] (posts plan.version l (places_in record_of))) (sym same_lines)
+      (subst (λ (p : List Placed). Good (is_bad kind.Seal plan) [] (posts plan.version (one ++ (seal_line_1 ++ (two ++ (seal_line_2 ++ (three ++ (seal_3_line ++ disputes)))))) p)) (sym same_places) first)

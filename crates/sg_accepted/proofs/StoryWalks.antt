@@ -8,13 +8,12 @@ use Rattle.sg_plan.specs.declared.plan.Plan.{Plan}
 use Rattle.sg_plan.specs.declared.plan.Stage.{Stage}
 use Rattle.sg_plan.specs.declared.plan.Stage.TheVariants as stage
 use Rattle.sg_outside.specs.TextLines.{lines_of}
-use Rattle.sg_grammar.specs.Placed.{Placed}
 use Rattle.sg_grammar.specs.Walk.{Walked, start, walk}
 use Rattle.sg_record.proofs.PlacesLaw.{formed_are_walked, places-many, texts_have_lines}
 use Rattle.sg_record.specs.Formed.{is_formed}
 use Rattle.sg_record.specs.Laws.{HasWords}
 use Rattle.sg_record.specs.Lines.{lines_in}
-use Rattle.sg_record.specs.Places.{behind_record, posts}
+use Rattle.sg_record.specs.Places.{behind_record, places_in, posts}
 use Rattle.sg_record.specs.declared.record.Record.{Record}
 use Rattle.sg_record.specs.Typed.{AreDrawn}
 use Rattle.sg_post.specs.Fits.{claim_fits, fates_fit, stage_fits}
@@ -23,13 +22,12 @@ use Rattle.sg_post.specs.declared.story.Claimed.{Claimed}
 use Rattle.sg_post.specs.declared.story.Story.{Story}
 use Rattle.sg_post.specs.declared.story.Told.{Told}
 use Rattle.sg_post.proofs.PostedText.{posted_is_text}
-use Rattle.sg_accepted.proofs.StoryPlaces.{places-same, posted_places}
 use Rattle.sg_accepted.specs.Unaltered.{IsDrawn, IsUnaltered}
 
 -- what is walked over
 abbrev pub walked_as : Plan → List ℕ → List Told → Draw → List Claimed → Walked
 walked_as plan seed fates draw claims = record {
-  posted = posts plan.version (lines_in (posted_record plan seed fates draw claims)) (posted_places plan seed fates draw claims);
+  posted = posts plan.version (lines_in (posted_record plan seed fates draw claims)) (places_in (posted_record plan seed fates draw claims));
   next = behind_record (posted_record plan seed fates draw claims);
 }
 
@@ -42,7 +40,7 @@ pub record Walks (plan : Plan) (seed : List ℕ) (story : Story) : Type 0 where
   pub bytes : AreDrawn draw
   pub words : HasWords (posted_record plan seed story.fates draw story.claims)
   pub formed : is_formed (posted_record plan seed story.fates draw story.claims) ≡ true
-  pub many : length (lines_in (posted_record plan seed story.fates draw story.claims)) ≡ length (posted_places plan seed story.fates draw story.claims)
+  pub many : length (lines_in (posted_record plan seed story.fates draw story.claims)) ≡ length (places_in (posted_record plan seed story.fates draw story.claims))
   pub walks : walk start (lines_of (posted_text plan seed story)) ≡ Some (walked_as plan seed story.fates draw story.claims)
 
 pub story-walks : (plan : Plan) (seed : List ℕ) (story : Story) → fault_of plan ≡ None → IsUnaltered plan seed story → Walks plan seed story
@@ -57,7 +55,6 @@ story-walks plan seed story fine unaltered =
     at_stage (stage.Drawn draw) is fits bytes fit claimed =
         let posted : Record = posted_record plan seed story.fates draw story.claims in
         let text = posted_is_text plan seed story draw fine unaltered.fits is bytes in
-        let same = places-same plan seed story.fates draw story.claims in
         record {
           draw = draw;
           fit = fit;
@@ -66,9 +63,7 @@ story-walks plan seed story fine unaltered =
           bytes = bytes;
           words = text.words;
           formed = text.formed;
-          many = places-many posted text.words text.formed ∙ ap length same;
+          many = places-many posted text.words text.formed;
           walks = ap (λ (bytes : List ℕ). walk start (lines_of bytes)) text.text
-              ∙ (ap (walk start) (texts_have_lines posted text.words)
-              ∙ (formed_are_walked posted text.words text.formed
-              ∙ ap (λ (places : List Placed). Some (let w : Walked = record { posted = posts plan.version (lines_in posted) places; next = behind_record posted } in w)) same));
+              ∙ (ap (walk start) (texts_have_lines posted text.words) ∙ formed_are_walked posted text.words text.formed);
         }

@@ -1,36 +1,31 @@
 -- Where nothing failed, each command does all its work.
-use Rattle.std.proofs.Common.{◌≡◌, ℕ, ◌+◌, ◌<◌, ◌≤◌, List, None, Some, inl, inr, refl, ◌∙◌, arith}
-use Rattle.std.specs.Prelude.{◌⊎◌, ◌-◌, ◌^◌}
+use Rattle.std.proofs.Common.{◌≡◌, ℕ, ◌+◌, ◌<◌, ◌≤◌, List, inl, inr, refl, ◌∙◌, arith}
+use Rattle.std.specs.Prelude.{◌⊎◌, ◌-◌, ◌^◌, Option}
 use Rattle.sg_outside.specs.Faults.{Rose}
 use Rattle.sg_keeper.specs.declared.rows.Rows.{Rows}
 use Rattle.sg_keeper.specs.declared.setup.Setup.{Setup}
 use Rattle.sg_talk.specs.Talk.{stores_in}
 use Rattle.sg_histories.specs.Histories.{Entry}
-use Rattle.sg_clerk.specs.Asked.{DoSays, Talks}
+use Rattle.sg_clerk.specs.Asked.{DoSays, TalksOfLines}
 use Rattle.sg_clerk.specs.Begun.{InitSays, StatusSays}
-use Rattle.sg_clerk.specs.Does.{Does}
-use Rattle.sg_clerk.specs.Ends.{ending_status}
+use Rattle.sg_clerk.specs.Ends.{HasFailed, ending_status}
 use Rattle.sg_clerk.specs.Sheet.{sheet_of}
 use Rattle.sg_clerk.specs.Shown.{ShowSays, posted_of}
+use Rattle.sg_clerk.specs.Talks.{ClosedSays}
+use Rattle.sg_clerk.specs.declared.ended.Ending.{Ending}
+use Rattle.sg_clerk.specs.declared.ended.Ending.TheVariants as ending
 use Rattle.sg_handed.specs.Handed.{OpeningsSays}
-use Rattle.sg_clerk.specs.declared.talk.Ending.{Ending}
-use Rattle.sg_clerk.specs.declared.talk.Ending.TheVariants as ending
-use Rattle.sg_batch.specs.DoesScans.{DoesScans, stores_of}
+use Rattle.sg_batch.specs.DoesScans.{stores_of}
 use Rattle.sg_batch.specs.ScansAsked.{ScansSay, TalksOfScans}
-use Rattle.sg_batch.specs.ScansEnds.{scans_status}
-use Rattle.sg_batch.specs.declared.answering.ScansEnd.{ScansEnd}
-use Rattle.sg_batch.specs.declared.answering.ScansEnd.TheVariants as scanning
-use Rattle.sg_station.specs.Calls.{failures_in, stores_in as stores_among}
+use Rattle.sg_station.specs.Calls.{Call, failures_in, stores_in as stores_among}
 use Rattle.sg_station.specs.Says.{HasServed, ServeSays}
-use Rattle.sg_station.specs.Serves.{Scene, ServesCalls, ending_status as serving_status, listening, one_more}
-use Rattle.sg_station.specs.declared.station.Ending.{Ending as Serving}
-use Rattle.sg_station.specs.declared.station.Ending.TheVariants as serving
+use Rattle.sg_station.specs.Serves.{EndsSo, one_more}
 use Rattle.sg_words.specs.declared.sample.Sample.{Sample}
 use Rattle.sg_reports.specs.Reports.{ReportSays, Reports}
 use Rattle.sg_reports.specs.declared.report.Report.{Report}
 use Rattle.sg_reports.specs.declared.report.Report.TheVariants as report
 use Rattle.sg_reports.proofs.Reporting.{is_reported}
-use Rattle.sg_app.specs.Complete.{DoesAll, IsComplete, KeepsScanning, KeepsServing, KeepsTalking, NothingFailed, ShowsOffice}
+use Rattle.sg_app.specs.Complete.{DoesAll, IsComplete, KeepsScanning, KeepsServing, KeepsTalking, NothingFailed, SaysDamaged, SaysEmpty, ShowsOffice}
 use Rattle.sg_app.specs.Outside.{Outside, input_at, moment_of, output_at, scene_of}
 use Rattle.sg_app.specs.Sampling.{SampleSays}
 use Rattle.sg_words.specs.declared.command.Command.{Command}
@@ -100,27 +95,37 @@ openings_complete status tells rows rows' before now (inr (inr (inr (inr (inl sa
 openings_complete status tells rows rows' before now (inr (inr (inr (inr (inr (inl says)))))) none = inr (inr (inr (inr says)))
 openings_complete status tells rows rows' before now (inr (inr (inr (inr (inr (inr says)))))) none = inl says.0
 
--- the statuses of a run over lines of which none failed
-ends_by : (how : Ending) (setup : Setup) (start : List Entry) (tells : Type 0) (rows rows' : Rows) (before now : Outside) → Does how setup start tells rows rows' (moment_of before) (moment_of now)
-    → NothingFailed command.Do before now → (ending_status how ≡ 9) ⊎ ((ending_status how ≡ 0) ⊎ (ending_status how ≡ 7))
-ends_by ending.Done setup start tells rows rows' before now done none = inr (inl refl)
-ends_by ending.ReadFault setup start tells rows rows' before now done none = absurd (none.reads refl done.ends.0)
-ends_by (ending.Refused why) setup start tells rows rows' before now done none = inr (inr refl)
-ends_by (ending.WriteFault due) setup start tells rows rows' before now done none = absurd (none.writes done.ends.0)
-ends_by ending.NoMemory setup start tells rows rows' before now done none = inl refl
-
 -- a count that did not rise has no answer to show for it
 none_rose : (before now stores : ℕ) → ¬ Rose before now → (now < 2 ^ 64 - 1 → before + stores ≤ now) → stores ≡ 0
 none_rose before now stores none counted = omega (arith, none, counted)
 
+-- the statuses of a talk of which nothing failed
+ends_well : (how : Ending) (asks asks' writes writes' : ℕ) → HasFailed how asks asks' writes writes' → ¬ Rose asks asks' → ¬ Rose writes writes'
+    → (ending_status how ≡ 9) ⊎ ((ending_status how ≡ 0) ⊎ (ending_status how ≡ 7))
+ends_well ending.Done asks asks' writes writes' cause reads none = inr (inl refl)
+ends_well ending.ReadFault asks asks' writes writes' cause reads none = absurd (reads cause)
+ends_well (ending.WriteFault due) asks asks' writes writes' cause reads none = absurd (none cause)
+ends_well ending.LinkFault asks asks' writes writes' cause reads none = absurd (reads cause)
+ends_well (ending.Refused why) asks asks' writes writes' cause reads none = inr (inr refl)
+ends_well ending.NoMemory asks asks' writes writes' cause reads none = inl refl
+
+-- where no office was opened
+closed_complete : (status : ℕ) (tells : Type 0) (rows : Rows) (before now : Outside) → ClosedSays status tells rows before.keep_faults now.keep_faults (output_at before) (output_at now)
+    → ¬ Rose before.keep_faults now.keep_faults → ¬ Rose before.write_faults now.write_faults → (status ≡ 9) ⊎ (SaysEmpty status tells rows before now ⊎ SaysDamaged status tells rows before now)
+closed_complete status tells rows before now (inl says) keeps writes = absurd (writes says.1.cause)
+closed_complete status tells rows before now (inr (inl says)) keeps writes = absurd (keeps says.1.cause)
+closed_complete status tells rows before now (inr (inr (inl says))) keeps writes = inr (inl says)
+closed_complete status tells rows before now (inr (inr (inr (inl says)))) keeps writes = inr (inr says)
+closed_complete status tells rows before now (inr (inr (inr (inr says)))) keeps writes = inl says.0
+
 -- a talk
-talks_on : (status : ℕ) (tells : Type 0) (rows rows' : Rows) (before now : Outside) → Talks status tells rows rows' (moment_of before) (moment_of now) → NothingFailed command.Do before now
+talks_on : (status : ℕ) (tells : Type 0) (rows rows' : Rows) (before now : Outside) → TalksOfLines status tells rows rows' (moment_of before) (moment_of now) → NothingFailed command.Do before now
     → KeepsTalking status tells rows rows' before now
 talks_on status tells rows rows' before now talks none =
-    record { talks = talks; none_lost = none_rose before.keep_faults now.keep_faults (stores_in talks.does.exchanges) (none.keeps refl) talks.does.stores }
+    record { talks = talks; none_lost = none_rose before.keep_faults now.keep_faults (stores_in talks.does.exchanges) (none.keeps refl) talks.does.keeper.counted }
 
 -- by how the talk ended
-talk_complete : (status : ℕ) (tells : Type 0) (rows rows' : Rows) (before now : Outside) (talks : Talks status tells rows rows' (moment_of before) (moment_of now)) (none : NothingFailed command.Do before now)
+talk_complete : (status : ℕ) (tells : Type 0) (rows rows' : Rows) (before now : Outside) (talks : TalksOfLines status tells rows rows' (moment_of before) (moment_of now)) (none : NothingFailed command.Do before now)
     → (ending_status talks.how ≡ 9) ⊎ ((ending_status talks.how ≡ 0) ⊎ (ending_status talks.how ≡ 7)) → (status ≡ 9) ⊎ DoesAll command.Do status tells rows rows' before now
 talk_complete status tells rows rows' before now talks none (inl nine) = inl (talks.status_is ∙ nine)
 talk_complete status tells rows rows' before now talks none (inr (inl zero_is)) = inr (inl (talks.status_is ∙ zero_is, talks_on status tells rows rows' before now talks none))
@@ -129,35 +134,22 @@ talk_complete status tells rows rows' before now talks none (inr (inr seven)) = 
 -- `do`
 pub do_complete : (status : ℕ) (tells : Type 0) (rows rows' : Rows) (before now : Outside) → DoSays status tells rows rows' (moment_of before) (moment_of now) → IsComplete command.Do status tells rows rows' before now
 do_complete status tells rows rows' before now (inl talks) none =
-    talk_complete status tells rows rows' before now talks none (ends_by talks.how talks.setup talks.start tells rows rows' before now talks.does none)
+    talk_complete status tells rows rows' before now talks none (ends_well talks.how before.read_faults now.read_faults before.write_faults now.write_faults talks.does.ends.cause (none.reads refl) none.writes)
 do_complete status tells rows rows' before now (inr closed) none =
-    elim closed.says [
-      | inl says ↦ absurd (none.writes says.1.cause)
-      | inr (inl says) ↦ absurd (none.keeps refl says.1.cause)
-      | inr (inr (inl says)) ↦ inr (inr (inr (inl says)))
-      | inr (inr (inr (inl says))) ↦ inr (inr (inr (inr says)))
-      | inr (inr (inr (inr says))) ↦ inl says.0
+    elim (closed_complete status tells rows before now closed.says (none.keeps refl) none.writes) [
+      | inl nine ↦ inl nine
+      | inr says ↦ inr (inr (inr says))
     ]
 
--- the statuses of a run over the records of a scanner's file, of which none failed
-scans_end : (how : ScansEnd) (setup : Setup) (start : List Entry) (tells : Type 0) (rows rows' : Rows) (before now : Outside) → DoesScans how setup start tells rows rows' (moment_of before) (moment_of now)
-    → NothingFailed command.Scans before now → (scans_status how ≡ 9) ⊎ ((scans_status how ≡ 0) ⊎ (scans_status how ≡ 7))
-scans_end scanning.Done setup start tells rows rows' before now done none = inr (inl refl)
-scans_end scanning.ReadFault setup start tells rows rows' before now done none = absurd (none.reads refl done.ends.0)
-scans_end (scanning.Refused why) setup start tells rows rows' before now done none = inr (inr refl)
-scans_end (scanning.WriteFault None) setup start tells rows rows' before now done none = absurd (none.writes done.ends.0)
-scans_end (scanning.WriteFault (Some why)) setup start tells rows rows' before now done none = absurd (none.writes done.ends.0)
-scans_end scanning.NoMemory setup start tells rows rows' before now done none = inl refl
-
--- a talk over them
+-- a talk over the records of a scanner's file
 scans_on : (status : ℕ) (tells : Type 0) (rows rows' : Rows) (before now : Outside) → TalksOfScans status tells rows rows' (moment_of before) (moment_of now) → NothingFailed command.Scans before now
     → KeepsScanning status tells rows rows' before now
 scans_on status tells rows rows' before now talks none =
-    record { talks = talks; none_lost = none_rose before.keep_faults now.keep_faults (stores_of talks.does.handed) (none.keeps refl) talks.does.stores }
+    record { talks = talks; none_lost = none_rose before.keep_faults now.keep_faults (stores_of talks.does.exchanges) (none.keeps refl) talks.does.keeper.counted }
 
 -- by how the talk ended
 scanned_complete : (status : ℕ) (tells : Type 0) (rows rows' : Rows) (before now : Outside) (talks : TalksOfScans status tells rows rows' (moment_of before) (moment_of now)) (none : NothingFailed command.Scans before now)
-    → (scans_status talks.how ≡ 9) ⊎ ((scans_status talks.how ≡ 0) ⊎ (scans_status talks.how ≡ 7)) → (status ≡ 9) ⊎ DoesAll command.Scans status tells rows rows' before now
+    → (ending_status talks.how ≡ 9) ⊎ ((ending_status talks.how ≡ 0) ⊎ (ending_status talks.how ≡ 7)) → (status ≡ 9) ⊎ DoesAll command.Scans status tells rows rows' before now
 scanned_complete status tells rows rows' before now talks none (inl nine) = inl (talks.status_is ∙ nine)
 scanned_complete status tells rows rows' before now talks none (inr (inl zero_is)) = inr (inl (talks.status_is ∙ zero_is, scans_on status tells rows rows' before now talks none))
 scanned_complete status tells rows rows' before now talks none (inr (inr seven)) = inr (inr (inl (talks.status_is ∙ seven, scans_on status tells rows rows' before now talks none)))
@@ -165,40 +157,43 @@ scanned_complete status tells rows rows' before now talks none (inr (inr seven))
 -- `scans`
 pub scans_complete : (status : ℕ) (tells : Type 0) (rows rows' : Rows) (before now : Outside) → ScansSay status tells rows rows' (moment_of before) (moment_of now) → IsComplete command.Scans status tells rows rows' before now
 scans_complete status tells rows rows' before now (inl talks) none =
-    scanned_complete status tells rows rows' before now talks none (scans_end talks.how talks.setup talks.start tells rows rows' before now talks.does none)
+    scanned_complete status tells rows rows' before now talks none (ends_well talks.how before.read_faults now.read_faults before.write_faults now.write_faults talks.does.ends.cause (none.reads refl) none.writes)
 scans_complete status tells rows rows' before now (inr closed) none =
-    elim closed.says [
-      | inl says ↦ absurd (none.writes says.1.cause)
-      | inr (inl says) ↦ absurd (none.keeps refl says.1.cause)
-      | inr (inr (inl says)) ↦ inr (inr (inr (inl says)))
-      | inr (inr (inr (inl says))) ↦ inr (inr (inr (inr says)))
-      | inr (inr (inr (inr says))) ↦ inl says.0
+    elim (closed_complete status tells rows before now closed.says (none.keeps refl) none.writes) [
+      | inl nine ↦ inl nine
+      | inr says ↦ inr (inr (inr says))
     ]
 
 -- the statuses of a run over connections of which none failed
-serve_ends : (how : Serving) (setup : Setup) (start : List Entry) (count : ℕ) (tells : Type 0) (rows rows' : Rows) (before now : Scene) → ServesCalls how setup start count tells rows rows' before now
-    → ¬ Rose before.link_faults now.link_faults → ¬ Rose before.write_faults now.write_faults → (serving_status how ≡ 9) ⊎ (serving_status how ≡ 0)
-serve_ends serving.Done setup start count tells rows rows' before now done links writes = inr refl
-serve_ends serving.LinkFault setup start count tells rows rows' before now done links writes = absurd (links done.ends.1)
-serve_ends serving.WriteFault setup start count tells rows rows' before now done links writes = absurd (writes done.ends.1)
-serve_ends serving.NoMemory setup start count tells rows rows' before now done links writes = inl refl
+serve_ends : (how : Ending) (count : ℕ) (calls : List Call) (written written' : Option (List ℕ)) → EndsSo how count calls written written'
+    → (ending_status how ≡ 9) ⊎ ((ending_status how ≡ 0) ⊎ (ending_status how ≡ 7)) → (ending_status how ≡ 9) ⊎ (ending_status how ≡ 0)
+serve_ends (ending.Refused why) count calls written written' ends well = absurd ends
+serve_ends ending.Done count calls written written' ends well = inr refl
+serve_ends ending.NoMemory count calls written written' ends well = inl refl
+serve_ends ending.ReadFault count calls written written' ends well = absurd ends
+serve_ends ending.LinkFault count calls written written' ends (inl nine) = inl nine
+serve_ends ending.LinkFault count calls written written' ends (inr (inl zero_is)) = inr zero_is
+serve_ends ending.LinkFault count calls written written' ends (inr (inr seven)) = absurd (omega (arith, seven))
+serve_ends (ending.WriteFault due) count calls written written' ends (inl nine) = inl nine
+serve_ends (ending.WriteFault due) count calls written written' ends (inr (inl zero_is)) = inr zero_is
+serve_ends (ending.WriteFault due) count calls written written' ends (inr (inr seven)) = absurd (omega (arith, seven))
 
 -- connections that were served
 serves_on : (status : ℕ) (asked : Service) (tells : Type 0) (rows rows' : Rows) (before now : Outside) → HasServed status asked.port asked.count tells rows rows' (scene_of before) (scene_of now)
     → NothingFailed (command.Serve asked) before now → KeepsServing status asked tells rows rows' before now
 serves_on status asked tells rows rows' before now served none =
-    let calls = served.serves.calls in
-    let failed = none_rose before.link_faults now.link_faults (failures_in calls + one_more served.how) (none.links refl) served.serves.failures in
+    let calls = served.does.exchanges in
+    let failed = none_rose before.link_faults now.link_faults (failures_in calls + one_more served.how) (none.links refl) served.does.ends.failures in
     record {
       served = served;
       none_failed = omega (arith, failed);
-      none_lost = none_rose before.keep_faults now.keep_faults (stores_among calls) (none.keeps refl) served.serves.stores;
+      none_lost = none_rose before.keep_faults now.keep_faults (stores_among calls) (none.keeps refl) served.does.keeper.counted;
     }
 
 -- by how the run over them ended
 served_complete : (status : ℕ) (asked : Service) (tells : Type 0) (rows rows' : Rows) (before now : Outside)
     (served : HasServed status asked.port asked.count tells rows rows' (scene_of before) (scene_of now)) (none : NothingFailed (command.Serve asked) before now)
-    → (serving_status served.how ≡ 9) ⊎ (serving_status served.how ≡ 0) → (status ≡ 9) ⊎ DoesAll (command.Serve asked) status tells rows rows' before now
+    → (ending_status served.how ≡ 9) ⊎ (ending_status served.how ≡ 0) → (status ≡ 9) ⊎ DoesAll (command.Serve asked) status tells rows rows' before now
 served_complete status asked tells rows rows' before now served none (inl nine) = inl (served.status_is ∙ nine)
 served_complete status asked tells rows rows' before now served none (inr zero_is) = inr (inl (served.status_is ∙ zero_is, serves_on status asked tells rows rows' before now served none))
 
@@ -206,16 +201,13 @@ served_complete status asked tells rows rows' before now served none (inr zero_i
 pub serve_complete : (asked : Service) (status : ℕ) (tells : Type 0) (rows rows' : Rows) (before now : Outside)
     → ServeSays status asked.port asked.count tells rows rows' (scene_of before) (scene_of now) → IsComplete (command.Serve asked) status tells rows rows' before now
 serve_complete asked status tells rows rows' before now (inl served) none =
-    served_complete status asked tells rows rows' before now served none
-    (serve_ends served.how served.setup served.start asked.count tells rows rows' (listening asked.port (scene_of before)) (scene_of now) served.serves (none.links refl) none.writes)
+    let well = ends_well served.how before.link_faults now.link_faults before.write_faults now.write_faults served.does.ends.cause (none.links refl) none.writes in
+    served_complete status asked tells rows rows' before now served none (serve_ends served.how asked.count served.does.exchanges before.written now.written served.does.ends.ends well)
 serve_complete asked status tells rows rows' before now (inr (inl shut)) none = absurd (none.links refl shut.1.cause)
 serve_complete asked status tells rows rows' before now (inr (inr closed)) none =
-    elim closed.says [
-      | inl says ↦ absurd (none.writes says.1.cause)
-      | inr (inl says) ↦ absurd (none.keeps refl says.1.cause)
-      | inr (inr (inl says)) ↦ inr (inr (inl says))
-      | inr (inr (inr (inl says))) ↦ inr (inr (inr says))
-      | inr (inr (inr (inr says))) ↦ inl says.0
+    elim (closed_complete status tells rows before now closed.says (none.keeps refl) none.writes) [
+      | inl nine ↦ inl nine
+      | inr says ↦ inr (inr says)
     ]
 
 -- each command

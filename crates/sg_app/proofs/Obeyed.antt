@@ -26,9 +26,9 @@ pub memory_says : (asked : Command) (tells : Type 0) (rows : Rows) (now : Outsid
 memory_says command.Audit tells rows now = memory_reports Audit (input_at now) (output_at now)
 memory_says command.Init tells rows now = record { took = took_nothing (longest_election + 1) now.left; says = inr (inr (inr (inr (inr (refl, record { same = λ _. refl; quiet = refl }))))) }
 memory_says command.Sheet tells rows now = inr (inr (inr (inr (inr (refl, inl refl)))))
-memory_says command.Do tells rows now = inr (record { unread = refl; no_fault = refl; same = λ _. refl; says = inr (inr (inr (inr (refl, refl)))) })
-memory_says command.Scans tells rows now = inr (record { unread = refl; no_fault = refl; same = λ _. refl; says = inr (inr (inr (inr (refl, refl)))) })
-memory_says (command.Serve asked) tells rows now = inr (inr (record { board = refl; no_fault = refl; same = λ _. refl; says = inr (inr (inr (inr (refl, refl)))) }))
+memory_says command.Do tells rows now = inr (record { unasked = (refl, refl); same = λ _. refl; says = inr (inr (inr (inr (refl, refl)))) })
+memory_says command.Scans tells rows now = inr (record { unasked = (refl, refl); same = λ _. refl; says = inr (inr (inr (inr (refl, refl)))) })
+memory_says (command.Serve asked) tells rows now = inr (inr (record { unasked = (refl, refl); same = λ _. refl; says = inr (inr (inr (inr (refl, refl)))) }))
 memory_says command.Record tells rows now = inr (inr (inr (inr (inr (refl, inl refl)))))
 memory_says command.Openings tells rows now = inr (inr (inr (inr (inr (inr (refl, inl refl))))))
 memory_says (command.Sample asked) tells rows now = inr (inr (refl, refl))

@@ -6,7 +6,7 @@ use Rattle.sg_keeper.specs.declared.rows.Rows.{Rows}
 use Rattle.sg_keeper.specs.declared.setup.Setup.{Setup}
 use Rattle.sg_talk.specs.Talk.{stores_in}
 use Rattle.sg_histories.specs.Histories.{Entry}
-use Rattle.sg_clerk.specs.Asked.{Talks}
+use Rattle.sg_clerk.specs.Asked.{TalksOfLines}
 use Rattle.sg_clerk.specs.Begun.{Begins, IsRefused}
 use Rattle.sg_clerk.specs.Sheet.{sheet_of}
 use Rattle.sg_clerk.specs.Shown.{IsDamaged, IsEmpty, ShowsAll, posted_of}
@@ -48,19 +48,19 @@ ShowsOffice shown status tells rows before now =
 
 -- an office talked, and no answer says that the keeper failed
 pub record KeepsTalking (status : ℕ) (tells : Type 0) (rows rows' : Rows) (before now : Outside) : Type 0 where
-  pub talks : Talks status tells rows rows' (moment_of before) (moment_of now)
+  pub talks : TalksOfLines status tells rows rows' (moment_of before) (moment_of now)
   pub none_lost : stores_in talks.does.exchanges ≡ 0
 
 -- the same over the records of a scanner's file
 pub record KeepsScanning (status : ℕ) (tells : Type 0) (rows rows' : Rows) (before now : Outside) : Type 0 where
   pub talks : TalksOfScans status tells rows rows' (moment_of before) (moment_of now)
-  pub none_lost : stores_of talks.does.handed ≡ 0
+  pub none_lost : stores_of talks.does.exchanges ≡ 0
 
 -- an office served so many connections, none of them failed, and no answer says that the keeper failed
 pub record KeepsServing (status : ℕ) (asked : Service) (tells : Type 0) (rows rows' : Rows) (before now : Outside) : Type 0 where
   pub served : HasServed status asked.port asked.count tells rows rows' (scene_of before) (scene_of now)
-  pub none_failed : failures_in served.serves.calls ≡ 0
-  pub none_lost : stores_among served.serves.calls ≡ 0
+  pub none_failed : failures_in served.does.exchanges ≡ 0
+  pub none_lost : stores_among served.does.exchanges ≡ 0
 
 -- The work of each command was done, by its status: `audit`, `recount`, `odds` and `county` report; `init` sets an office up, or
 -- refuses; `sheet` and `record` show what is kept; `openings` writes the openings of all rows (0), or that the draw isn't made

@@ -1,7 +1,5 @@
 -- The proofs.
-mod Endings
-mod Forms
 pub mod Judging
 pub mod Promises
-mod Stopping
-mod Taking
+mod Reading
+mod Saying

@@ -34,26 +34,26 @@ at_bytes known bytes P same told = subst (λ (k : Option (List ℕ)). IfSome k P
 -- after status 0 the verdict on the input's bytes is yes
 yes_verdict : (bytes : List ℕ) (status : ℕ) (input input' out out' : Seen) → input.bytes ≡ Some bytes → AuditSays status input input' out out' → status ≡ 0
     → IsVerdict (lines_of bytes) (Yes (totals_of (lines_of bytes)))
-yes_verdict bytes status input input' out out' same (inl says) is =
+yes_verdict bytes status input input' out out' same (inl (inl says)) is =
     let good : IsVerdict (lines_of bytes) (Yes says.1.totals) = at_bytes input.bytes bytes (λ b. IsVerdict (lines_of b) (Yes says.1.totals)) same says.1.judged in
     record { fine = good.fine; whole = good.whole; totals_are = refl }
+yes_verdict bytes status input input' out out' same (inl (inr says)) is = absurd (omega (arith, says.0, is))
 yes_verdict bytes status input input' out out' same (inr (inl says)) is = absurd (omega (arith, says.0, is))
 yes_verdict bytes status input input' out out' same (inr (inr (inl says))) is = absurd (omega (arith, says.0, is))
-yes_verdict bytes status input input' out out' same (inr (inr (inr (inl says)))) is = absurd (omega (arith, says.0, is))
-yes_verdict bytes status input input' out out' same (inr (inr (inr (inr says)))) is = absurd (omega (arith, says.0, is))
+yes_verdict bytes status input input' out out' same (inr (inr (inr says))) is = absurd (omega (arith, says.0, is))
 
 -- where the verdict on the input's bytes is yes, that is the answer
 pub answers_yes : (totals : List Total) (bytes : List ℕ) (status : ℕ) (input input' out out' : Seen) → input.bytes ≡ Some bytes → IsVerdict (lines_of bytes) (Yes totals)
     → AuditSays status input input' out out' → IsAnsweredYes totals status input input' out out'
-answers_yes totals bytes status input input' out out' same good (inl says) =
+answers_yes totals bytes status input input' out out' same good (inl (inl says)) =
     let found : IsVerdict (lines_of bytes) (Yes says.1.totals) = at_bytes input.bytes bytes (λ b. IsVerdict (lines_of b) (Yes says.1.totals)) same says.1.judged in
     inl (says.0, subst (λ (j : Judged). Appends out.bytes out'.bytes (report_of j)) (one_verdict (lines_of bytes) (Yes says.1.totals) (Yes totals) found good) says.1.written)
-answers_yes totals bytes status input input' out out' same good (inr (inl says)) =
+answers_yes totals bytes status input input' out out' same good (inl (inr says)) =
     let bad : IsVerdict (lines_of bytes) (No says.1.line says.1.broken) = at_bytes input.bytes bytes (λ b. IsVerdict (lines_of b) (No says.1.line says.1.broken)) same says.1.judged in
     absurd (not_no totals says.1.line says.1.broken (one_verdict (lines_of bytes) (Yes totals) (No says.1.line says.1.broken) good bad))
-answers_yes totals bytes status input input' out out' same good (inr (inr (inl says))) = inr (inl (says.0, says.1.cause))
-answers_yes totals bytes status input input' out out' same good (inr (inr (inr (inl says)))) = inr (inr (inl (says.0, says.1.cause)))
-answers_yes totals bytes status input input' out out' same good (inr (inr (inr (inr says)))) = inr (inr (inr says.0))
+answers_yes totals bytes status input input' out out' same good (inr (inl says)) = inr (inl (says.0, says.1.cause))
+answers_yes totals bytes status input input' out out' same good (inr (inr (inl says))) = inr (inr (inl (says.0, says.1.cause)))
+answers_yes totals bytes status input input' out out' same good (inr (inr (inr says))) = inr (inr (inr says.0))
 
 -- how an audit ended says the promise, where its input told its bytes
 pub promise_of : (known : Option (List ℕ)) (status : ℕ) (input input' out out' : Seen) → input.bytes ≡ known → AuditSays status input input' out out'

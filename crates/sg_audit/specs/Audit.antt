@@ -1,17 +1,17 @@
 -- How an audit ends, and with which status.
-use Rattle.std.specs.Prelude.{◌≡◌, ℕ, ◌+◌, ◌<◌, ◌≤◌, ◌⊎◌, false, List, ◌++◌, length, take, Option, IfSome}
-use Rattle.std.specs.List.{concat}
-use Rattle.std.specs.Io.KnownBytes.{Appends, Consumes, IsAtEnd, Keeps}
-use Rattle.sg_plan.specs.Limits.{longest_line}
-use Rattle.sg_outside.specs.Faults.{Rose}
-use Rattle.sg_outside.specs.Streams.{AppendsFront, Seen}
-use Rattle.sg_outside.specs.TextLines.{AreLines, HasNoFeed, lines_of}
+use Rattle.std.specs.Prelude.{◌≡◌, ℕ, ◌⊎◌, false, List, Option, IfSome}
+use Rattle.std.specs.Io.KnownBytes.{Appends, IsAtEnd}
+use Rattle.sg_outside.specs.Streams.{Seen}
+use Rattle.sg_outside.specs.TextLines.{lines_of}
 use Rattle.sg_check.specs.Bounds.{IsSound}
-use Rattle.sg_check.specs.Verdict.{AreFine, IsVerdict}
+use Rattle.sg_check.specs.Verdict.{AreFine, IsNo, IsVerdict}
 use Rattle.sg_check.specs.declared.judged.Judged.{Judged}
 use Rattle.sg_check.specs.declared.judged.Judged.TheVariants.{Yes, No}
 use Rattle.sg_check.specs.declared.judged.Kind.{Kind}
 use Rattle.sg_check.specs.declared.judged.Total.{Total}
+use Rattle.sg_driver.specs.Judging.{Judging}
+use Rattle.sg_driver.specs.Says.{Ends}
+use Rattle.sg_driver.specs.Taken.{TookUpTo}
 use Rattle.sg_pass.specs.Pass.{is_behind_plan}
 use Rattle.sg_report.specs.Report.{report_of}
 
@@ -24,36 +24,24 @@ Judges known judged = IfSome known (λ bytes. IsVerdict (lines_of bytes) judged)
 abbrev pub AreSound : Option (List ℕ) → List Total → Type 0
 AreSound known totals = IfSome known (λ bytes. IsSound (lines_of bytes) totals)
 
--- what was taken ends, where the bytes are told, fewer than 16,384 bytes behind the end of the line of this number; a
--- number past the last line stands for that one
-pub record TookUpTo (number : ℕ) (before now : Option (List ℕ)) : Type 0 where
-  pub front : List ℕ
-  pub taken : Consumes before now front
-  pub few : IfSome before (λ bytes. length front < length (concat (take number (lines_of bytes))) + longest_line)
-
 -- a yes has read the input to its end, and a no took fewer than 16,384 bytes behind the line that it names
 abbrev pub HasRead : Judged → Option (List ℕ) → Option (List ℕ) → Type 0
 HasRead (Yes totals) before now = IsAtEnd now
 HasRead (No line broken) before now = TookUpTo line before now
 
--- of these bytes whole lines that are fine were taken, and behind them fewer than 16,384 bytes, without a line feed
-pub record TookFine (before now : Option (List ℕ)) : Type 0 where
-  pub done : List (List ℕ)
-  pub rest : List ℕ
-  pub lines : AreLines done
-  pub fine : AreFine done
-  pub unended : HasNoFeed rest
-  pub few : length rest < longest_line
-  pub taken : Consumes before now (concat done ++ rest)
+-- fine lines, none of which stands behind the plan
+abbrev pub AreOfPlan : List (List ℕ) → Type 0
+AreOfPlan lines = AreFine lines × (is_behind_plan lines ≡ false)
 
--- of these bytes fine lines of the plan were taken, and at most the bytes of one more line or as many
-pub record TookHeader (before now : Option (List ℕ)) : Type 0 where
-  pub done : List (List ℕ)
-  pub rest : List ℕ
-  pub fine : AreFine done
-  pub header : is_behind_plan done ≡ false
-  pub few : length rest ≤ longest_line
-  pub taken : Consumes before now (concat done ++ rest)
+-- the status of a verdict
+abbrev pub status_of : Judged → ℕ
+status_of (Yes totals) = 0
+status_of (No line broken) = 1
+
+-- What is judged is the verdict on the lines. Some of them may settle a no, whatever follows, and fine lines settle nothing.
+-- Memory may be wanted behind fine lines of the plan.
+abbrev pub audit : Judging Judged
+audit = record { IsAnswer = IsVerdict; Refuses = IsNo; Unsettled = AreFine; Wants = AreOfPlan; status = status_of; report = report_of }
 
 -- WHAT EACH STATUS SAYS
 
@@ -75,32 +63,11 @@ pub record SaysNo (input input' out out' : Seen) : Type 0 where
   pub read : TookUpTo line input.bytes input'.bytes
   pub written : Appends out.bytes out'.bytes (report_of (No line broken))
 
--- 3: the input's count of faults rose; what was taken of it are whole lines that are fine, and bytes without a line feed
--- behind them; and nothing was written
-pub record ReadFails (input input' out out' : Seen) : Type 0 where
-  pub cause : Rose input.faults input'.faults
-  pub taken : TookFine input.bytes input'.bytes
-  pub written : Keeps out.bytes out'.bytes
+-- what is said of a verdict
+abbrev pub SaysVerdict : ℕ → Seen → Seen → Seen → Seen → Type 0
+SaysVerdict status input input' out out' = ((status ≡ 0) × SaysYes input input' out out') ⊎ ((status ≡ 1) × SaysNo input input' out out')
 
--- 4: the output's count of faults rose; the input was read as far as the verdict on its bytes says, and a front of the
--- verdict's report was written
-pub record WriteFails (input input' out out' : Seen) : Type 0 where
-  pub cause : Rose out.faults out'.faults
-  pub verdict : Judged
-  pub judged : Judges input.bytes verdict
-  pub read : HasRead verdict input.bytes input'.bytes
-  pub written : AppendsFront out.bytes out'.bytes (report_of verdict)
-
--- 9: memory was wanted before the first line behind the plan was taken, and nothing was written
-pub record WantsMemory (input input' out out' : Seen) : Type 0 where
-  pub taken : TookHeader input.bytes input'.bytes
-  pub written : Keeps out.bytes out'.bytes
-
--- how an audit ended, by its status: there is no other
+-- how an audit ended, by its status: with a verdict; with 3 where a read failed behind fine lines, with 4 where a write failed,
+-- and with 9 where memory was wanted behind fine lines of the plan; there is no other
 abbrev pub AuditSays : ℕ → Seen → Seen → Seen → Seen → Type 0
-AuditSays status input input' out out' =
-    ((status ≡ 0) × SaysYes input input' out out')
-    ⊎ ((status ≡ 1) × SaysNo input input' out out')
-    ⊎ ((status ≡ 3) × ReadFails input input' out out')
-    ⊎ ((status ≡ 4) × WriteFails input input' out out')
-    ⊎ ((status ≡ 9) × WantsMemory input input' out out')
+AuditSays = Ends audit HasRead SaysVerdict

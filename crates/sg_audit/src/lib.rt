@@ -2,6 +2,6 @@
 #![tactic(auto)]
 
 mod audit;
-mod hearing;
+mod auditor;
 
 pub use audit::answer_audit;

@@ -10,9 +10,9 @@ use Rattle.sg_scans.specs.declared.fields.ScanLine.TheVariants as line
 use Rattle.sg_turns.proofs.Growing.{IsLater, later_on, same_later, turn_later}
 use Rattle.sg_clerk.specs.Ends.{Moment}
 use Rattle.sg_clerk.specs.Laws.{KeepsPosted}
-use Rattle.sg_clerk.proofs.Grown.{same_grows, talk_grows}
+use Rattle.sg_clerk.proofs.Grown.{same_grows, talks_grow}
 use Rattle.sg_clerk.proofs.Keeping.{grown_keeps}
-use Rattle.sg_batch.specs.DoesScans.{AnswersLine, Handed, ScanTalk}
+use Rattle.sg_batch.specs.DoesScans.{AnswersLine, Handed, ScanTalk, ScansEnd, stores_of}
 use Rattle.sg_batch.specs.Laws.{ScansKeepRecord}
 use Rattle.sg_batch.specs.ScansAsked.{ScansSay}
 
@@ -34,8 +34,5 @@ scans_keep_record setup handed history next lawful talk =
 -- `scans`
 pub scans_grow : (status : ℕ) (tells : Type 0) (rows rows' : Rows) (before now : Moment) → ScansSay status tells rows rows' before now → tells → KeepsPosted rows rows'
 scans_grow status tells rows rows' before now (inl talks) told =
-    let from = talks.from told in
-    let does = talks.does in
-    talk_grows talks.setup talks.start does.next rows rows' (talks.whole told) talks.lawful from.0 from.1 (does.kept told from.0 from.1)
-    (scans_keep_record talks.setup does.handed talks.start does.next talks.lawful does.talk)
+    talks_grow ScanTalk stores_of (ScansEnd before now) status tells rows rows' before.keep_faults now.keep_faults scans_keep_record talks told
 scans_grow status tells rows rows' before now (inr closed) told = same_grows rows rows' (closed.same told)

@@ -3,7 +3,7 @@ use Rattle.std.proofs.Common.{◌≡◌, ℕ, ◌+◌, List, [], ◌∷◌, ◌+
 use Rattle.sg_keeper.specs.declared.setup.Setup.{Setup}
 use Rattle.sg_talk.specs.Talk.{store_in}
 use Rattle.sg_histories.specs.Histories.{Entry}
-use Rattle.sg_clerk.specs.Does.{answer_line}
+use Rattle.sg_clerk.specs.Ends.{answer_line}
 use Rattle.sg_batch.specs.DoesScans.{AnswersLine, Handed, ScanTalk, replies_in, scans_in, stores_of}
 
 pub scans-push : (handed : List Handed) (x : Handed) → scans_in (handed ++ x ∷ []) ≡ scans_in handed ++ x.line ∷ []

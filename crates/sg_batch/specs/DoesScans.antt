@@ -1,5 +1,6 @@
 -- A run of `scans`: an office's talk over the records of a scanner's file (this project's rules for the office).
-use Rattle.std.specs.Prelude.{◌≡◌, ℕ, ◌+◌, ◌-◌, ◌^◌, ◌<◌, ◌≤◌, List, [], ◌∷◌, map}
+use Rattle.std.specs.Prelude.{◌≡◌, ℕ, ◌+◌, List, [], ◌∷◌, map}
+use Rattle.sg_outside.specs.Streams.{Seen}
 use Rattle.sg_keeper.specs.declared.replies.Reply.{Reply}
 use Rattle.sg_keeper.specs.declared.rows.Rows.{Rows}
 use Rattle.sg_keeper.specs.declared.setup.Setup.{Setup}
@@ -7,14 +8,14 @@ use Rattle.sg_talk.specs.declared.answered.Answered.{Answered}
 use Rattle.sg_talk.specs.declared.answered.Answered.TheVariants as answered
 use Rattle.sg_talk.specs.Talk.{store_in}
 use Rattle.sg_histories.specs.Histories.{Entry}
-use Rattle.sg_histories.specs.KeptRows.{rows_of}
 use Rattle.sg_turns.specs.Turns.{AskTurn}
 use Rattle.sg_scans.specs.declared.fields.ScanLine.{ScanLine}
 use Rattle.sg_scans.specs.declared.fields.ScanLine.TheVariants as line
-use Rattle.sg_clerk.specs.Does.{answer_line}
-use Rattle.sg_clerk.specs.Ends.{Moment}
-use Rattle.sg_batch.specs.ScansEnds.{ScansEndSo}
-use Rattle.sg_batch.specs.declared.answering.ScansEnd.{ScansEnd}
+use Rattle.sg_clerk.specs.Ends.{HasFailed, Moment, answer_line, input_at, out_at}
+use Rattle.sg_clerk.specs.Taken.{TookAtMost}
+use Rattle.sg_clerk.specs.Talks.{Talked}
+use Rattle.sg_clerk.specs.declared.ended.Ending.{Ending}
+use Rattle.sg_batch.specs.ScansEnds.{ScansEndSo, longest_file}
 
 -- a record of a scanner's file, and what is answered to it
 pub record Handed : Type 0 where
@@ -44,13 +45,16 @@ abbrev pub stores_of : List Handed → ℕ
 stores_of [] = 0
 stores_of (one ∷ handed) = store_in one.answer + stores_of handed
 
--- A run of `scans` from a history on: some first records of the input were answered by a talk; where the keeper tells the
--- rows of that history before, it tells those of the history at the talk's end; at most as many answers say that the
--- keeper failed as its count rose by, unless that stands at its last value.
-pub record DoesScans (how : ScansEnd) (setup : Setup) (history : List Entry) (tells : Type 0) (rows after : Rows) (before now : Moment) : Type 0 where
-  pub handed : List Handed
-  pub next : List Entry
-  pub talk : ScanTalk setup handed history next
-  pub kept : tells → (text : List ℕ) → rows ≡ rows_of setup text history → after ≡ rows_of setup text next
-  pub stores : now.keep_faults < 2 ^ 64 - 1 → before.keep_faults + stores_of handed ≤ now.keep_faults
-  pub ends : ScansEndSo how (scans_in handed) (replies_in setup.plan.version handed) before now
+-- How the run ended: some first records of the input were answered. However it ended, of the input at most as many bytes were
+-- taken as a scanner's file has, and one more.
+pub record EndsScans (input input' out out' : Seen) (how : Ending) (setup : Setup) (handed : List Handed) : Type 0 where
+  pub took : TookAtMost (longest_file + 1) input.bytes input'.bytes
+  pub cause : HasFailed how input.faults input'.faults out.faults out'.faults
+  pub ends : ScansEndSo how (scans_in handed) (replies_in setup.plan.version handed) input.bytes input'.bytes out.bytes out'.bytes
+
+abbrev pub ScansEnd : Moment → Moment → Ending → Setup → List Handed → Type 0
+ScansEnd before now = EndsScans (input_at before) (input_at now) (out_at before) (out_at now)
+
+-- A run of `scans` from a history on: a talk over the records of a scanner's file, and how it ended.
+abbrev pub DoesScans : Ending → Setup → List Entry → (tells : Type 0) → Rows → Rows → Moment → Moment → Type 0
+DoesScans how setup history tells rows rows' before now = Talked ScanTalk stores_of (ScansEnd before now how) setup history tells rows rows' before.keep_faults now.keep_faults

@@ -6,6 +6,5 @@ pub mod laws;
 mod reading;
 mod scanning;
 
-pub use answering::{ScansEnd, do_scans, scans_status};
-pub use reading::ScansRefusal;
+pub use answering::do_scans;
 pub use scanning::answer_scans;

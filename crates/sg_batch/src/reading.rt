@@ -5,7 +5,7 @@ ghost use Rattle.sg_batch.specs.ScansEnds.{longest_file};
 ghost use Rattle.sg_clerk.specs.Taken.{TookAtMost};
 ghost use Rattle.sg_batch.specs.inside.ScanSteps.{IsScanFile, ReadsScans};
 
-use sg_clerk::fill;
+use sg_clerk::{Unfit, fill};
 use sg_outside::Source;
 use sg_plan::{Items, NoMemory};
 use sg_scans::{ScanLine, ScansFault, read_scans};
@@ -14,24 +14,13 @@ use std::alloc::Global;
 /// The most bytes of a scanner's file.
 const LONGEST_FILE: usize = 16_777_216;
 
-/// Why a scanner's file is refused.
-#[derive(Clone, Copy, Debug, PartialEq, Eq)]
-pub enum ScansRefusal {
-    /// It has more than 16,777,216 bytes.
-    Size,
-    /// Its first record is not `station,secret,ref,ballot,marks`.
-    Header,
-    /// More than 100,000 records stand behind the first one.
-    Count,
-}
-
 /// What an input is.
 #[derive(Drop)]
 pub enum ScanFile {
     /// A scanner's file with these records behind its first one.
     Scans(Items<ScanLine>),
     /// None, for this cause.
-    Bad(ScansRefusal),
+    Bad(Unfit),
     /// Not read: a read failed.
     Fault,
     /// Not read: memory was wanted and not found.
@@ -45,8 +34,8 @@ fn scans_in(alloc: Global, bytes: &[u8]) -> ScanFile
 {
     match read_scans(alloc, bytes) {
         Ok(lines) => ScanFile::Scans(lines),
-        Err(ScansFault::Header) => ScanFile::Bad(ScansRefusal::Header),
-        Err(ScansFault::Count) => ScanFile::Bad(ScansRefusal::Count),
+        Err(ScansFault::Header) => ScanFile::Bad(Unfit::Header),
+        Err(ScansFault::Count) => ScanFile::Bad(Unfit::Count),
         Err(ScansFault::NoMemory) => ScanFile::NoMemory,
     }
 }
@@ -68,7 +57,7 @@ fn read_scans_into<S: Source>(alloc: Global, buf: &mut [u8], input: &mut S) -> S
         return ScanFile::Fault;
     };
     if count > LONGEST_FILE {
-        return ScanFile::Bad(ScansRefusal::Size);
+        return ScanFile::Bad(Unfit::Size);
     }
     scans_in(alloc, &buf[..count])
 }

@@ -2,8 +2,8 @@
 ghost use Rattle.std.specs.Prelude.{◌≡◌, ◌≤◌};
 ghost use Rattle.sg_batch.specs.ScansAsked.{ScansSay};
 
-use crate::answering::{do_scans, scans_status};
-use sg_clerk::{Opened, Shown, open_kept, show_damage, show_empty, shown_status};
+use crate::answering::do_scans;
+use sg_clerk::{ending_status, open_kept, show_closed, shown_status};
 use sg_keeper::Keeper;
 use sg_outside::{Sink, Source};
 use std::alloc::Global;
@@ -22,13 +22,10 @@ pub fn answer_scans<S: Source, K: Keeper, O: Sink>(
     ensures told { K.tells keeper.old → K.tells keeper.new }
 {
     match open_kept(alloc, keeper) {
-        Opened::Office(office) => {
+        Ok(office) => {
             let mut office = office;
-            scans_status(do_scans(alloc, &mut office, input, keeper, out))
+            ending_status(do_scans(alloc, &mut office, input, keeper, out))
         }
-        Opened::LoadFault => shown_status(Shown::LoadFault),
-        Opened::Empty => shown_status(show_empty(out)),
-        Opened::Damaged(table, row) => shown_status(show_damage(alloc, table, row, out)),
-        Opened::NoMemory => shown_status(Shown::NoMemory),
+        Err(why) => shown_status(show_closed(alloc, why, out)),
     }
 }

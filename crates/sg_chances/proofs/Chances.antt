@@ -1,5 +1,5 @@
 -- All lists of coins get yes behind the first two sections of an unaltered run.
-use Rattle.std.proofs.Common.{◌≡◌, ℕ, Bool, true, false, ◌&&◌, ◌||◌, List, [], ◌∷◌, ◌++◌, length, Option, Some, None, refl, sym, subst, ap, ◌∙◌, append_assoc}
+use Rattle.std.proofs.Common.{◌≡◌, ◌≢◌, ℕ, true, ◌&&◌, List, [], ◌∷◌, ◌++◌, length, Option, Some, None, refl, sym, subst, ap, ◌∙◌, append-nil, arith}
 use Rattle.std.specs.List.{list_all, list_any}
 use Rattle.std.specs.Str.{bytes_eq}
 use Rattle.std.proofs.lemmas.Bool.{and_from, and_parts}
@@ -28,30 +28,29 @@ use Rattle.sg_grammar.proofs.Ranges.{lines_are_in_plan}
 use Rattle.sg_grammar.proofs.Wholes.{whole_has_each}
 use Rattle.sg_grammar.specs.Lines.{IsAmong, placed_of}
 use Rattle.sg_grammar.specs.Placed.{Placed}
-use Rattle.sg_grammar.specs.Placed.Placed.{DrawnFull, DrawnPublic, RowAt, SealAt}
+use Rattle.sg_grammar.specs.Placed.Placed.{DrawnFull, DrawnPublic, RowAt}
 use Rattle.sg_grammar.specs.Walk.{Walked, start, walk}
 use Rattle.sg_record.proofs.PlacesLaw.{posts-places}
-use Rattle.sg_record.specs.Lines.{lines_in, plan_lines}
-use Rattle.sg_record.specs.Places.{draw_place}
+use Rattle.sg_record.specs.Lines.{lines_in}
+use Rattle.sg_record.specs.Places.{commit_places, draw_place, places_in, result_places}
 use Rattle.sg_check.proofs.BoundLaws.{whole_is}
 use Rattle.sg_check.proofs.Rows.{posted_row}
 use Rattle.sg_check.specs.Completions.{IsHalfOf, OpensNoneTwice, half_commitment, half_kind, opened_on}
-use Rattle.sg_check.specs.Facts.{draws_full, is_both, is_full_draw}
+use Rattle.sg_check.specs.Facts.{is_both, is_full_draw}
 use Rattle.sg_check.specs.Kinds.{opens_digest}
 use Rattle.sg_check.specs.Laws.{IsAccepted}
 use Rattle.sg_check.specs.Verdict.{totals_of}
-use Rattle.sg_post.proofs.Each.{EachOf, of-append}
 use Rattle.sg_post.specs.Fits.{claim_fits, fates_fit, stage_fits}
-use Rattle.sg_post.specs.Posted.{posted_record, posted_text, row_commit_of, seal_2, seal_3}
+use Rattle.sg_post.specs.Posted.{posted_record, posted_text, row_commit_of}
 use Rattle.sg_post.specs.declared.story.Claimed.{Claimed}
 use Rattle.sg_post.specs.declared.story.Story.{Story}
 use Rattle.sg_post.specs.declared.story.Told.{Told}
-use Rattle.sg_accepted.proofs.Joining.{front-of, front_places, posted-front}
 use Rattle.sg_accepted.proofs.Law.{unaltered_is_accepted}
-use Rattle.sg_accepted.proofs.Opening.{OpensRight, OpensRow, left_commitment-is, right_commitment-is}
-use Rattle.sg_accepted.proofs.OpeningWhole.{lines-open}
-use Rattle.sg_accepted.proofs.Sections.{OfBlocks, fates-of, results-of}
-use Rattle.sg_accepted.proofs.StoryPlaces.{ballot_places, claim_places, late_places, posted_places, result_places, row_places}
+use Rattle.sg_facts.proofs.Each.{EachOf, of-into}
+use Rattle.sg_facts.proofs.Facts.{full_draw_is}
+use Rattle.sg_facts.proofs.Rising.{IsPart, behind_ballots, behind_commits, behind_results, blocks, blocks_are, commits_are, head, head_is, part_of, results_are}
+use Rattle.sg_accepted.proofs.Opening.{OpensRow, opened-opens}
+use Rattle.sg_accepted.proofs.Posted.{SaysRight, all-right, committed_half}
 use Rattle.sg_accepted.proofs.StoryWalks.{Walks, story-walks, walked_as}
 use Rattle.sg_accepted.specs.Unaltered.{IsRightClaim, IsUnaltered}
 use Rattle.sg_odds.proofs.Verdicts.{all_both, full_gets_yes}
@@ -80,31 +79,33 @@ before_behind (DrawnFull ∷ xs) ys none = absurd none.0
 before_behind (DrawnPublic digits ∷ xs) ys none = absurd none.0
 before_behind (line ∷ xs) ys none = ap (λ (l : List Placed). line ∷ l) (before_behind xs ys none.1)
 
-blocks_no_draw : (plan : Plan) (seed : List ℕ) → OfBlocks IsNoDraw plan seed
-blocks_no_draw plan seed = record { begun = λ b. tt; code = λ k b r c x y z. tt; over = λ b r. tt; paper = λ b r l. tt }
+no_draw : (line : Placed) → part_of line ≢ 5 → IsNoDraw line
+no_draw DrawnFull other = absurd (other refl)
+no_draw (DrawnPublic digits) other = absurd (other refl)
+no_draw line other = tt
 
-sealed : (plan : Plan) (seed : List ℕ) (fates : List Told) (draw : Draw) (rest : List Placed) → before_draw (SealAt 2 (seal_2 plan seed fates) ∷ draw_place draw ∷ rest) ≡ SealAt 2 (seal_2 plan seed fates) ∷ []
-sealed plan seed fates drawn.Full rest = refl
-sealed plan seed fates (drawn.Public bytes) rest = refl
+of_part : (part : ℕ) (lines : List Placed) → part ≢ 5 → EachOf (IsPart part) lines → EachOf IsNoDraw lines
+of_part part lines other all = of-into (IsPart part) IsNoDraw lines (λ line is. no_draw line (λ e. other (let same : part ≡ 5 = omega (arith, is, e) in same))) all
 
+drawn_first : (draw : Draw) (rest : List Placed) → before_draw (draw_place draw ∷ rest) ≡ []
+drawn_first drawn.Full rest = refl
+drawn_first (drawn.Public bytes) rest = refl
+
+-- the lines before the draw, whatever is drawn
 abbrev sections : Plan → List ℕ → List Told → List Placed
-sections plan seed fates = front_places plan seed ++ (ballot_places plan seed fates ++ (result_places plan seed fates ++ SealAt 2 (seal_2 plan seed fates) ∷ []))
+sections plan seed fates =
+    let posted = posted_record plan seed fates drawn.Full [] in
+    head posted ++ (commit_places posted ++ (blocks posted ++ result_places posted))
 
-in_three : (a b c d e : List Placed) → EachOf IsNoDraw a → EachOf IsNoDraw b → EachOf IsNoDraw c → before_draw (a ++ (b ++ ((c ++ d) ++ e))) ≡ a ++ (b ++ (c ++ before_draw (d ++ e)))
-in_three a b c d e x y z =
-    before_behind a (b ++ ((c ++ d) ++ e)) x
-    ∙ ap (λ (l : List Placed). a ++ l) (before_behind b ((c ++ d) ++ e) y
-    ∙ ap (λ (l : List Placed). b ++ l) (ap before_draw (append_assoc c d e) ∙ before_behind c (d ++ e) z))
-
-module _ (plan : Plan) (seed : List ℕ) (fates : List Told) (fine : fault_of plan ≡ None) (fit : fates_fit plan 0 fates ≡ true) where
-  sections_are : (draw : Draw) (claims : List Claimed) → before_draw (posted_places plan seed fates draw claims) ≡ sections plan seed fates
-  sections_are draw claims =
-      let rest = row_places plan seed fates draw ++ SealAt 3 (seal_3 plan seed fates draw) ∷ [] in
-      ap before_draw (posted-front plan seed fates draw claims)
-      ∙ (in_three (front_places plan seed) (ballot_places plan seed fates) (result_places plan seed fates) (SealAt 2 (seal_2 plan seed fates) ∷ draw_place draw ∷ rest) (claim_places plan seed claims)
-      (front-of IsNoDraw plan seed (λ said. tt) (λ race entry x y. tt) (λ race instance number x y z. tt) tt) (fates-of IsNoDraw plan seed 0 fates fine (blocks_no_draw plan seed) fit)
-      (results-of IsNoDraw plan seed fates (λ race instance from bits. tt) (λ race from bits. tt) (λ race candidate x y. tt))
-      ∙ ap (λ (l : List Placed). front_places plan seed ++ (ballot_places plan seed fates ++ (result_places plan seed fates ++ l))) (sealed plan seed fates draw (rest ++ claim_places plan seed claims)))
+sections_are : (plan : Plan) (seed : List ℕ) (fates : List Told) (draw : Draw) (claims : List Claimed) → before_draw (places_in (posted_record plan seed fates draw claims)) ≡ sections plan seed fates
+unfolding places_in
+sections_are plan seed fates draw claims =
+    let posted = posted_record plan seed fates draw claims in
+    before_behind (head posted) (commit_places posted ++ behind_commits posted) (of_part 0 (head posted) (λ e. omega (arith, e)) (head_is posted))
+    ∙ ap (λ (l : List Placed). head posted ++ l) (before_behind (commit_places posted) (behind_commits posted) (of_part 2 (commit_places posted) (λ e. omega (arith, e)) (commits_are posted))
+    ∙ ap (λ (l : List Placed). commit_places posted ++ l) (before_behind (blocks posted) (behind_ballots posted) (of_part 3 (blocks posted) (λ e. omega (arith, e)) (blocks_are posted))
+    ∙ ap (λ (l : List Placed). blocks posted ++ l) (before_behind (result_places posted) (behind_results posted) (of_part 4 (result_places posted) (λ e. omega (arith, e)) (results_are posted))
+    ∙ (ap (λ (l : List Placed). result_places posted ++ l) (drawn_first draw _) ∙ append-nil (result_places posted)))))
 
 -- WHAT IS OPENED IS WHAT THE TABLES SAY
 
@@ -127,16 +128,12 @@ same_bytes d = (bytes_eq-Decides d d).1 refl
 
 module _ (plan : Plan) (seed : List ℕ) (fates : List Told) (draw : Draw) (claims : List Claimed) (fine : fault_of plan ≡ None) (fit : fates_fit plan 0 fates ≡ true) (claimed : list_all (claim_fits plan) claims ≡ true) where
   abbrev places : List Placed
-  places = posted_places plan seed fates draw claims
-
-  all_right : EachOf (OpensRight plan seed) places
-  all_right =
-      subst (λ (l : List Placed). EachOf (OpensRight plan seed) l) (sym (posted-front plan seed fates draw claims))
-      (of-append (OpensRight plan seed) (front_places plan seed) (ballot_places plan seed fates ++ (late_places plan seed fates draw ++ claim_places plan seed claims))
-      (front-of (OpensRight plan seed) plan seed (λ said. tt) (λ race entry x y. tt) (λ race instance number x y z. tt) tt) (lines-open plan seed fates draw claims fine fit claimed))
+  places = places_in (posted_record plan seed fates draw claims)
 
   row_right : (race instance row : ℕ) (opening : RowOpening) → IsAmong places (RowAt race instance row opening) → OpensRow plan seed race instance row opening
-  row_right race instance row opening among = (each_among (OpensRight plan seed) places among.0 among.1 (RowAt race instance row opening) all_right among.2).3
+  row_right race instance row opening among =
+      let right = each_among (SaysRight plan seed fates draw) places among.0 among.1 (RowAt race instance row opening) (all-right plan seed fates draw claims fine fit claimed) among.2 in
+      rw right.1 (opened-opens plan seed fates draw race instance row)
 
   opens_tables : OpensNoneTwice places (tables_of plan seed)
   opens_tables = λ on race instance row posted there.
@@ -146,17 +143,13 @@ module _ (plan : Plan) (seed : List ℕ) (fates : List Told) (draw : Draw) (clai
   tables_open : (on : Side) (race instance row : ℕ) → IsHalfOf plan race instance row → opens_digest (half_commitment places on race instance row) (half_kind on) race instance row (table_half plan seed on race instance row) ≡ true
   unfolding row_commit_of
   tables_open side.Left race instance row within =
-      let more = ballot_places plan seed fates ++ (late_places plan seed fates draw ++ claim_places plan seed claims) in
       let o = left_opening_of plan seed race instance row in
-      ap (λ (l : List Placed). opens_digest (half_commitment l side.Left race instance row) commit.L race instance row o) (posted-front plan seed fates draw claims)
-      ∙ (ap (λ (d : Option Digest). opens_digest d commit.L race instance row o) (left_commitment-is plan seed (plan_lines plan) race instance row more within.0 within.1 within.2)
-      ∙ same_bytes (sha256 (commit_input commit.L race instance row o)))
+      ap (λ (d : Option Digest). opens_digest d commit.L race instance row o) (committed_half plan seed fates draw claims side.Left race instance row within)
+      ∙ same_bytes (sha256 (commit_input commit.L race instance row o))
   tables_open side.Right race instance row within =
-      let more = ballot_places plan seed fates ++ (late_places plan seed fates draw ++ claim_places plan seed claims) in
       let o = right_opening_of plan seed race instance row in
-      ap (λ (l : List Placed). opens_digest (half_commitment l side.Right race instance row) commit.R race instance row o) (posted-front plan seed fates draw claims)
-      ∙ (ap (λ (d : Option Digest). opens_digest d commit.R race instance row o) (right_commitment-is plan seed (plan_lines plan) race instance row more within.0 within.1 within.2)
-      ∙ same_bytes (sha256 (commit_input commit.R race instance row o)))
+      ap (λ (d : Option Digest). opens_digest d commit.R race instance row o) (committed_half plan seed fates draw claims side.Right race instance row within)
+      ∙ same_bytes (sha256 (commit_input commit.R race instance row o))
 
 -- THE SAME STORY, ALL DRAWN
 
@@ -171,27 +164,10 @@ drawn_unaltered plan seed story fit unaltered = record {
   words = All-nil (IsRightClaim plan seed story.fates);
 }
 
-any_right : (test : Placed → Bool) (xs ys : List Placed) → list_any test ys ≡ true → list_any test (xs ++ ys) ≡ true
-any_right test [] ys e = e
-any_right test (x ∷ xs) ys e = either (test x) (list_any test (xs ++ ys)) (any_right test xs ys e)
-  where
-    either : (a b : Bool) → b ≡ true → (a || b) ≡ true
-    either true b p = refl
-    either false b p = p
-
-draw_there : (plan : Plan) (seed : List ℕ) (fates : List Told) → is_full_draw (posted_places plan seed fates drawn.Full []) ≡ true
-draw_there plan seed fates =
-    let rest = row_places plan seed fates drawn.Full ++ SealAt 3 (seal_3 plan seed fates drawn.Full) ∷ [] in
-    ap (list_any draws_full) (posted-front plan seed fates drawn.Full [])
-    ∙ any_right draws_full (front_places plan seed) (ballot_places plan seed fates ++ (late_places plan seed fates drawn.Full ++ claim_places plan seed []))
-    (any_right draws_full (ballot_places plan seed fates) (late_places plan seed fates drawn.Full ++ claim_places plan seed [])
-    (ap (list_any draws_full) (append_assoc (result_places plan seed fates) (SealAt 2 (seal_2 plan seed fates) ∷ DrawnFull ∷ rest) (claim_places plan seed []))
-    ∙ any_right draws_full (result_places plan seed fates) ((SealAt 2 (seal_2 plan seed fates) ∷ DrawnFull ∷ rest) ++ claim_places plan seed []) refl))
-
 module _ (plan : Plan) (seed : List ℕ) (fates : List Told) (fine : fault_of plan ≡ None) (fit : fates_fit plan 0 fates ≡ true) (texts : List (List ℕ)) (walked : Walked) (walks : walk start texts ≡ Some walked)
-    (plan_is : walked.next.plan ≡ plan) (places_are : placed_of walked.posted ≡ posted_places plan seed fates drawn.Full []) (accepted : IsAccepted texts (totals_of texts) walked) where
+    (plan_is : walked.next.plan ≡ plan) (places_are : placed_of walked.posted ≡ places_in (posted_record plan seed fates drawn.Full [])) (accepted : IsAccepted texts (totals_of texts) walked) where
   full : is_full_draw (placed_of walked.posted) ≡ true
-  full = ap is_full_draw places_are ∙ draw_there plan seed fates
+  full = ap is_full_draw places_are ∙ full_draw_is (posted_record plan seed fates drawn.Full [])
 
   -- each half of the tables is posted, and so an opening
   half_opening : (on : Side) (race instance row : ℕ) → IsHalfOf walked.next.plan race instance row → IsOpening (table_half plan seed on race instance row)
@@ -205,7 +181,7 @@ module _ (plan : Plan) (seed : List ℕ) (fates : List Told) (fine : fault_of pl
   all_coins : (coins : List Side) → length coins ≡ length (rows_due walked.next.plan) → GetsYes (sections plan seed fates) (tables_of plan seed) coins
   all_coins coins long =
       let opens = subst (λ (l : List Placed). OpensNoneTwice l (tables_of plan seed)) (sym places_are) (opens_tables plan seed fates drawn.Full [] fine fit refl) in
-      subst (λ (s : List Placed). GetsYes s (tables_of plan seed) coins) (ap before_draw places_are ∙ sections_are plan seed fates fine fit drawn.Full [])
+      subst (λ (s : List Placed). GetsYes s (tables_of plan seed) coins) (ap before_draw places_are ∙ sections_are plan seed fates drawn.Full [])
       (full_gets_yes texts (totals_of texts) walked accepted full (tables_of plan seed) opens coins long)
 
 full_is : (draw : Draw) → ◌≡◌ {A = Stage} (stage.Drawn drawn.Full) (stage.Drawn draw) → draw ≡ drawn.Full
@@ -224,8 +200,8 @@ module _ (plan : Plan) (seed : List ℕ) (story : Story) (fine : fault_of plan �
   texts : List (List ℕ)
   texts = lines_of (posted_text plan seed (all_drawn story))
 
-  placed_is : (told : Story) (walks : Walks plan seed told) → placed_of (walked_as plan seed told.fates walks.draw told.claims).posted ≡ posted_places plan seed told.fates walks.draw told.claims
-  placed_is told walks = posts-places plan.version (lines_in (posted_record plan seed told.fates walks.draw told.claims)) (posted_places plan seed told.fates walks.draw told.claims) walks.many
+  placed_is : (told : Story) (walks : Walks plan seed told) → placed_of (walked_as plan seed told.fates walks.draw told.claims).posted ≡ places_in (posted_record plan seed told.fates walks.draw told.claims)
+  placed_is told walks = posts-places plan.version (lines_in (posted_record plan seed told.fates walks.draw told.claims)) (places_in (posted_record plan seed told.fates walks.draw told.claims)) walks.many
 
   own_walks : Walks plan seed (all_drawn story)
   own_walks = story-walks plan seed (all_drawn story) fine fully_unaltered
@@ -233,8 +209,8 @@ module _ (plan : Plan) (seed : List ℕ) (story : Story) (fine : fault_of plan �
   own : Walked
   own = walked_as plan seed story.fates own_walks.draw []
 
-  own_places : placed_of (walked_as plan seed story.fates own_walks.draw []).posted ≡ posted_places plan seed story.fates drawn.Full []
-  own_places = placed_is (all_drawn story) own_walks ∙ ap (λ (d : Draw). posted_places plan seed story.fates d []) (full_is own_walks.draw own_walks.is)
+  own_places : placed_of (walked_as plan seed story.fates own_walks.draw []).posted ≡ places_in (posted_record plan seed story.fates drawn.Full [])
+  own_places = placed_is (all_drawn story) own_walks ∙ ap (λ (d : Draw). places_in (posted_record plan seed story.fates d [])) (full_is own_walks.draw own_walks.is)
 
   own_accepted : IsAccepted (lines_of (posted_text plan seed (all_drawn story))) (totals_of (lines_of (posted_text plan seed (all_drawn story)))) (walked_as plan seed story.fates own_walks.draw [])
   own_accepted = record { walks = own_walks.walks; yes = unaltered_is_accepted plan seed (all_drawn story) fine fully_unaltered }
@@ -242,14 +218,14 @@ module _ (plan : Plan) (seed : List ℕ) (story : Story) (fine : fault_of plan �
   posted_walks : Walks plan seed story
   posted_walks = story-walks plan seed story fine unaltered
 
-  completes : IsFullCompletion plan (posted_places plan seed story.fates posted_walks.draw story.claims) (tables_of plan seed)
+  completes : IsFullCompletion plan (places_in (posted_record plan seed story.fates posted_walks.draw story.claims)) (tables_of plan seed)
   completes = record {
     is_completion = record {
       is_opening = λ on race instance row o within e.
           subst IsOpening (same_Some (table_half plan seed on race instance row) o e)
           (half_opening plan seed story.fates fine fit (lines_of (posted_text plan seed (all_drawn story))) (walked_as plan seed story.fates own_walks.draw []) own_walks.walks refl own_places own_accepted on race instance row within);
       opens = λ on race instance row o within e.
-          subst (λ (x : Opening). opens_digest (half_commitment (posted_places plan seed story.fates posted_walks.draw story.claims) on race instance row) (half_kind on) race instance row x ≡ true)
+          subst (λ (x : Opening). opens_digest (half_commitment (places_in (posted_record plan seed story.fates posted_walks.draw story.claims)) on race instance row) (half_kind on) race instance row x ≡ true)
           (same_Some (table_half plan seed on race instance row) o e)
           (tables_open plan seed story.fates posted_walks.draw story.claims fine fit posted_walks.claimed on race instance row within);
       has = λ on race instance row there. refl;
@@ -263,7 +239,7 @@ module _ (plan : Plan) (seed : List ℕ) (story : Story) (fine : fault_of plan �
       record {
         full = subst (λ (l : List Placed). IsFullCompletion plan l (tables_of plan seed)) (sym places) completes;
         all = λ coins long.
-            subst (λ (s : List Placed). GetsYes s (tables_of plan seed) coins) (sym (ap before_draw places ∙ sections_are plan seed story.fates fine fit posted_walks.draw story.claims))
+            subst (λ (s : List Placed). GetsYes s (tables_of plan seed) coins) (sym (ap before_draw places ∙ sections_are plan seed story.fates posted_walks.draw story.claims))
             (all_coins plan seed story.fates fine fit (lines_of (posted_text plan seed (all_drawn story))) (walked_as plan seed story.fates own_walks.draw []) own_walks.walks refl own_places own_accepted coins long);
       }
 

@@ -1,16 +1,14 @@
 -- Each count of posted codes is the total.
-use Rattle.std.proofs.Common.{◌≡◌, ℕ, zero, suc, ◌+◌, ◌/◌, ◌%◌, ◌<◌, ◌==◌, Bool, true, false, ◌&&◌, cond, count_by, inl, inr, List, [], ◌∷◌, length, map, Option, Some, None, is_some, refl, sym, ap, ◌∙◌, arith}
+use Rattle.std.proofs.Common.{◌≡◌, ℕ, zero, suc, ◌/◌, ◌%◌, ◌<◌, ◌==◌, Bool, true, false, ◌&&◌, cond, count_by, inl, inr, List, [], ◌∷◌, length, map, Option, Some, None, is_some, refl, sym, ap, ◌∙◌, arith}
 use Rattle.std.specs.List.{list_all}
 use Rattle.std.specs.Option.{option_map_or}
 use Rattle.std.proofs.lemmas.Bool.{cases_eq, eq-eqb, ne_eqb}
 use Rattle.std.proofs.lemmas.List.Sorted.{sum_by-IsPermutation}
 use Rattle.std.proofs.lemmas.List.Sums.{sum_by-cons}
-use Rattle.sg_plan.proofs.Counting.{count_by-append}
 use Rattle.sg_plan.specs.Ballots.{candidates_of, entries_of}
 use Rattle.sg_plan.specs.Limits.{fault_of}
 use Rattle.sg_plan.specs.declared.plan.Draw.{Draw}
 use Rattle.sg_plan.specs.declared.plan.Plan.{Plan}
-use Rattle.sg_streams.proofs.NumberLists.{numbers_below-none, numbers_below-push}
 use Rattle.sg_streams.specs.Numbers.{numbers_below}
 use Rattle.sg_tables.proofs.TableLaws.{code_laws, entry_leads}
 use Rattle.sg_tables.specs.Laws.{Permutes}
@@ -24,26 +22,16 @@ use Rattle.sg_post.specs.Marks.{is_marked, total_of}
 use Rattle.sg_post.specs.Posted.{posted_record}
 use Rattle.sg_post.specs.declared.story.Claimed.{Claimed}
 use Rattle.sg_post.specs.declared.story.Told.{Told}
+use Rattle.sg_accepted.proofs.Counted.{below_counts}
 use Rattle.sg_accepted.proofs.Votes.{totals_count_marks}
-use Rattle.sg_cleared.proofs.Posted.{mark_is, marked_is}
+use Rattle.sg_accepted.proofs.Posted.{marked_is}
+use Rattle.sg_cleared.proofs.Posted.{mark_is}
 use Rattle.sg_cleared.proofs.Unaltered.{PrintsTables, entry_row}
 
 -- COUNTS
 
 abbrev one_if : Bool → ℕ
 one_if b = cond b 1 0
-
--- numbers that pass, in a list of all numbers and one by one
-below_counts : (test : ℕ → Bool) (count : ℕ) → count_by test (numbers_below count) ≡ count_below test count
-below_counts test zero = ap (count_by test) numbers_below-none
-below_counts test (suc count) =
-    let next : suc count ≡ count + 1 = omega arith in
-    let parts : count_by test (numbers_below (count + 1)) ≡ count_by test (numbers_below count) + count_by test (count ∷ [])
-    = ap (count_by test) (numbers_below-push count) ∙ count_by-append test (numbers_below count) (count ∷ []) in
-    let one = sum_by-cons (λ (k : ℕ). one_if (test k)) count [] in
-    let none : count_by test [] ≡ 0 = refl in
-    let rest = below_counts test count in
-    ap (λ k. count_by test (numbers_below k)) next ∙ omega (arith, parts, one, none, rest)
 
 pub same_counts : (p q : ℕ → Bool) (count : ℕ) → ((k : ℕ) → k < count → p k ≡ q k) → count_below p count ≡ count_below q count
 same_counts p q zero same = refl
@@ -108,7 +96,7 @@ module _ (plan : Plan) (seed : List ℕ) (fates : List Told) (draw : Draw) (clai
       at = entry / candidates_of plan race
 
       mark : is_some (marked_code plan race entry lines) ≡ is_marked plan seed fates race entry
-      mark = code_there plan race entry lines ∙ marked_is plan seed fates draw claims fine fit claimed race entry in_race below
+      mark = code_there plan race entry lines ∙ marked_is plan seed fates draw claims fine fit race entry in_race
 
       by_code : (o : Option ℕ) → marked_code plan race entry lines ≡ o
           → option_map_or (λ code. printing race at candidate == code) (marked_code plan race entry lines) false ≡ (path_of plan seed race entry % candidates_of plan race == candidate && is_marked plan seed fates race entry)

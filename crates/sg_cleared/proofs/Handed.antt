@@ -39,7 +39,8 @@ use Rattle.sg_openings.specs.Openings.{openings_text, openings_texts, row_text a
 use Rattle.sg_facts.specs.Items.{item_in, row_in}
 use Rattle.sg_parts.specs.Given.{AreCodes, AreOpenings, ArePrinted, Given, IsGiven, IsRowGiven, completion_line, completion_of, completion_texts, half_given, joined, printed_of, printing_line, row_text, sheet_texts}
 use Rattle.sg_parts.specs.declared.parts.RowGiven.{RowGiven}
-use Rattle.sg_cleared.proofs.Posted.{item_get, opening_on, row_get}
+use Rattle.sg_accepted.proofs.Posted.{item_get, row_get}
+use Rattle.sg_cleared.proofs.Posted.{opening_on}
 use Rattle.sg_cleared.proofs.Shapes.{each_joined, made_texts, passes}
 use Rattle.sg_cleared.proofs.SheetTexts.{Agree, AreOfVersion, same_sheet, sheet_are_lines}
 use Rattle.sg_cleared.proofs.Splitting.{completion_is_line, half_is_line, printing_is_line}

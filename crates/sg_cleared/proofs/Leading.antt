@@ -25,7 +25,8 @@ use Rattle.sg_post.specs.declared.story.Told.{Told}
 use Rattle.sg_odds.proofs.Gapping.{greatest_most, least_most}
 use Rattle.sg_odds.specs.Odds.{distance, exponent, gap, half_of, is_half_lacking, is_lacking, is_led, least_gap, led, no_opening}
 use Rattle.sg_cleared.proofs.Counting.{leads_to, moved_counts, same_counts, total_counts}
-use Rattle.sg_cleared.proofs.Posted.{marked_is, opening_on, total_is}
+use Rattle.sg_accepted.proofs.Posted.{marked_is}
+use Rattle.sg_cleared.proofs.Posted.{opening_on, total_is}
 use Rattle.sg_cleared.proofs.Unaltered.{HasTables, neither_of, none_below, not_within, pointer_below, points_elsewhere}
 
 -- NO ROW IS LACKING
@@ -73,7 +74,7 @@ module _ (plan : Plan) (seed : List ℕ) (fates : List Told) (draw : Draw) (clai
       = ap (λ (o : Opening). o.value) (half_is side.Right race instance number within) ∙ (opening_laws.right plan seed race instance number ∙ pointer_laws.composed plan seed race instance number) in
       ap (λ e. posted_marked plan race e lines && (half_of completion side.Right race instance number).value % candidates_of plan race == candidate) left
       ∙ (ap (λ s. posted_marked plan race entry lines && s % candidates_of plan race == candidate) right
-      ∙ (ap (λ (b : Bool). b && path_of plan seed race entry % candidates_of plan race == candidate) (marked_is plan seed fates draw claims fine fit claimed race entry within.0 below)
+      ∙ (ap (λ (b : Bool). b && path_of plan seed race entry % candidates_of plan race == candidate) (marked_is plan seed fates draw claims fine fit race entry within.0)
       ∙ turned (is_marked plan seed fates race entry) (path_of plan seed race entry % candidates_of plan race == candidate)))
 
   -- as many as the total says

@@ -1,12 +1,10 @@
 -- What a posted record says at each coordinate: what the tables and the fates of the ballots say there.
-use Rattle.std.proofs.Common.{◌≡◌, ℕ, ◌<◌, Bool, true, false, ◌||◌, List, [], ◌∷◌, ◌++◌, length, map, Option, Some, None, refl, sym, subst, ap, ◌∙◌}
-use Rattle.std.specs.List.{list_all, list_any}
-use Rattle.std.specs.Option.{option_and_then, option_map, option_map_or}
-use Rattle.std.specs.Prelude.{slice_get}
-use Rattle.std.proofs.lemmas.List.Folds.{list_any-append}
+use Rattle.std.proofs.Common.{◌≡◌, ℕ, ◌<◌, true, List, [], ◌∷◌, ◌++◌, length, Option, Some, None, refl, sym, subst, ap, ◌∙◌}
+use Rattle.std.specs.List.{list_all}
+use Rattle.std.specs.Option.{option_and_then, option_map_or}
 use Rattle.std.proofs.lemmas.Slice.Eq.{bytes_eq-Decides}
 use Rattle.sha2.specs.Sha256.{sha256}
-use Rattle.sg_plan.specs.Ballots.{candidates_of, entries_of, entry_at}
+use Rattle.sg_plan.specs.Ballots.{candidates_of, entry_at}
 use Rattle.sg_plan.specs.Limits.{fault_of}
 use Rattle.sg_plan.specs.declared.plan.Draw.{Draw}
 use Rattle.sg_plan.specs.declared.plan.Plan.{Plan}
@@ -16,8 +14,6 @@ use Rattle.sg_commit.specs.Commitments.{commit_input}
 use Rattle.sg_commit.specs.declared.CommitKind.{CommitKind}
 use Rattle.sg_commit.specs.declared.Digest.{Digest}
 use Rattle.sg_commit.specs.declared.Opening.{Opening}
-use Rattle.sg_streams.specs.Numbers.{numbers_below}
-use Rattle.sg_tables.proofs.Lists.{slice_get-map_below}
 use Rattle.sg_tables.proofs.TableLaws.{opening_laws}
 use Rattle.sg_tables.specs.Tables.{code_of_entry, left_opening_of, right_opening_of}
 use Rattle.sg_forms.specs.declared.line.CodeLine.{CodeLine}
@@ -27,48 +23,23 @@ use Rattle.sg_grammar.specs.Lines.{IsAmong}
 use Rattle.sg_grammar.specs.Placed.{Placed}
 use Rattle.sg_grammar.specs.Placed.Placed.{CodeAt, RowAt}
 use Rattle.sg_grammar.specs.declared.state.Block.{Block}
-use Rattle.sg_grammar.specs.declared.state.Block.TheVariants as block
-use Rattle.sg_record.specs.Places.{code_place, dispute_places, places_in}
+use Rattle.sg_record.specs.Places.{places_in}
 use Rattle.sg_record.specs.declared.record.Record.{Record}
 use Rattle.sg_check.proofs.Bounding.{posts}
-use Rattle.sg_check.proofs.Fronts.{any-before, any-behind}
 use Rattle.sg_check.specs.Completions.{IsHalfOf, half_commitment, half_kind, opened_on, posted_half}
-use Rattle.sg_check.specs.Facts.{is_flagged, is_marked as posted_marked, is_set as posted_set, marks_entry}
 use Rattle.sg_check.specs.Kinds.{opens_digest}
 use Rattle.sg_check.specs.Printings.{marked_code}
-use Rattle.sg_post.proofs.Each.{EachOf, of-append}
 use Rattle.sg_post.specs.Fits.{claim_fits, fates_fit}
-use Rattle.sg_post.specs.Marks.{flag_of, is_marked, is_set, total_of}
-use Rattle.sg_post.specs.Posted.{by_row, code_in_row, committed, dispute_of, opened_row, posted_record, row_commit_of}
+use Rattle.sg_post.specs.Marks.{total_of}
+use Rattle.sg_post.specs.Posted.{code_in_row, committed, opened_row, posted_record, row_commit_of}
 use Rattle.sg_post.specs.declared.story.Claimed.{Claimed}
 use Rattle.sg_post.specs.declared.story.Told.{Told}
-use Rattle.sg_accepted.proofs.FlagWhole.{flag_facts}
-use Rattle.sg_accepted.proofs.Joining.{base_places, end_places, front-of, front_places, of-none, posted-front, posted-rows}
-use Rattle.sg_accepted.proofs.Opening.{OpensRight, OpensRow}
-use Rattle.sg_accepted.proofs.OpeningWhole.{lines-open}
-use Rattle.sg_accepted.proofs.Pointer.{opened-opens}
-use Rattle.sg_accepted.proofs.Sections.{rows-of}
-use Rattle.sg_accepted.proofs.StoryPlaces.{ballot_places, claim_places, late_places, places-same, row_places}
+use Rattle.sg_accepted.proofs.Opening.{OpensRow, opened-opens}
+use Rattle.sg_accepted.proofs.Posted.{SaysRight, all-right, committed_half, item_get, row_get}
+use Rattle.sg_facts.proofs.Each.{EachOf}
 use Rattle.sg_facts.proofs.Facts.{are_listed}
-use Rattle.sg_facts.specs.Items.{item_in, row_in}
 use Rattle.sg_facts.specs.Listed.{AreListed, digest_on}
 use Rattle.sg_facts.specs.Totals.{total_of as posted_total}
-
--- ITEMS THAT ARE MADE NUMBER BY NUMBER
-
-pub row_get : {A : Type 0} (plan : Plan) (v : ℕ → ℕ → ℕ → A) (race instance number : ℕ) → IsHalfOf plan race instance number → row_in (by_row plan v) race instance number ≡ Some (v race instance number)
-row_get {A} plan v race instance number within =
-    let rows : ℕ → ℕ → List A = λ r i. map (v r i) (numbers_below (entries_of plan r)) in
-    let instances : ℕ → List (List A) = λ r. map (rows r) (numbers_below plan.instances) in
-    ap (option_and_then (λ (lists : List (List A)). item_in lists instance number)) (slice_get-map_below instances (length plan.races) race within.0)
-    ∙ (ap (option_and_then (λ (items : List A). slice_get items number)) (slice_get-map_below (rows race) plan.instances instance within.1)
-    ∙ slice_get-map_below (v race instance) (entries_of plan race) number within.2)
-
-pub item_get : {A : Type 0} (count : ℕ) (many : ℕ → ℕ) (v : ℕ → ℕ → A) (race number : ℕ) → race < count → number < many race
-    → item_in (map (λ r. map (v r) (numbers_below (many r))) (numbers_below count)) race number ≡ Some (v race number)
-item_get {A} count many v race number in_race within =
-    ap (option_and_then (λ (items : List A). slice_get items number)) (slice_get-map_below (λ r. map (v r) (numbers_below (many r))) count race in_race)
-    ∙ slice_get-map_below (v race) (many race) number within
 
 -- LINES
 
@@ -122,19 +93,6 @@ unfolding row_commit_of
 commits_on plan seed side.Left race instance number = refl
 commits_on plan seed side.Right race instance number = refl
 
--- DISPUTES MARK NOTHING
-
-codes_unmarked : (plan : Plan) (race entry ballot : ℕ) (codes : List CodeLine) → list_any (marks_entry plan race entry) (map (code_place block.Dispute ballot) codes) ≡ false
-codes_unmarked plan race entry ballot [] = refl
-codes_unmarked plan race entry ballot (code ∷ codes) = codes_unmarked plan race entry ballot codes
-
-claims_unmarked : (plan : Plan) (seed : List ℕ) (race entry : ℕ) (claims : List Claimed) → list_any (marks_entry plan race entry) (claim_places plan seed claims) ≡ false
-claims_unmarked plan seed race entry [] = refl
-claims_unmarked plan seed race entry (claimed ∷ claims) =
-    let one = dispute_of plan seed claimed in
-    list_any-append (marks_entry plan race entry) (dispute_places one) (claim_places plan seed claims)
-    ∙ (ap (λ (b : Bool). b || list_any (marks_entry plan race entry) (claim_places plan seed claims)) (codes_unmarked plan race entry one.ballot one.codes) ∙ claims_unmarked plan seed race entry claims)
-
 -- THE RECORD
 
 module _ (plan : Plan) (seed : List ℕ) (fates : List Told) (draw : Draw) (claims : List Claimed) (fine : fault_of plan ≡ None) (fit : fates_fit plan 0 fates ≡ true) (claimed : list_all (claim_fits plan) claims ≡ true) where
@@ -152,8 +110,7 @@ module _ (plan : Plan) (seed : List ℕ) (fates : List Told) (draw : Draw) (clai
   commitment_is : (on : Side) (race instance number : ℕ) → IsHalfOf plan race instance number
       → half_commitment lines on race instance number ≡ Some (committed (half_kind on) race instance number (opening_on plan seed on race instance number))
   commitment_is on race instance number within =
-      listed.commitment on race instance number
-      ∙ (ap (option_map (digest_on on)) (row_get plan (row_commit_of plan seed) race instance number within) ∙ ap (λ (d : Digest). Some d) (commits_on plan seed on race instance number))
+      committed_half plan seed fates draw claims on race instance number within ∙ ap (λ (d : Digest). Some d) (commits_on plan seed on race instance number)
 
   -- the tables' opening of a half opens its commitment
   pub half_opens : (on : Side) (race instance number : ℕ) → IsHalfOf plan race instance number
@@ -167,55 +124,32 @@ module _ (plan : Plan) (seed : List ℕ) (fates : List Told) (draw : Draw) (clai
       opened_is plan seed on race instance number (opened_row plan seed fates draw race instance number) one (opened-opens plan seed fates draw race instance number)
       (sym (listed.half on race instance number ∙ ap (option_and_then (opened_on on)) (row_get plan (opened_row plan seed fates draw) race instance number within)) ∙ is)
 
-  -- FLAGS, PLACES AND TOTALS
-
-  pub flag_is : (race instance number : ℕ) → IsHalfOf plan race instance number → is_flagged race instance number lines ≡ flag_of plan seed fates race instance number
-  flag_is race instance number within =
-      listed.flag race instance number (flag_of plan seed fates race instance number) within.0 (row_get plan (flag_of plan seed fates) race instance number within)
-
-  pub set_is : (race place : ℕ) → race < length plan.races → place < entries_of plan race → posted_set race place lines ≡ is_set plan seed fates race place
-  set_is race place in_race within =
-      listed.place race place (is_set plan seed fates race place) in_race (item_get (length plan.races) (entries_of plan) (is_set plan seed fates) race place in_race within)
+  -- TOTALS
 
   pub total_is : (race candidate : ℕ) → race < length plan.races → candidate < candidates_of plan race → posted_total lines race candidate ≡ total_of plan seed fates race candidate
   total_is race candidate in_race within =
       ap (λ (o : Option ℕ). option_map_or (λ count. count) o 0)
       (listed.total race candidate (total_of plan seed fates race candidate) in_race (item_get (length plan.races) (candidates_of plan) (total_of plan seed fates) race candidate in_race within))
 
-  -- MARKS
-
-  pub marked_is : (race entry : ℕ) → race < length plan.races → entry < entries_of plan race → posted_marked plan race entry lines ≡ is_marked plan seed fates race entry
-  marked_is race entry in_race within =
-      let test : Placed → Bool = marks_entry plan race entry in
-      let rows : List Placed = row_places plan seed fates draw in
-      let ends : List Placed = end_places plan seed fates draw claims in
-      ap (list_any test) (places-same plan seed fates draw claims ∙ posted-rows plan seed fates draw claims)
-      ∙ (any-before test (base_places plan seed fates draw) (rows ++ ends)
-      (any-behind test rows ends (of-none test rows (rows-of (λ (line : Placed). test line ≡ false) plan seed fates draw (λ r i n a b c. refl))) ∙ claims_unmarked plan seed race entry claims)
-      ∙ (flag_facts plan seed fates draw fine fit).marked race entry in_race within)
-
   -- WHAT LINES OPEN
 
-  all_open : EachOf (OpensRight plan seed) lines
-  all_open =
-      let P : Placed → Type 0 = OpensRight plan seed in
-      subst (EachOf P) (sym (places-same plan seed fates draw claims ∙ posted-front plan seed fates draw claims))
-      (of-append P (front_places plan seed) (ballot_places plan seed fates ++ (late_places plan seed fates draw ++ claim_places plan seed claims))
-      (front-of P plan seed (λ said. tt) (λ race entry a b. tt) (λ race instance number a b c. tt) tt) (lines-open plan seed fates draw claims fine fit claimed))
+  all_right_lines : EachOf (SaysRight plan seed fates draw) lines
+  all_right_lines = all-right plan seed fates draw claims fine fit claimed
 
   -- a row that is opened on both sides
   pub both_are : (race instance number : ℕ) (left right : Opening) → IsAmong lines (RowAt race instance number (row.Both left right))
       → IsHalfOf plan race instance number × (left ≡ left_opening_of plan seed race instance number) × (right ≡ right_opening_of plan seed race instance number)
   both_are race instance number left right among =
-      let is = among_of (OpensRight plan seed) lines (RowAt race instance number (row.Both left right)) all_open among in
-      ((is.0, is.1, is.2), is.3.0, is.3.1)
+      let is = among_of (SaysRight plan seed fates draw) lines (RowAt race instance number (row.Both left right)) all_right_lines among in
+      let opens : OpensRow plan seed race instance number (row.Both left right) = subst (OpensRow plan seed race instance number) (sym is.1) (opened-opens plan seed fates draw race instance number) in
+      (is.0, opens.0, opens.1)
 
   -- a code that is shown
   pub code_is : (kind : Block) (ballot race column : ℕ) (code : CodeLine) → IsAmong lines (CodeAt kind ballot race column code) → code.code ≡ code_of_entry plan seed race (entry_at plan race ballot column)
   unfolding code_in_row
   code_is kind ballot race column code among =
-      let is = among_of (OpensRight plan seed) lines (CodeAt kind ballot race column code) all_open among in
-      ap (λ (c : CodeLine). c.code) is.2 ∙ opening_laws.code plan seed race (entry_at plan race ballot column)
+      let is = among_of (SaysRight plan seed fates draw) lines (CodeAt kind ballot race column code) all_right_lines among in
+      ap (λ (c : CodeLine). c.code) is.3 ∙ opening_laws.code plan seed race (entry_at plan race ballot column)
 
   -- the code of a marked entry
   pub mark_is : (race entry shown : ℕ) → marked_code plan race entry lines ≡ Some shown → shown ≡ code_of_entry plan seed race entry

@@ -28,7 +28,8 @@ use Rattle.sg_post.specs.Posted.{posted_record}
 use Rattle.sg_post.specs.declared.story.Claimed.{Claimed}
 use Rattle.sg_post.specs.declared.story.Told.{Told}
 use Rattle.sg_accepted.proofs.Flag.{set-marked}
-use Rattle.sg_cleared.proofs.Posted.{flag_is, mark_is, marked_is, opening_on, set_is}
+use Rattle.sg_accepted.proofs.Posted.{flag_is, marked_is, set_is}
+use Rattle.sg_cleared.proofs.Posted.{mark_is, opening_on}
 
 -- TESTS
 
@@ -120,17 +121,17 @@ module _ (plan : Plan) (seed : List ℕ) (fates : List Told) (draw : Draw) (clai
   counts_so side.Left race instance number within =
       let entry = left_of plan seed race instance number in
       let below = (pointer_laws.lefts plan seed race instance).below number within.2 in
-      flag_is plan seed fates draw claims fine fit claimed race instance number within
-      ∙ (sym (marked_is plan seed fates draw claims fine fit claimed race entry within.0 below) ∙ ap (λ e. posted_marked plan race e lines) (sym (opening_laws.left plan seed race instance number)))
+      flag_is plan seed fates draw claims race instance number within
+      ∙ (sym (marked_is plan seed fates draw claims fine fit race entry within.0) ∙ ap (λ e. posted_marked plan race e lines) (sym (opening_laws.left plan seed race instance number)))
   counts_so side.Right race instance number within =
       let entry = left_of plan seed race instance number in
       let below = (pointer_laws.lefts plan seed race instance).below number within.2 in
       let place = path_of plan seed race entry in
       let place_below = (pointer_laws.paths plan seed race).below entry below in
       let value : (right_opening_of plan seed race instance number).value ≡ place = opening_laws.right plan seed race instance number ∙ pointer_laws.composed plan seed race instance number in
-      flag_is plan seed fates draw claims fine fit claimed race instance number within
+      flag_is plan seed fates draw claims race instance number within
       ∙ (sym (set-marked plan seed fates race entry below)
-      ∙ (sym (set_is plan seed fates draw claims fine fit claimed race place within.0 place_below) ∙ ap (λ s. posted_set race s lines) (sym value)))
+      ∙ (sym (set_is plan seed fates draw claims race place within.0 place_below) ∙ ap (λ s. posted_set race s lines) (sym value)))
 
   half_right : (on : Side) (race instance number : ℕ) → IsHalfOf plan race instance number → is_half_altered plan lines completion on race instance number ≡ false
   half_right on race instance number within =

@@ -5,6 +5,7 @@ use Rattle.sg_keeper.specs.SetupReading.{setup_in}
 use Rattle.sg_keeper.specs.declared.rows.Rows.{Rows}
 use Rattle.sg_keeper.specs.declared.setup.Setup.{Setup}
 use Rattle.sg_keeper.proofs.SetupLaw.{setups_are_spelled}
+use Rattle.sg_talk.specs.Talk.{stores_in}
 use Rattle.sg_desks.specs.ActReading.{act_in}
 use Rattle.sg_histories.specs.Histories.{Entry}
 use Rattle.sg_histories.specs.KeptRows.{rows_of}
@@ -15,9 +16,12 @@ use Rattle.sg_histories.proofs.Opening.{lawful_rows_open, open_rows_are_lawful}
 use Rattle.sg_keeper.specs.SetupText.{setup_text}
 use Rattle.sg_clerk.specs.Asked.{DoSays}
 use Rattle.sg_clerk.specs.Begun.{Beginning, InitSays, IsCut, Refusing, StatusSays}
+use Rattle.sg_clerk.specs.Does.{LineTalk, LinesEnd}
 use Rattle.sg_clerk.specs.Ends.{Moment}
 use Rattle.sg_clerk.specs.Laws.{KeepsPosted, KeepsRecord, PostedGrows}
-use Rattle.sg_clerk.specs.Shown.{IsDueOf, posted_of}
+use Rattle.sg_clerk.specs.Shown.{posted_of}
+use Rattle.sg_clerk.specs.Talks.{Talks}
+use Rattle.sg_clerk.specs.declared.ended.Ending.{Ending}
 use Rattle.sg_clerk.proofs.Keeping.{talks_keep_record}
 
 -- ROWS OF ONE SETUP
@@ -49,7 +53,7 @@ later_whole setup rows rows' text history next whole is is' lawful =
 -- WHAT GROWS
 
 -- what is posted of rows before a talk is a front of what is posted of those behind it
-pub talk_grows : (setup : Setup) (start next : List Entry) (rows rows' : Rows) → opening rows ≡ Whole setup → Lawful setup start → (text : List ℕ) → rows ≡ rows_of setup text start → rows' ≡ rows_of setup text next
+talk_grows : (setup : Setup) (start next : List Entry) (rows rows' : Rows) → opening rows ≡ Whole setup → Lawful setup start → (text : List ℕ) → rows ≡ rows_of setup text start → rows' ≡ rows_of setup text next
     → KeepsRecord setup start next → KeepsPosted rows rows'
 talk_grows setup start next rows rows' whole lawful text is is' keeps other opens =
     subst (λ (s : Setup). PostedGrows s rows rows') (whole_same setup other (sym whole ∙ opens)) (record {
@@ -80,13 +84,20 @@ none_grows rows rows' none setup opens = absurd (empty_is (ap (λ (t : Option (L
     empty_is : opens_from setup_in act_in rows None ≡ Whole setup → ⊥
     empty_is e = cc
 
+-- a talk of the kept office
+pub talks_grow : {X : Type 0} (Talk : Setup → List X → List Entry → List Entry → Type 0) (stores : List X → ℕ) (Ends : Ending → Setup → List X → Type 0) (status : ℕ) (tells : Type 0) (rows rows' : Rows) (faults faults' : ℕ)
+    → ((setup : Setup) (exchanges : List X) (history next : List Entry) → Lawful setup history → Talk setup exchanges history next → KeepsRecord setup history next)
+    → Talks Talk stores Ends status tells rows rows' faults faults' → tells → KeepsPosted rows rows'
+talks_grow Talk stores Ends status tells rows rows' faults faults' keeps talks told =
+    let from = talks.from told in
+    let does = talks.does in
+    talk_grows talks.setup talks.start does.next rows rows' (talks.whole told) talks.lawful from.0 from.1 (does.keeper.kept told from.0 from.1)
+    (keeps talks.setup does.exchanges talks.start does.next talks.lawful does.talk)
+
 -- `do`
 pub do_grows : (status : ℕ) (tells : Type 0) (rows rows' : Rows) (before now : Moment) → DoSays status tells rows rows' before now → tells → KeepsPosted rows rows'
 do_grows status tells rows rows' before now (inl talks) told =
-    let from = talks.from told in
-    let does = talks.does in
-    talk_grows talks.setup talks.start does.next rows rows' (talks.whole told) talks.lawful from.0 from.1 (does.kept told from.0 from.1)
-    (talks_keep_record talks.setup does.exchanges talks.start does.next talks.lawful does.talk)
+    talks_grow LineTalk stores_in (LinesEnd before now) status tells rows rows' before.keep_faults now.keep_faults talks_keep_record talks told
 do_grows status tells rows rows' before now (inr closed) told = same_grows rows rows' (closed.same told)
 
 -- `init`

@@ -1,5 +1,5 @@
 -- How a command that shows what is kept ends, from what was opened and what was written.
-use Rattle.std.proofs.Common.{◌≡◌, ℕ, List, inl, inr, refl, sym, ap, ◌∙◌, subst, arith}
+use Rattle.std.proofs.Common.{◌≡◌, ℕ, List, inl, inr, refl, sym, ap, ◌∙◌, subst}
 use Rattle.std.specs.Io.KnownBytes.{Appends}
 use Rattle.sg_outside.specs.Streams.{AppendsFront, Seen}
 use Rattle.sg_keeper.specs.declared.rows.Rows.{Rows}
@@ -14,7 +14,10 @@ use Rattle.sg_histories.specs.ValidRows.{Damaged, Empty, Opens, opening}
 use Rattle.sg_histories.specs.declared.kept.Kept.{Kept}
 use Rattle.sg_clerk.specs.Sheet.{sheet_of, sheet_text}
 use Rattle.sg_clerk.specs.Shown.{IsDue, IsDueOf, ShowSays, WritesFront, damaged_line, empty_line, posted_of}
-use Rattle.sg_clerk.specs.Opening.{IsOpen, IsTextOf, LineEnds, OfficeEnds, ShowEnds, WritesPart, WritesWhole, shown_status}
+use Rattle.sg_clerk.specs.Opening.{ClosedEnds, IsClosedFor, IsOpen, IsTextOf, OfficeEnds, ShowEnds, TellsWhy, WritesPart, WritesWhole, shown_status}
+use Rattle.sg_clerk.specs.Talks.{IsCutLine, NoOffice, NoSetup}
+use Rattle.sg_clerk.specs.declared.opened.Closed.{Closed}
+use Rattle.sg_clerk.specs.declared.opened.Closed.TheVariants as closed
 use Rattle.sg_clerk.specs.declared.shown.Shown.{Shown}
 use Rattle.sg_clerk.specs.declared.shown.Shown.TheVariants as shown
 
@@ -93,35 +96,40 @@ office_shows due_of shown.Damaged kept tells rows faults faults' out out' opens 
 office_shows due_of shown.NoMemory kept tells rows faults faults' out out' opens (inl same) = inl same
 office_shows due_of shown.NoMemory kept tells rows faults faults' out out' opens (inr part) = inr (due_front due_of kept tells rows out out' opens part)
 
--- behind rows without a setup
-pub empty_shows : (due_of : Setup → List Entry → List ℕ) (ending : Shown) (tells : Type 0) (rows : Rows) (faults faults' : ℕ) (out out' : Seen)
-    → (tells → opening rows ≡ Empty) → LineEnds empty_line shown.Empty ending out out' → ShowEnds due_of ending tells rows faults faults' out out'
-empty_shows due_of shown.Done tells rows faults faults' out out' empty ends = absurd (omega (arith, ap shown_status ends.0))
-empty_shows due_of shown.WriteFault tells rows faults faults' out out' empty ends = record {
-  cause = ends.0;
-  front = record { due = empty_line; is_due = due_as due_of tells rows Empty empty_line empty (λ told. refl); written = ends.1 };
-}
-empty_shows due_of shown.LoadFault tells rows faults faults' out out' empty ends = absurd (omega (arith, ap shown_status ends.0))
-empty_shows due_of shown.Empty tells rows faults faults' out out' empty ends = record { empty = empty; written = ends.1 }
-empty_shows due_of shown.Damaged tells rows faults faults' out out' empty ends = absurd (omega (arith, ap shown_status ends.0))
-empty_shows due_of shown.NoMemory tells rows faults faults' out out' empty ends = inl ends
+-- what was written where no office was opened
+pub closed_ends : (why : Closed) (how : Shown) (tells : Type 0) (rows : Rows) (faults faults' : ℕ) (out out' : Seen) → IsClosedFor why tells rows faults faults' → TellsWhy why how out out'
+    → ClosedEnds how tells rows faults faults' out out'
+closed_ends closed.LoadFault how tells rows faults faults' out out' rose told =
+    subst (λ (h : Shown). ClosedEnds h tells rows faults faults' out out') (sym told.0) (record { cause = rose; same = told.1 })
+closed_ends closed.Empty how tells rows faults faults' out out' empty (inl line) =
+    subst (λ (h : Shown). ClosedEnds h tells rows faults faults' out out') (sym line.0) (record { empty = empty; written = line.1 })
+closed_ends closed.Empty how tells rows faults faults' out out' empty (inr (inl front)) =
+    subst (λ (h : Shown). ClosedEnds h tells rows faults faults' out out') (sym front.0) (record { cause = front.1; cut = IsCutLine.NoSetup empty front.2 })
+closed_ends closed.Empty how tells rows faults faults' out out' empty (inr (inr none)) = subst (λ (h : Shown). ClosedEnds h tells rows faults faults' out out') (sym none.0) none.1
+closed_ends (closed.Damaged table row) how tells rows faults faults' out out' damage (inl line) =
+    subst (λ (h : Shown). ClosedEnds h tells rows faults faults' out out') (sym line.0) (record { table = table; row = row; damage = damage; written = line.1 })
+closed_ends (closed.Damaged table row) how tells rows faults faults' out out' damage (inr (inl front)) =
+    subst (λ (h : Shown). ClosedEnds h tells rows faults faults' out out') (sym front.0) (record { cause = front.1; cut = IsCutLine.NoOffice table row damage front.2 })
+closed_ends (closed.Damaged table row) how tells rows faults faults' out out' damage (inr (inr none)) =
+    subst (λ (h : Shown). ClosedEnds h tells rows faults faults' out out') (sym none.0) none.1
+closed_ends closed.NoMemory how tells rows faults faults' out out' is told = subst (λ (h : Shown). ClosedEnds h tells rows faults faults' out out') (sym told.0) told.1
 
--- behind rows of no office
-pub damage_shows : (due_of : Setup → List Entry → List ℕ) (ending : Shown) (tells : Type 0) (rows : Rows) (table row : ℕ) (faults faults' : ℕ) (out out' : Seen)
-    → (tells → opening rows ≡ Damaged table row) → LineEnds (damaged_line table row) shown.Damaged ending out out' → ShowEnds due_of ending tells rows faults faults' out out'
-damage_shows due_of shown.Done tells rows table row faults faults' out out' damage ends = absurd (omega (arith, ap shown_status ends.0))
-damage_shows due_of shown.WriteFault tells rows table row faults faults' out out' damage ends = record {
-  cause = ends.0;
-  front = record {
-    due = damaged_line table row;
-    is_due = due_as due_of tells rows (Damaged table row) (damaged_line table row) damage (λ told. refl);
-    written = ends.1;
-  };
-}
-damage_shows due_of shown.LoadFault tells rows table row faults faults' out out' damage ends = absurd (omega (arith, ap shown_status ends.0))
-damage_shows due_of shown.Empty tells rows table row faults faults' out out' damage ends = absurd (omega (arith, ap shown_status ends.0))
-damage_shows due_of shown.Damaged tells rows table row faults faults' out out' damage ends = record { table = table; row = row; damage = damage; written = ends.1 }
-damage_shows due_of shown.NoMemory tells rows table row faults faults' out out' damage ends = inl ends
+-- a front of the line that is due was written
+line_front : (due_of : Setup → List Entry → List ℕ) (tells : Type 0) (rows : Rows) (out out' : Seen) → IsCutLine tells rows out out' → WritesFront due_of tells rows out out'
+line_front due_of tells rows out out' (NoSetup empty written) =
+    record { due = empty_line; is_due = due_as due_of tells rows Empty empty_line empty (λ told. refl); written = written }
+line_front due_of tells rows out out' (NoOffice table row damage written) =
+    record { due = damaged_line table row; is_due = due_as due_of tells rows (Damaged table row) (damaged_line table row) damage (λ told. refl); written = written }
+
+-- behind rows that no office was opened of
+pub closed_shows : (due_of : Setup → List Entry → List ℕ) (ending : Shown) (tells : Type 0) (rows : Rows) (faults faults' : ℕ) (out out' : Seen)
+    → ClosedEnds ending tells rows faults faults' out out' → ShowEnds due_of ending tells rows faults faults' out out'
+closed_shows due_of shown.Done tells rows faults faults' out out' ends = absurd ends
+closed_shows due_of shown.WriteFault tells rows faults faults' out out' ends = record { cause = ends.cause; front = line_front due_of tells rows out out' ends.cut }
+closed_shows due_of shown.LoadFault tells rows faults faults' out out' ends = ends
+closed_shows due_of shown.Empty tells rows faults faults' out out' ends = ends
+closed_shows due_of shown.Damaged tells rows faults faults' out out' ends = ends
+closed_shows due_of shown.NoMemory tells rows faults faults' out out' ends = inl ends
 
 -- STATUSES
 

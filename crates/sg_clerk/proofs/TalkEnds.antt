@@ -1,52 +1,54 @@
 -- How a run of `do` ends, by how far it has come.
-use Rattle.std.proofs.Common.{◌≡◌, ℕ, ◌+◌, ◌<◌, ◌≤◌, List, [], ◌∷◌, ◌++◌, length, Some, None, refl, sym, subst, ap, ◌∙◌, append-nil, length-append, arith}
-use Rattle.std.proofs.lemmas.Bool.Decides.{nat_tests}
-use Rattle.std.specs.Prelude.{Option, true, false, ◌==◌}
+use Rattle.std.proofs.Common.{◌≡◌, ℕ, ◌<◌, ◌≤◌, List, [], ◌∷◌, ◌++◌, Some, None, inl, inr, refl, sym, subst, append-nil, length-append, arith}
+use Rattle.std.specs.Prelude.{Option, Result, Ok, Err, OnOk}
 use Rattle.std.specs.List.{concat}
-use Rattle.std.specs.Io.KnownBytes.{Appends, Consumes, IsAtEnd}
-use Rattle.sg_plan.specs.Limits.{longest_ask, most_asks}
+use Rattle.std.specs.Io.KnownBytes.{Appends, Consumes}
+use Rattle.sg_plan.specs.Limits.{most_asks}
 use Rattle.sg_outside.specs.Cutting.{Cutting, to_come}
-use Rattle.sg_outside.specs.Faults.{Rose}
-use Rattle.sg_outside.specs.TextLines.{HasNoFeed, IsLine, lines_of}
+use Rattle.sg_outside.specs.TextLines.{IsLine, lines_of}
 use Rattle.sg_outside.proofs.LineLemmas.{AreLines-append}
-use Rattle.sg_outside.proofs.StreamLemmas.{Appends-kept, Appends-nil, Appends-trans, AppendsFront-nothing, Consumes-front, Consumes-trans, IsAtEnd-held, Rose-later}
+use Rattle.sg_outside.proofs.StreamLemmas.{Appends-kept, Appends-nil, Appends-trans, Consumes-front, Consumes-trans, IsAtEnd-held, Rose-later}
 use Rattle.sg_keeper.specs.declared.rows.Rows.{Rows}
 use Rattle.sg_keeper.specs.declared.setup.Setup.{Setup}
 use Rattle.sg_talk.specs.Talk.{Exchange}
-use Rattle.sg_talk.proofs.Talks.{stores_are_counted, talks_go_on}
+use Rattle.sg_talk.proofs.Talks.{talks_go_on}
 use Rattle.sg_histories.specs.declared.kept.Kept.{Kept}
 use Rattle.sg_histories.specs.Histories.{Entry}
 use Rattle.sg_turns.specs.Turns.{AskTurn}
-use Rattle.sg_clerk.specs.Does.{Does, answer_line, lines_in, texts_in}
-use Rattle.sg_clerk.specs.Ends.{AreAllLines, AreFirstLines, EndsSo, IsRefused, IsRefusedFor, MissesLast, Moment, overrun_line}
+use Rattle.sg_clerk.specs.Does.{Does, lines_in, texts_in}
+use Rattle.sg_clerk.specs.Ends.{HasFailed, MissesLast, Moment, WroteLine, answer_line, refused_line}
+use Rattle.sg_clerk.specs.Lines.{AreAllLines, AreFirstLines, EndsSo, IsRefused, IsRefusedFor}
 use Rattle.sg_clerk.specs.Taken.{TookLines}
-use Rattle.sg_clerk.specs.inside.Steps.{Refuses, Stepped, Steps, Waits, WroteSome, last_ending}
-use Rattle.sg_clerk.specs.declared.talk.Ending.{Ending}
-use Rattle.sg_clerk.specs.declared.talk.Ending.TheVariants as ending
-use Rattle.sg_clerk.specs.declared.talk.Overrun.{Overrun}
-use Rattle.sg_clerk.specs.declared.talk.Step.{Step}
-use Rattle.sg_clerk.specs.declared.talk.Step.TheVariants as step
+use Rattle.sg_clerk.specs.inside.Steps.{CutsText, EndsBehind, EndsThere, FailsToRead, IsOver, IsPart, LineTurn, RefusesNext, Stepped, Steps, TakesLine, TakesNext, Waits, last_ending, side_of}
+use Rattle.sg_clerk.specs.declared.ended.Ending.{Ending}
+use Rattle.sg_clerk.specs.declared.ended.Ending.TheVariants as ending
+use Rattle.sg_clerk.specs.declared.ended.Unfit.{Unfit}
+use Rattle.sg_clerk.specs.declared.ended.Unfit.TheVariants as unfit
+use Rattle.sg_clerk.proofs.Follows.{follows-none, follows-still}
 use Rattle.sg_clerk.proofs.TalkGrows.{all-lines, all-lines_part, concat-push, first-lines, first-of_all, lines-length, lines-push, misses-last, misses-none, refused-stands, texts-push}
-use Rattle.sg_clerk.proofs.TalkGoes.{Goes, side_of}
+use Rattle.sg_clerk.proofs.TalkGoes.{Goes, keeper-push}
 use Rattle.sg_clerk.proofs.Taking.{CutBehind, took-behind, took-nothing, took-with}
 
 -- WITHOUT ANOTHER ANSWER
 
 -- the run ends where it is; the output and the input may have gone on
-does-same : (how : Ending) (cutter : Cutting) (office : Kept) (tells : Type 0) (rows after : Rows) (setup : Setup) (start : List Entry) (count : ℕ) (before now then : Moment)
-    → (goes : Goes cutter office tells rows after setup start count before now) → count ≤ most_asks → then.keep_faults ≡ now.keep_faults
-    → TookLines (lines_in goes.exchanges) before.left then.left → EndsSo how (lines_in goes.exchanges) (texts_in setup.plan.version goes.exchanges) before then
+does-same : (how : Ending) (cutter : Cutting) (office : Kept) (tells : Type 0) (rows middle after : Rows) (setup : Setup) (start : List Entry) (count : ℕ) (before now then : Moment)
+    → (goes : Goes cutter office tells rows middle setup start count before now) → count ≤ most_asks → after ≡ middle → then.keep_faults ≡ now.keep_faults
+    → TookLines (lines_in goes.exchanges) before.left then.left → HasFailed how before.read_faults then.read_faults before.write_faults then.write_faults
+    → EndsSo how (lines_in goes.exchanges) (texts_in setup.plan.version goes.exchanges) before.left then.left before.written then.written
     → Does how setup start tells rows after before then
-does-same how cutter office tells rows after setup start count before now then goes few same took ends = record {
+does-same how cutter office tells rows middle after setup start count before now then goes few kept same took cause ends = record {
   exchanges = goes.exchanges;
   next = goes.next;
   talk = goes.talk;
-  kept = goes.kept;
-  stores = λ below. omega (arith, same, goes.stores (omega (arith, same, below)));
-  lines = first-lines before.left (to_come cutter now.left) (lines_in goes.exchanges) goes.whole goes.taken;
-  few = omega (arith, goes.counted, few);
-  took = took;
-  ends = ends;
+  keeper = follows-still setup start goes.next _ tells rows middle after before.keep_faults now.keep_faults then.keep_faults kept same goes.keeper;
+  ends = record {
+    lines = first-lines before.left (to_come cutter now.left) (lines_in goes.exchanges) goes.whole goes.taken;
+    few = omega (arith, goes.counted, few);
+    took = took;
+    cause = cause;
+    ends = ends;
+  };
 }
 
 no-lines : (known : Option (List ℕ)) → AreFirstLines known []
@@ -59,244 +61,248 @@ does-nothing tells rows setup start before = record {
   exchanges = [];
   next = start;
   talk = refl;
-  kept = λ told text is. is;
-  stores = λ below. omega arith;
-  lines = no-lines before.left;
-  few = omega arith;
-  took = took-nothing before.left;
-  ends = misses-none before.written before.written [] (Appends-nil before.written);
+  keeper = follows-none setup start tells rows before.keep_faults;
+  ends = record {
+    lines = no-lines before.left;
+    few = omega arith;
+    took = took-nothing before.left;
+    cause = tt;
+    ends = misses-none before.written before.written [] (Appends-nil before.written);
+  };
 }
 
--- what was taken, and nothing more
-taken-on : (before middle after : Option (List ℕ)) (lines : List (List ℕ)) (more : List ℕ) → Consumes before middle (concat lines) → Consumes middle after more
-    → Consumes before after (concat lines ++ more)
-taken-on before middle after lines more taken cut = Consumes-trans before middle after (concat lines) more taken cut
-
 -- what was cut behind the lines, and is held
-pub cut-behind : (cutter more : Cutting) (office : Kept) (tells : Type 0) (rows after : Rows) (setup : Setup) (start : List Entry) (count : ℕ) (before now : Moment) (left : Option (List ℕ)) (text : List ℕ)
-    → (goes : Goes cutter office tells rows after setup start count before now) → Consumes (to_come cutter now.left) (to_come more left) text → length text + length more.ahead ≤ longest_ask
-    → CutBehind (lines_in goes.exchanges) text before.left left
-cut-behind cutter more office tells rows after setup start count before now left text goes cut few =
-    record { ahead = more.ahead; short = goes.short; cut = taken-on before.left (to_come cutter now.left) (to_come more left) (lines_in goes.exchanges) text goes.taken cut; few = few }
+abbrev cut-behind : (cutter more : Cutting) (office : Kept) (tells : Type 0) (rows after : Rows) (setup : Setup) (start : List Entry) (count : ℕ) (before now : Moment) (left : Option (List ℕ)) (text : List ℕ)
+    → (goes : Goes cutter office tells rows after setup start count before now) → CutsText cutter more now.left left text → CutBehind (lines_in goes.exchanges) text before.left left
+cut-behind cutter more office tells rows after setup start count before now left text goes cuts = record {
+  ahead = more.ahead;
+  short = goes.short;
+  cut = Consumes-trans before.left (to_come cutter now.left) (to_come more left) (concat (lines_in goes.exchanges)) text goes.taken cuts.cut;
+  few = cuts.few;
+}
 
--- the same of a text that the cutter told
-pub cut-text : (cutter more : Cutting) (office : Kept) (tells : Type 0) (rows after : Rows) (setup : Setup) (start : List Entry) (count : ℕ) (before now : Moment) (left : Option (List ℕ))
-    → (goes : Goes cutter office tells rows after setup start count before now) → Consumes (to_come cutter now.left) (to_come more left) more.text
-    → length more.text + length more.ahead ≤ more.limit → more.limit ≡ cutter.limit → cutter.limit ≡ longest_ask
-    → CutBehind (lines_in goes.exchanges) more.text before.left left
-cut-text cutter more office tells rows after setup start count before now left goes cut few same limit =
-    cut-behind cutter more office tells rows after setup start count before now left more.text goes cut (omega (arith, few, same, limit))
+-- what was taken, where the output is as it was
+still-written : (before now then : Option (List ℕ)) (bytes : List ℕ) → then ≡ now → Appends before now bytes → Appends before then bytes
+still-written before now then bytes same written = subst (λ (w : Option (List ℕ)). Appends before w bytes) (sym same) written
 
 -- at the end of the input
-pub does-done : (cutter more : Cutting) (office : Kept) (tells : Type 0) (rows after : Rows) (setup : Setup) (start : List Entry) (count : ℕ) (before now then : Moment)
-    → (goes : Goes cutter office tells rows after setup start count before now) → count ≤ most_asks → then.keep_faults ≡ now.keep_faults
-    → Consumes (to_come cutter now.left) (to_come more then.left) [] → more.ahead ≡ [] → IsAtEnd then.left → then.written ≡ now.written
-    → Does ending.Done setup start tells rows after before then
-does-done cutter more office tells rows after setup start count before now then goes few same cut no_more ended unwritten =
+does-over : (how : Ending) (cutter more : Cutting) (office : Kept) (tells : Type 0) (rows middle after : Rows) (setup : Setup) (start : List Entry) (count : ℕ) (before now then : Moment)
+    → (goes : Goes cutter office tells rows middle setup start count before now) → count ≤ most_asks → after ≡ middle → then.keep_faults ≡ now.keep_faults
+    → IsOver how cutter more now.left then.left now.written then.written → Does how setup start tells rows after before then
+does-over how cutter more office tells rows middle after setup start count before now then goes few kept same over =
     let lines = lines_in goes.exchanges in
-    let held : length more.ahead ≡ 0 = ap (λ (l : List ℕ). length l) no_more in
-    let took = took-behind lines [] before.left then.left (cut-behind cutter more office tells rows after setup start count before now then.left [] goes cut (omega (arith, held))) in
-    does-same ending.Done cutter office tells rows after setup start count before now then goes few same took (
+    let behind = cut-behind cutter more office tells rows middle setup start count before now then.left [] goes over.cut in
+    subst (λ (h : Ending). Does h setup start tells rows after before then) (sym over.how_is)
+    (does-same ending.Done cutter office tells rows middle after setup start count before now then goes few kept same (took-behind lines [] before.left then.left behind) tt (
       all-lines before.left (to_come more then.left) then.left lines goes.whole
-          (subst (λ (l : List ℕ). Consumes before.left (to_come more then.left) l) (append-nil (concat lines)) (taken-on before.left (to_come cutter now.left) (to_come more then.left) lines [] goes.taken cut))
-          (IsAtEnd-held more.ahead then.left no_more ended) ended,
-      subst (λ (w : Option (List ℕ)). Appends before.written w (concat (texts_in setup.plan.version goes.exchanges))) (sym unwritten) goes.written,
-    )
-
--- the bytes taken behind the lines
-pub taken-behind : (cutter more : Cutting) (office : Kept) (tells : Type 0) (rows after : Rows) (setup : Setup) (start : List Entry) (count : ℕ) (before now : Moment) (left : Option (List ℕ))
-    → (goes : Goes cutter office tells rows after setup start count before now) → Consumes (to_come cutter now.left) (to_come more left) []
-    → Consumes before.left left (concat (lines_in goes.exchanges) ++ more.ahead)
-taken-behind cutter more office tells rows after setup start count before now left goes cut =
-    let lines = lines_in goes.exchanges in
-    subst (λ (l : List ℕ). Consumes before.left left (l ++ more.ahead)) (append-nil (concat lines))
-    (Consumes-trans before.left (to_come more left) left (concat lines ++ []) more.ahead
-    (taken-on before.left (to_come cutter now.left) (to_come more left) lines [] goes.taken cut) (Consumes-front more.ahead left))
+          (subst (λ (l : List ℕ). Consumes before.left (to_come more then.left) l) (append-nil (concat lines)) behind.cut)
+          (IsAtEnd-held more.ahead then.left over.none_held over.ended) over.ended,
+      still-written before.written now.written then.written (concat (texts_in setup.plan.version goes.exchanges)) over.same goes.written,
+    ))
 
 -- at a failed read
-pub does-fault : (cutter more : Cutting) (office : Kept) (tells : Type 0) (rows after : Rows) (setup : Setup) (start : List Entry) (count : ℕ) (before now then : Moment)
-    → (goes : Goes cutter office tells rows after setup start count before now) → count ≤ most_asks → then.keep_faults ≡ now.keep_faults
-    → Consumes (to_come cutter now.left) (to_come more then.left) [] → HasNoFeed more.ahead → length more.ahead < longest_ask
-    → (count ≡ most_asks → more.ahead ≡ []) → then.written ≡ now.written → Rose before.read_faults then.read_faults
-    → Does ending.ReadFault setup start tells rows after before then
-does-fault cutter more office tells rows after setup start count before now then goes few same cut unended short none_more unwritten rose =
-    let took = took-behind (lines_in goes.exchanges) [] before.left then.left (cut-behind cutter more office tells rows after setup start count before now then.left [] goes cut (omega (arith, short))) in
-    does-same ending.ReadFault cutter office tells rows after setup start count before now then goes few same took (
-      rose,
+does-fault : (how : Ending) (cutter more : Cutting) (office : Kept) (tells : Type 0) (rows middle after : Rows) (setup : Setup) (start : List Entry) (count : ℕ) (before now then : Moment)
+    → (goes : Goes cutter office tells rows middle setup start count before now) → count ≤ most_asks → after ≡ middle → then.keep_faults ≡ now.keep_faults
+    → before.read_faults ≤ now.read_faults → (count ≡ most_asks → more.ahead ≡ [])
+    → FailsToRead how cutter more now.left then.left now.read_faults then.read_faults now.written then.written → Does how setup start tells rows after before then
+does-fault how cutter more office tells rows middle after setup start count before now then goes few kept same later none_more fails =
+    let lines = lines_in goes.exchanges in
+    let behind = cut-behind cutter more office tells rows middle setup start count before now then.left [] goes fails.cut in
+    subst (λ (h : Ending). Does h setup start tells rows after before then) (sym fails.how_is)
+    (does-same ending.ReadFault cutter office tells rows middle after setup start count before now then goes few kept same (took-behind lines [] before.left then.left behind)
+    (Rose-later before.read_faults now.read_faults then.read_faults later fails.rose) (
       record {
         rest = more.ahead;
         whole = goes.whole;
-        unended = unended;
-        few = short;
+        unended = fails.unended;
+        few = fails.short;
         none_more = λ full. none_more (omega (arith, full, lines-length goes.exchanges, goes.counted));
-        taken = taken-behind cutter more office tells rows after setup start count before now then.left goes cut;
+        taken = subst (λ (l : List ℕ). Consumes before.left then.left (l ++ more.ahead)) (append-nil (concat lines))
+            (Consumes-trans before.left (to_come more then.left) then.left (concat lines ++ []) more.ahead behind.cut (Consumes-front more.ahead then.left));
       },
-      subst (λ (w : Option (List ℕ)). Appends before.written w (concat (texts_in setup.plan.version goes.exchanges))) (sym unwritten) goes.written,
-    )
+      still-written before.written now.written then.written (concat (texts_in setup.plan.version goes.exchanges)) fails.same goes.written,
+    ))
 
 -- a refusal's line is written, or cut
-pub does-refuse : (how : Ending) (why : Overrun) (next : List ℕ) (cutter : Cutting) (office : Kept) (tells : Type 0) (rows after : Rows) (setup : Setup) (start : List Entry) (count : ℕ) (before now then : Moment)
-    (left : Option (List ℕ))
-    → (goes : Goes cutter office tells rows after setup start count before now) → count ≤ most_asks → then.keep_faults ≡ now.keep_faults
-    → before.write_faults ≤ now.write_faults → Refuses how why now.written then.written now.write_faults then.write_faults
-    → IsRefusedFor why (lines_in goes.exchanges) next → Consumes before.left left (concat (lines_in goes.exchanges) ++ next) → TookLines (lines_in goes.exchanges) before.left then.left
-    → Does how setup start tells rows after before then
-does-refuse (ending.Refused told) why next cutter office tells rows after setup start count before now then left goes few same later refuses cause taken took =
-    let refused : IsRefused why before.left (lines_in goes.exchanges) = record { next = next; whole = goes.whole; cause = cause; stands = refused-stands before.left left (lines_in goes.exchanges) next taken } in
-    subst (λ (w : Overrun). Does (ending.Refused w) setup start tells rows after before then) (sym refuses.0)
-    (does-same (ending.Refused why) cutter office tells rows after setup start count before now then goes few same took
-    (refused, Appends-trans before.written now.written then.written (concat (texts_in setup.plan.version goes.exchanges)) (overrun_line why) goes.written refuses.1))
-does-refuse (ending.WriteFault due) why next cutter office tells rows after setup start count before now then left goes few same later refuses cause taken took =
-    let refused : IsRefused why before.left (lines_in goes.exchanges) = record { next = next; whole = goes.whole; cause = cause; stands = refused-stands before.left left (lines_in goes.exchanges) next taken } in
-    subst (λ (w : Option Overrun). Does (ending.WriteFault w) setup start tells rows after before then) (sym refuses.0)
-    (does-same (ending.WriteFault (Some why)) cutter office tells rows after setup start count before now then goes few same took (
-      Rose-later before.write_faults now.write_faults then.write_faults later refuses.1,
-      refused,
-      misses-last before.written now.written then.written (texts_in setup.plan.version goes.exchanges) (overrun_line why) goes.written refuses.2,
-    ))
-does-refuse ending.Done why next cutter office tells rows after setup start count before now then left goes few same later refuses cause taken took = absurd refuses
-does-refuse ending.ReadFault why next cutter office tells rows after setup start count before now then left goes few same later refuses cause taken took = absurd refuses
-does-refuse ending.NoMemory why next cutter office tells rows after setup start count before now then left goes few same later refuses cause taken took = absurd refuses
+does-refuse : (how : Ending) (why : Unfit) (next : List ℕ) (cutter more : Cutting) (office : Kept) (tells : Type 0) (rows middle after : Rows) (setup : Setup) (start : List Entry) (count : ℕ) (before now then : Moment)
+    → (goes : Goes cutter office tells rows middle setup start count before now) → count ≤ most_asks → after ≡ middle → then.keep_faults ≡ now.keep_faults
+    → before.write_faults ≤ now.write_faults → IsRefusedFor why (lines_in goes.exchanges) next
+    → RefusesNext how why next cutter more now.left then.left now.written then.written now.write_faults then.write_faults → Does how setup start tells rows after before then
+does-refuse how why next cutter more office tells rows middle after setup start count before now then goes few kept same later due refused =
+    let lines = lines_in goes.exchanges in
+    let texts = texts_in setup.plan.version goes.exchanges in
+    let took = took-behind lines refused.text before.left then.left (cut-behind cutter more office tells rows middle setup start count before now then.left refused.text goes refused.cut) in
+    let is : IsRefused why before.left lines = record {
+      next = next;
+      whole = goes.whole;
+      cause = due;
+      stands = refused-stands before.left refused.rest lines next (Consumes-trans before.left (to_come cutter now.left) refused.rest (concat lines) next goes.taken refused.stands);
+    } in
+    elim refused.refuses [
+      | inl told ↦ subst (λ (h : Ending). Does h setup start tells rows after before then) (sym told.0)
+          (does-same (ending.Refused why) cutter office tells rows middle after setup start count before now then goes few kept same took tt
+          (is, Appends-trans before.written now.written then.written (concat texts) (refused_line why) goes.written told.1))
+      | inr cut ↦ subst (λ (h : Ending). Does h setup start tells rows after before then) (sym cut.0)
+          (does-same (ending.WriteFault (Some why)) cutter office tells rows middle after setup start count before now then goes few kept same took
+          (Rose-later before.write_faults now.write_faults then.write_faults later cut.1)
+          (is, misses-last before.written now.written then.written texts (refused_line why) goes.written cut.2))
+    ]
 
 -- WITH ONE MORE ANSWER
 
-abbrev pub IfWritten : Step → Type 0 → Type 0
-IfWritten step.Written P = P
-IfWritten step.WriteFault P = Unit {0}
-IfWritten step.NoText P = Unit {0}
-IfWritten step.NoAnswer P = Unit {0}
-
--- what the last step says of the lines and the texts
-ends-by : (how : Step) (lines texts : List (List ℕ)) (text : List ℕ) (before now then : Moment)
-    → Appends before.written now.written (concat texts) → WroteSome how text now.written then.written now.write_faults then.write_faults
-    → before.write_faults ≤ now.write_faults → IfWritten how (AreAllLines before.left then.left lines) → EndsSo (last_ending how) lines (texts ++ text ∷ []) before then
-ends-by step.Written lines texts text before now then done wrote later all =
+-- what the last answer says of the lines and the texts
+ends-by : (result : Result Unit Ending) (lines texts : List (List ℕ)) (text : List ℕ) (before now then : Moment)
+    → Appends before.written now.written (concat texts) → WroteLine result text now.written then.written now.write_faults then.write_faults
+    → OnOk result (AreAllLines before.left then.left lines) → EndsSo (last_ending result) lines (texts ++ text ∷ []) before.left then.left before.written then.written
+ends-by (Ok none) lines texts text before now then done wrote all =
     (all, subst (λ (l : List ℕ). Appends before.written then.written l) (sym (concat-push texts text)) (Appends-trans before.written now.written then.written (concat texts) text done wrote))
-ends-by step.WriteFault lines texts text before now then done wrote later all = (
-  Rose-later before.write_faults now.write_faults then.write_faults later wrote.0,
-  tt,
-  subst (λ (l : List (List ℕ)). MissesLast before.written then.written l) (sym (append-nil (texts ++ text ∷ [])))
-      (misses-last before.written now.written then.written texts text done wrote.1),
-)
-ends-by step.NoText lines texts text before now then done wrote later all =
-    misses-last before.written now.written then.written texts text done (AppendsFront-nothing now.written then.written text wrote)
-ends-by step.NoAnswer lines texts text before now then done wrote later all = absurd wrote
+ends-by (Err how) lines texts text before now then done wrote all =
+    let misses = misses-last before.written now.written then.written texts text done wrote.front in
+    elim wrote.cause [
+      | inl failed ↦ subst (λ (h : Ending). EndsSo h lines (texts ++ text ∷ []) before.left then.left before.written then.written) (sym failed.0)
+          (tt, subst (λ (l : List (List ℕ)). MissesLast before.written then.written l) (sym (append-nil (texts ++ text ∷ []))) misses)
+      | inr memory ↦ subst (λ (h : Ending). EndsSo h lines (texts ++ text ∷ []) before.left then.left before.written then.written) (sym memory) misses
+    ]
 
-does-more : (how : Step) (cutter : Cutting) (office new : Kept) (tells still : Type 0) (rows middle after : Rows) (setup : Setup) (start : List Entry) (count : ℕ) (before now then : Moment) (line : List ℕ)
+-- and what failed
+pub fails-by : (result : Result Unit Ending) (text : List ℕ) (asks asks' writes middle writes' : ℕ) (written written' : Option (List ℕ)) → writes ≤ middle → WroteLine result text written written' middle writes'
+    → HasFailed (last_ending result) asks asks' writes writes'
+fails-by (Ok none) text asks asks' writes middle writes' written written' later wrote = tt
+fails-by (Err how) text asks asks' writes middle writes' written written' later wrote =
+    elim wrote.cause [
+      | inl failed ↦ subst (λ (h : Ending). HasFailed h asks asks' writes writes') (sym failed.0) (Rose-later writes middle writes' later failed.1)
+      | inr memory ↦ subst (λ (h : Ending). HasFailed h asks asks' writes writes') (sym memory) tt
+    ]
+
+does-more : (result : Result Unit Ending) (cutter : Cutting) (office new : Kept) (tells still : Type 0) (rows middle after : Rows) (setup : Setup) (start : List Entry) (count : ℕ) (before now then : Moment) (line : List ℕ)
     → (goes : Goes cutter office tells rows middle setup start count before now) → (tells → still) → count < most_asks
-    → Stepped how setup new still middle after line goes.next (side_of now) (side_of then) → now.keep_faults ≤ then.keep_faults → before.write_faults ≤ now.write_faults
-    → AreFirstLines before.left (lines_in goes.exchanges ++ line ∷ []) → IfWritten how (AreAllLines before.left then.left (lines_in goes.exchanges ++ line ∷ []))
+    → Stepped LineTurn result setup new still middle after line goes.next (side_of now) (side_of then) → now.keep_faults ≤ then.keep_faults → before.write_faults ≤ now.write_faults
+    → AreFirstLines before.left (lines_in goes.exchanges ++ line ∷ []) → OnOk result (AreAllLines before.left then.left (lines_in goes.exchanges ++ line ∷ []))
     → CutBehind (lines_in goes.exchanges) line before.left then.left
-    → Does (last_ending how) setup start tells rows after before then
+    → Does (last_ending result) setup start tells rows after before then
 unfolding ends-by
-does-more how cutter office new tells still rows middle after setup start count before now then line goes told few stepped later write_later first all behind =
+does-more result cutter office new tells still rows middle after setup start count before now then line goes told few stepped later write_later first all behind =
     let version = setup.plan.version in
     let x : Exchange = record { bytes = line; answer = stepped.answer } in
     let lines = sym (lines-push goes.exchanges x) in
     let texts = sym (texts-push version goes.exchanges x) in
-    let ends = ends-by how (lines_in goes.exchanges ++ line ∷ []) (texts_in version goes.exchanges) (answer_line version stepped.answer) before now then goes.written stepped.wrote write_later all in
+    let ends = ends-by result (lines_in goes.exchanges ++ line ∷ []) (texts_in version goes.exchanges) (answer_line version stepped.answer) before now then goes.written stepped.wrote all in
     record {
       exchanges = goes.exchanges ++ x ∷ [];
-      next = stepped.answered.next;
-      talk = talks_go_on (AskTurn setup) version goes.exchanges x start goes.next stepped.answered.next goes.talk stepped.answered.answers;
-      kept = λ was text is. stepped.answered.kept (told was) text (goes.kept was text is);
-      stores = λ below. omega (arith, goes.stores (omega (arith, later, below)), stepped.stores below, stores_are_counted goes.exchanges x);
-      lines = subst (λ (l : List (List ℕ)). AreFirstLines before.left l) lines first;
-      few = omega (arith, goes.counted, few, length-append goes.exchanges (x ∷ []));
-      took = subst (λ (l : List (List ℕ)). TookLines l before.left then.left) lines (took-with (lines_in goes.exchanges) line before.left then.left behind);
-      ends = subst (λ (l : List (List ℕ)). EndsSo (last_ending how) l (texts_in version (goes.exchanges ++ x ∷ [])) before then) lines
-          (subst (λ (l : List (List ℕ)). EndsSo (last_ending how) (lines_in goes.exchanges ++ line ∷ []) l before then) texts ends);
+      next = stepped.next;
+      talk = talks_go_on (AskTurn setup) version goes.exchanges x start goes.next stepped.next goes.talk stepped.turn;
+      keeper = keeper-push setup start goes.next stepped.next goes.exchanges x tells still rows middle after before.keep_faults now.keep_faults then.keep_faults told later goes.keeper stepped.keeper;
+      ends = record {
+        lines = subst (λ (l : List (List ℕ)). AreFirstLines before.left l) lines first;
+        few = omega (arith, goes.counted, few, length-append goes.exchanges (x ∷ []));
+        took = subst (λ (l : List (List ℕ)). TookLines l before.left then.left) lines (took-with (lines_in goes.exchanges) line before.left then.left behind);
+        cause = fails-by result (answer_line version stepped.answer) before.read_faults then.read_faults before.write_faults now.write_faults then.write_faults now.written then.written write_later stepped.wrote;
+        ends = subst (λ (l : List (List ℕ)). EndsSo (last_ending result) l (texts_in version (goes.exchanges ++ x ∷ [])) before.left then.left before.written then.written) lines
+            (subst (λ (l : List (List ℕ)). EndsSo (last_ending result) (lines_in goes.exchanges ++ line ∷ []) l before.left then.left before.written then.written) texts ends);
+      };
     }
 
 -- where nothing was answered
-does-wait : (cutter : Cutting) (office new : Kept) (tells : Type 0) (rows middle after : Rows) (setup : Setup) (start : List Entry) (count : ℕ) (before now then : Moment) (line : List ℕ)
-    → (goes : Goes cutter office tells rows middle setup start count before now) → count < most_asks → Waits new middle after goes.next (side_of now) (side_of then)
+does-wait : (result : Result Unit Ending) (cutter : Cutting) (office new : Kept) (tells : Type 0) (rows middle after : Rows) (setup : Setup) (start : List Entry) (count : ℕ) (before now then : Moment) (line : List ℕ)
+    → (goes : Goes cutter office tells rows middle setup start count before now) → count < most_asks → Waits result new middle after goes.next (side_of now) (side_of then)
     → CutBehind (lines_in goes.exchanges) line before.left then.left
-    → Does ending.NoMemory setup start tells rows after before then
-does-wait cutter office new tells rows middle after setup start count before now then line goes few waits behind = record {
-  exchanges = goes.exchanges;
-  next = goes.next;
-  talk = goes.talk;
-  kept = λ was text is. waits.rows_are ∙ goes.kept was text is;
-  stores = λ below. omega (arith, waits.counts, goes.stores (omega (arith, waits.counts, below)));
-  lines = first-lines before.left (to_come cutter now.left) (lines_in goes.exchanges) goes.whole goes.taken;
-  few = omega (arith, goes.counted, few);
-  took = took-behind (lines_in goes.exchanges) line before.left then.left behind;
-  ends = misses-none before.written then.written (texts_in setup.plan.version goes.exchanges)
-      (Appends-kept before.written now.written then.written (concat (texts_in setup.plan.version goes.exchanges)) goes.written waits.written);
-}
+    → Does (last_ending result) setup start tells rows after before then
+does-wait result cutter office new tells rows middle after setup start count before now then line goes few waits behind =
+    subst (λ (r : Result Unit Ending). Does (last_ending r) setup start tells rows after before then) (sym waits.result_is)
+    (does-same ending.NoMemory cutter office tells rows middle after setup start count before now then goes (omega (arith, few)) waits.rows_are waits.counts
+    (took-behind (lines_in goes.exchanges) line before.left then.left behind) tt
+    (misses-none before.written then.written (texts_in setup.plan.version goes.exchanges)
+    (Appends-kept before.written now.written then.written (concat (texts_in setup.plan.version goes.exchanges)) goes.written waits.written)))
 
 -- behind a line that was answered, or at one that wasn't
-does-by : (how : Step) (cutter : Cutting) (office new : Kept) (tells still : Type 0) (rows middle after : Rows) (setup : Setup) (start : List Entry) (count : ℕ) (before now then : Moment) (line : List ℕ)
+does-by : (result : Result Unit Ending) (cutter : Cutting) (office new : Kept) (tells still : Type 0) (rows middle after : Rows) (setup : Setup) (start : List Entry) (count : ℕ) (before now then : Moment) (line : List ℕ)
     → (goes : Goes cutter office tells rows middle setup start count before now) → (tells → still) → count < most_asks
-    → Steps how setup new still middle after line goes.next (side_of now) (side_of then) → now.keep_faults ≤ then.keep_faults → before.write_faults ≤ now.write_faults
-    → AreFirstLines before.left (lines_in goes.exchanges ++ line ∷ []) → IfWritten how (AreAllLines before.left then.left (lines_in goes.exchanges ++ line ∷ []))
+    → now.keep_faults ≤ then.keep_faults → before.write_faults ≤ now.write_faults
+    → AreFirstLines before.left (lines_in goes.exchanges ++ line ∷ []) → OnOk result (AreAllLines before.left then.left (lines_in goes.exchanges ++ line ∷ []))
     → CutBehind (lines_in goes.exchanges) line before.left then.left
-    → Does (last_ending how) setup start tells rows after before then
-does-by step.Written cutter office new tells still rows middle after setup start count before now then line goes told few steps later write_later first all behind =
-    does-more step.Written cutter office new tells still rows middle after setup start count before now then line goes told few steps later write_later first all behind
-does-by step.WriteFault cutter office new tells still rows middle after setup start count before now then line goes told few steps later write_later first all behind =
-    does-more step.WriteFault cutter office new tells still rows middle after setup start count before now then line goes told few steps later write_later first all behind
-does-by step.NoText cutter office new tells still rows middle after setup start count before now then line goes told few steps later write_later first all behind =
-    does-more step.NoText cutter office new tells still rows middle after setup start count before now then line goes told few steps later write_later first all behind
-does-by step.NoAnswer cutter office new tells still rows middle after setup start count before now then line goes told few steps later write_later first all behind =
-    does-wait cutter office new tells rows middle after setup start count before now then line goes few steps behind
-
-pub does-step : (how : Step) (result : Ending) (cutter more : Cutting) (office new : Kept) (tells still : Type 0) (rows middle after : Rows) (setup said : Setup) (start : List Entry) (count : ℕ) (before now then : Moment) (line : List ℕ)
-    → result ≡ last_ending how → line ≡ more.text → said ≡ setup
-    → (goes : Goes cutter office tells rows middle setup start count before now) → (tells → still) → count < most_asks
-    → Steps how said new still middle after line goes.next (side_of now) (side_of then) → now.keep_faults ≤ then.keep_faults → before.write_faults ≤ now.write_faults
-    → AreFirstLines before.left (lines_in goes.exchanges ++ more.text ∷ []) → IfWritten how (AreAllLines before.left then.left (lines_in goes.exchanges ++ more.text ∷ []))
-    → CutBehind (lines_in goes.exchanges) more.text before.left then.left
-    → Does result setup start tells rows after before then
-does-step how result cutter more office new tells still rows middle after setup said start count before now then line is is_text same goes told few steps later write_later first all behind =
-    subst (λ (e : Ending). Does e setup start tells rows after before then) (sym is)
-    (does-by how cutter office new tells still rows middle after setup start count before now then more.text goes told few
-    (subst (λ (s : Setup). Steps how s new still middle after more.text goes.next (side_of now) (side_of then)) same
-    (subst (λ (l : List ℕ). Steps how said new still middle after l goes.next (side_of now) (side_of then)) is_text steps)) later write_later first all behind)
+    → Steps result setup new still middle after line goes.next (side_of now) (side_of then)
+    → Does (last_ending result) setup start tells rows after before then
+does-by result cutter office new tells still rows middle after setup start count before now then line goes told few later write_later first all behind (inl stepped) =
+    does-more result cutter office new tells still rows middle after setup start count before now then line goes told few stepped later write_later first all behind
+does-by result cutter office new tells still rows middle after setup start count before now then line goes told few later write_later first all behind (inr waits) =
+    does-wait result cutter office new tells rows middle after setup start count before now then line goes few waits behind
 
 -- one more line was taken
-pub line-first : (cutter more : Cutting) (office : Kept) (tells : Type 0) (rows after : Rows) (setup : Setup) (start : List Entry) (count : ℕ) (before now : Moment) (left : Option (List ℕ))
-    → (goes : Goes cutter office tells rows after setup start count before now) → Consumes (to_come cutter now.left) (to_come more left) more.text → IsLine more.text
+line-first : (cutter more : Cutting) (office : Kept) (tells : Type 0) (rows after : Rows) (setup : Setup) (start : List Entry) (count : ℕ) (before now : Moment) (left : Option (List ℕ))
+    → (goes : Goes cutter office tells rows after setup start count before now) → CutsText cutter more now.left left more.text → IsLine more.text
     → AreFirstLines before.left (lines_in goes.exchanges ++ more.text ∷ [])
-line-first cutter more office tells rows after setup start count before now left goes cut is_line =
+line-first cutter more office tells rows after setup start count before now left goes cuts is_line =
     first-lines before.left (to_come more left) (lines_in goes.exchanges ++ more.text ∷ []) (AreLines-append (lines_in goes.exchanges) (more.text ∷ []) goes.whole (is_line, tt))
     (subst (λ (l : List ℕ). Consumes before.left (to_come more left) l) (sym (concat-push (lines_in goes.exchanges) more.text))
-    (taken-on before.left (to_come cutter now.left) (to_come more left) (lines_in goes.exchanges) more.text goes.taken cut))
+    (Consumes-trans before.left (to_come cutter now.left) (to_come more left) (concat (lines_in goes.exchanges)) more.text goes.taken cuts.cut))
 
 -- a last line without a line feed was taken
-pub part-all : (cutter more : Cutting) (office : Kept) (tells : Type 0) (rows after : Rows) (setup : Setup) (start : List Entry) (count : ℕ) (before now : Moment) (left : Option (List ℕ))
-    → (goes : Goes cutter office tells rows after setup start count before now) → Consumes (to_come cutter now.left) (to_come more left) more.text
-    → HasNoFeed more.text → 0 < length more.text → more.ahead ≡ [] → IsAtEnd left → AreAllLines before.left left (lines_in goes.exchanges ++ more.text ∷ [])
-part-all cutter more office tells rows after setup start count before now left goes cut unended some no_more ended =
-    all-lines_part before.left (to_come more left) left (lines_in goes.exchanges) more.text goes.whole unended some
-    (taken-on before.left (to_come cutter now.left) (to_come more left) (lines_in goes.exchanges) more.text goes.taken cut) (IsAtEnd-held more.ahead left no_more ended) ended
+part-all : (cutter more : Cutting) (office : Kept) (tells : Type 0) (rows after : Rows) (setup : Setup) (start : List Entry) (count : ℕ) (before now : Moment) (left : Option (List ℕ))
+    → (goes : Goes cutter office tells rows after setup start count before now) → CutsText cutter more now.left left more.text → IsPart more left
+    → AreAllLines before.left left (lines_in goes.exchanges ++ more.text ∷ [])
+part-all cutter more office tells rows after setup start count before now left goes cuts part =
+    all-lines_part before.left (to_come more left) left (lines_in goes.exchanges) more.text goes.whole part.unended part.some
+    (Consumes-trans before.left (to_come cutter now.left) (to_come more left) (concat (lines_in goes.exchanges)) more.text goes.taken cuts.cut)
+    (IsAtEnd-held more.ahead left part.none_held part.ended) part.ended
 
-pub part-first : (before left : Option (List ℕ)) (lines : List (List ℕ)) → AreAllLines before left lines → AreFirstLines before lines
-part-first before left lines all = first-of_all before lines all.all
+on-ok : (result : Result Unit Ending) (P : Type 0) → P → OnOk result P
+on-ok (Ok none) P p = p
+on-ok (Err how) P p = tt
 
-pub if-written : (how : Step) (P : Type 0) → P → IfWritten how P
-if-written step.Written P p = p
-if-written step.WriteFault P p = tt
-if-written step.NoText P p = tt
-if-written step.NoAnswer P p = tt
+err-same : (result : Result Unit Ending) (a b : Ending) → result ≡ Err a → result ≡ Err b → a ≡ b
+err-same result a b is same = cc
 
--- the bytes of a line that is refused
-pub taken-text : (cutter more : Cutting) (office : Kept) (tells : Type 0) (rows after : Rows) (setup : Setup) (start : List Entry) (count : ℕ) (before now : Moment) (left : Option (List ℕ))
-    → (goes : Goes cutter office tells rows after setup start count before now) → Consumes (to_come cutter now.left) (to_come more left) more.text
-    → Consumes before.left (to_come more left) (concat (lines_in goes.exchanges) ++ more.text)
-taken-text cutter more office tells rows after setup start count before now left goes cut =
-    taken-on before.left (to_come cutter now.left) (to_come more left) (lines_in goes.exchanges) more.text goes.taken cut
+-- THE LAST STEP
 
-pub line-some : (line : List ℕ) → IsLine line → 0 < length line
-line-some [] is_line = absurd is_line
-line-some (x ∷ xs) is_line = omega arith
+-- at a line that was taken
+line-ends : (how : Ending) (cutter more : Cutting) (office new : Kept) (tells still : Type 0) (rows middle after : Rows) (setup : Setup) (start : List Entry) (count : ℕ) (before now then : Moment)
+    → (goes : Goes cutter office tells rows middle setup start count before now) → (tells → still) → count < most_asks → now.keep_faults ≤ then.keep_faults → before.write_faults ≤ now.write_faults
+    → TakesLine (Err how) cutter more setup new still middle after goes.next now then → Does how setup start tells rows after before then
+line-ends how cutter more office new tells still rows middle after setup start count before now then goes told few later write_later takes =
+    let behind = cut-behind cutter more office tells rows middle setup start count before now then.left more.text goes takes.cut in
+    elim takes.line [
+      | inl whole ↦ does-by (Err how) cutter office new tells still rows middle after setup start count before now then more.text goes told few later write_later
+          (line-first cutter more office tells rows middle setup start count before now then.left goes takes.cut whole.1) tt behind
+          (subst (λ (r : Result Unit Ending). Steps r setup new still middle after more.text goes.next (side_of now) (side_of then)) (sym whole.0) takes.steps)
+      | inr part ↦ let all = part-all cutter more office tells rows middle setup start count before now then.left goes takes.cut part.1 in
+          subst (λ (h : Ending). Does h setup start tells rows after before then) (sym (err-same (Err how) how (last_ending takes.step) refl part.0))
+          (does-by takes.step cutter office new tells still rows middle after setup start count before now then more.text goes told few later write_later
+          (first-of_all before.left (lines_in goes.exchanges ++ more.text ∷ []) all.all) (on-ok takes.step _ all) behind takes.steps)
+    ]
 
--- whether bytes are held
-pub none-held : (held ahead : List ℕ) → held ≡ ahead → true ≡ (length held == 0) → ahead ≡ []
-none-held [] ahead same empty = sym same
-none-held (x ∷ xs) ahead same empty = absurd (grind (arith, nat_tests, empty))
+-- without another line
+there-ends : (how : Ending) (cutter more : Cutting) (office new : Kept) (tells : Type 0) (rows middle after : Rows) (setup : Setup) (start : List Entry) (count : ℕ) (before now then : Moment)
+    → (goes : Goes cutter office tells rows middle setup start count before now) → count < most_asks → before.read_faults ≤ now.read_faults → before.write_faults ≤ now.write_faults
+    → EndsThere (Err how) cutter more new middle after goes.next now then → Does how setup start tells rows after before then
+there-ends how cutter more office new tells rows middle after setup start count before now then goes few read_later write_later ends =
+    subst (λ (h : Ending). Does h setup start tells rows after before then) (sym (err-same (Err how) how ends.how refl ends.result_is))
+    (elim ends.cause [
+      | inl over ↦ does-over ends.how cutter more office tells rows middle after setup start count before now then goes (omega (arith, few)) ends.rows_are ends.counts over
+      | inr (inl fails) ↦ does-fault ends.how cutter more office tells rows middle after setup start count before now then goes (omega (arith, few)) ends.rows_are ends.counts read_later
+          (λ full. absurd (omega (arith, full, few))) fails
+      | inr (inr long) ↦ does-refuse ends.how unfit.Line more.text cutter more office tells rows middle after setup start count before now then goes (omega (arith, few)) ends.rows_are ends.counts write_later
+          (long.unended, long.long, omega (arith, lines-length goes.exchanges, goes.counted, few)) long.refused
+    ])
 
-pub some-held : (held ahead : List ℕ) → held ≡ ahead → false ≡ (length held == 0) → 0 < length ahead
-some-held [] ahead same empty = absurd (grind (arith, nat_tests, empty))
-some-held (x ∷ xs) ahead same empty = omega (arith, ap (λ l. length l) same)
+-- at the next line
+pub next-ends : (how : Ending) (cutter more : Cutting) (office new : Kept) (tells still : Type 0) (rows middle after : Rows) (setup said : Setup) (start : List Entry) (count : ℕ) (before now then : Moment)
+    → said ≡ setup → (goes : Goes cutter office tells rows middle setup start count before now) → (tells → still) → count < most_asks
+    → before.read_faults ≤ now.read_faults → now.keep_faults ≤ then.keep_faults → before.write_faults ≤ now.write_faults
+    → TakesNext (Err how) cutter more said new still middle after goes.next now then → Does how setup start tells rows after before then
+next-ends how cutter more office new tells still rows middle after setup said start count before now then same goes told few read_later later write_later takes =
+    elim (subst (λ (s : Setup). TakesNext (Err how) cutter more s new still middle after goes.next now then) same takes) [
+      | inl line ↦ line-ends how cutter more office new tells still rows middle after setup start count before now then goes told few later write_later line
+      | inr ends ↦ there-ends how cutter more office new tells rows middle after setup start count before now then goes few read_later write_later ends
+    ]
+
+-- behind as many lines as may be answered
+pub behind-ends : (how : Ending) (cutter more : Cutting) (office : Kept) (tells : Type 0) (rows after : Rows) (setup : Setup) (start : List Entry) (count : ℕ) (before now then : Moment)
+    → (goes : Goes cutter office tells rows after setup start count before now) → count ≡ most_asks → then.keep_faults ≡ now.keep_faults
+    → before.read_faults ≤ now.read_faults → before.write_faults ≤ now.write_faults → EndsBehind how cutter more now then → Does how setup start tells rows after before then
+behind-ends how cutter more office tells rows after setup start count before now then goes full same read_later write_later ends =
+    elim ends [
+      | inl over ↦ does-over how cutter more office tells rows after after setup start count before now then goes (omega (arith, full)) refl same over
+      | inr (inl fails) ↦ does-fault how cutter more office tells rows after after setup start count before now then goes (omega (arith, full)) refl same read_later (λ _. fails.0) fails.1
+      | inr (inr more_came) ↦ does-refuse how unfit.Count more_came.0 cutter more office tells rows after after setup start count before now then goes (omega (arith, full)) refl same write_later
+          (more_came.1, omega (arith, lines-length goes.exchanges, goes.counted, full)) more_came.2
+    ]

@@ -8,8 +8,9 @@ use Rattle.sg_outside.specs.TextLines.{AreLines, HasNoFeed, lines_of}
 use Rattle.sg_outside.proofs.LineLemmas.{lines_of-concat, lines_of-lines, lines_of-part}
 use Rattle.sg_outside.proofs.StreamLemmas.{Appends-trans}
 use Rattle.sg_talk.specs.Talk.{Exchange}
-use Rattle.sg_clerk.specs.Does.{answer_line, lines_in, texts_in}
-use Rattle.sg_clerk.specs.Ends.{AreAllLines, AreFirstLines, MissesLast, last_of}
+use Rattle.sg_clerk.specs.Does.{lines_in, texts_in}
+use Rattle.sg_clerk.specs.Ends.{MissesLast, answer_line, last_of}
+use Rattle.sg_clerk.specs.Lines.{AreAllLines, AreFirstLines}
 
 -- EXCHANGES
 

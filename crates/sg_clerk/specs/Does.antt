@@ -1,21 +1,17 @@
 -- A run of `do`: an office's talk over the lines of the input (this project's rules for the office).
-use Rattle.std.specs.Prelude.{◌≡◌, ℕ, ◌+◌, ◌-◌, ◌^◌, ◌<◌, ◌≤◌, List, [], ◌∷◌, ◌++◌, length, map}
+use Rattle.std.specs.Prelude.{ℕ, ◌≤◌, List, length, map}
 use Rattle.sg_plan.specs.Limits.{most_asks}
+use Rattle.sg_outside.specs.Streams.{Seen}
 use Rattle.sg_keeper.specs.declared.rows.Rows.{Rows}
 use Rattle.sg_keeper.specs.declared.setup.Setup.{Setup}
-use Rattle.sg_talk.specs.declared.answered.Answered.{Answered}
-use Rattle.sg_talk.specs.Answers.{text_of_answer}
 use Rattle.sg_talk.specs.Talk.{Exchange, Talk, stores_in}
 use Rattle.sg_histories.specs.Histories.{Entry}
-use Rattle.sg_histories.specs.KeptRows.{rows_of}
 use Rattle.sg_turns.specs.Turns.{AskTurn}
-use Rattle.sg_clerk.specs.Ends.{AreFirstLines, EndsSo, Moment}
+use Rattle.sg_clerk.specs.Ends.{HasFailed, Moment, answer_line, input_at, out_at}
+use Rattle.sg_clerk.specs.Lines.{AreFirstLines, EndsSo}
 use Rattle.sg_clerk.specs.Taken.{TookLines}
-use Rattle.sg_clerk.specs.declared.talk.Ending.{Ending}
-
--- the line that is written for an answer: its text and a line feed
-abbrev pub answer_line : ℕ → Answered → List ℕ
-answer_line version answer = text_of_answer version answer ++ 10 ∷ []
+use Rattle.sg_clerk.specs.Talks.{Talked}
+use Rattle.sg_clerk.specs.declared.ended.Ending.{Ending}
 
 -- the lines that came in, each with its line feed, which to JSON is white space
 abbrev pub lines_in : List Exchange → List (List ℕ)
@@ -25,17 +21,22 @@ lines_in exchanges = map (λ (e : Exchange). e.bytes) exchanges
 abbrev pub texts_in : ℕ → List Exchange → List (List ℕ)
 texts_in version exchanges = map (λ (e : Exchange). answer_line version e.answer) exchanges
 
--- A run of `do` from a history on: its lines are the first of the input, at most so many, and were answered by a talk; where
--- the keeper tells the rows of that history before, it tells those of the history at the talk's end; at most as many
--- answers say that the keeper failed as its count rose by, unless that stands at its last value. However it ended, of the
--- input these lines were taken, and behind them at most as many bytes as one more may have.
-pub record Does (how : Ending) (setup : Setup) (history : List Entry) (tells : Type 0) (rows after : Rows) (before now : Moment) : Type 0 where
-  pub exchanges : List Exchange
-  pub next : List Entry
-  pub talk : Talk (AskTurn setup) setup.plan.version exchanges history next
-  pub kept : tells → (text : List ℕ) → rows ≡ rows_of setup text history → after ≡ rows_of setup text next
-  pub stores : now.keep_faults < 2 ^ 64 - 1 → before.keep_faults + stores_in exchanges ≤ now.keep_faults
-  pub lines : AreFirstLines before.left (lines_in exchanges)
+-- the talk of an office of this setup over lines
+abbrev pub LineTalk : Setup → List Exchange → List Entry → List Entry → Type 0
+LineTalk setup exchanges history next = Talk (AskTurn setup) setup.plan.version exchanges history next
+
+-- How the run ended: its lines are the first of the input, at most so many. However it ended, of the input these lines were
+-- taken, and behind them at most as many bytes as one more may have.
+pub record EndsLines (input input' out out' : Seen) (how : Ending) (setup : Setup) (exchanges : List Exchange) : Type 0 where
+  pub lines : AreFirstLines input.bytes (lines_in exchanges)
   pub few : length exchanges ≤ most_asks
-  pub took : TookLines (lines_in exchanges) before.left now.left
-  pub ends : EndsSo how (lines_in exchanges) (texts_in setup.plan.version exchanges) before now
+  pub took : TookLines (lines_in exchanges) input.bytes input'.bytes
+  pub cause : HasFailed how input.faults input'.faults out.faults out'.faults
+  pub ends : EndsSo how (lines_in exchanges) (texts_in setup.plan.version exchanges) input.bytes input'.bytes out.bytes out'.bytes
+
+abbrev pub LinesEnd : Moment → Moment → Ending → Setup → List Exchange → Type 0
+LinesEnd before now = EndsLines (input_at before) (input_at now) (out_at before) (out_at now)
+
+-- A run of `do` from a history on: a talk over lines, and how it ended.
+abbrev pub Does : Ending → Setup → List Entry → (tells : Type 0) → Rows → Rows → Moment → Moment → Type 0
+Does how setup history tells rows rows' before now = Talked LineTalk stores_in (LinesEnd before now how) setup history tells rows rows' before.keep_faults now.keep_faults

@@ -1,14 +1,15 @@
--- What each ending of a run over lines says of the input and of the output (this project's rules for the office).
-use Rattle.std.specs.Prelude.{◌≡◌, ℕ, ◌<◌, ◌≤◌, List, [], ◌∷◌, ◌++◌, length, codes, Option, None, Some, IfSome}
+-- How a talk of the office ends, over lines, a scanner's records or connections (this project's rules for the office).
+use Rattle.std.specs.Prelude.{◌≡◌, ℕ, ◌≤◌, ◌⊎◌, List, [], ◌∷◌, ◌++◌, length, codes, Option, None, Some, Result, MatchResult}
 use Rattle.std.specs.List.{concat}
-use Rattle.std.specs.Io.KnownBytes.{Appends, Consumes, IsAtEnd}
-use Rattle.sg_plan.specs.Limits.{longest_ask, most_asks}
+use Rattle.std.specs.Io.KnownBytes.{Appends}
 use Rattle.sg_outside.specs.Faults.{Rose}
-use Rattle.sg_outside.specs.TextLines.{AreLines, HasNoFeed, lines_of}
-use Rattle.sg_clerk.specs.declared.talk.Ending.{Ending}
-use Rattle.sg_clerk.specs.declared.talk.Ending.TheVariants as ending
-use Rattle.sg_clerk.specs.declared.talk.Overrun.{Overrun}
-use Rattle.sg_clerk.specs.declared.talk.Overrun.TheVariants as overrun
+use Rattle.sg_outside.specs.Streams.{AppendsFront, Seen}
+use Rattle.sg_talk.specs.declared.answered.Answered.{Answered}
+use Rattle.sg_talk.specs.Answers.{text_of_answer}
+use Rattle.sg_clerk.specs.declared.ended.Ending.{Ending}
+use Rattle.sg_clerk.specs.declared.ended.Ending.TheVariants as ending
+use Rattle.sg_clerk.specs.declared.ended.Unfit.{Unfit}
+use Rattle.sg_clerk.specs.declared.ended.Unfit.TheVariants as unfit
 
 -- what stands outside at a moment: the bytes that the input still has and those that the output took, where they are
 -- told, and the three counts of faults
@@ -19,56 +20,53 @@ pub record Moment : Type 0 where
   pub write_faults : ℕ
   pub keep_faults : ℕ
 
--- the line that is written where a limit on lines is overrun
-abbrev pub overrun_line : Overrun → List ℕ
-overrun_line overrun.Line = codes "refused line\n"
-overrun_line overrun.Count = codes "refused count\n"
+-- the input at a moment
+abbrev pub input_at : Moment → Seen
+input_at moment = record { bytes = moment.left; faults = moment.read_faults }
+
+-- the output at a moment
+abbrev pub out_at : Moment → Seen
+out_at moment = record { bytes = moment.written; faults = moment.write_faults }
+
+-- THE STATUS
+
+-- the status that the program ends with: 0, all was answered; 3, a read failed; 4, a write failed; 6, the links failed; 7, the
+-- input is refused; 9, memory was wanted
+abbrev pub ending_status : Ending → ℕ
+ending_status ending.Done = 0
+ending_status ending.ReadFault = 3
+ending_status (ending.WriteFault due) = 4
+ending_status ending.LinkFault = 6
+ending_status (ending.Refused why) = 7
+ending_status ending.NoMemory = 9
+
+-- what failed, where a talk ends for that: the count of faults rose of what is asked from, the input or the links; or that of the
+-- output
+abbrev pub HasFailed : Ending → (asks asks' writes writes' : ℕ) → Type 0
+HasFailed ending.Done asks asks' writes writes' = Unit {0}
+HasFailed ending.ReadFault asks asks' writes writes' = Rose asks asks'
+HasFailed (ending.WriteFault due) asks asks' writes writes' = Rose writes writes'
+HasFailed ending.LinkFault asks asks' writes writes' = Rose asks asks'
+HasFailed (ending.Refused why) asks asks' writes writes' = Unit {0}
+HasFailed ending.NoMemory asks asks' writes writes' = Unit {0}
+
+-- THE LINES
+
+-- the line that is written for an answer: its text and a line feed
+abbrev pub answer_line : ℕ → Answered → List ℕ
+answer_line version answer = text_of_answer version answer ++ 10 ∷ []
+
+-- the line that is written where an input is refused
+abbrev pub refused_line : Unfit → List ℕ
+refused_line unfit.Line = codes "refused line\n"
+refused_line unfit.Count = codes "refused count\n"
+refused_line unfit.Size = codes "refused size\n"
+refused_line unfit.Header = codes "refused header\n"
 
 -- that line, where there is one
-abbrev pub overrun_lines : Option Overrun → List (List ℕ)
-overrun_lines None = []
-overrun_lines (Some why) = overrun_line why ∷ []
-
--- THE INPUT
-
--- these are the first lines of the input, where it tells its bytes
-abbrev pub AreFirstLines : Option (List ℕ) → List (List ℕ) → Type 0
-AreFirstLines known lines = IfSome known (λ bytes. (others : List (List ℕ)) × (lines_of bytes ≡ lines ++ others))
-
--- these are all lines of the input, and it was read to its end
-pub record AreAllLines (before now : Option (List ℕ)) (lines : List (List ℕ)) : Type 0 where
-  pub all : IfSome before (λ bytes. lines_of bytes ≡ lines)
-  pub ended : IsAtEnd now
-
--- these are the whole lines of the bytes taken, and behind them fewer bytes than a line may have were taken, without a
--- line feed; behind as many lines as may be answered, none
-pub record AreLinesTaken (before now : Option (List ℕ)) (lines : List (List ℕ)) : Type 0 where
-  pub rest : List ℕ
-  pub whole : AreLines lines
-  pub unended : HasNoFeed rest
-  pub few : length rest < longest_ask
-  pub none_more : length lines ≡ most_asks → rest ≡ []
-  pub taken : Consumes before now (concat lines ++ rest)
-
--- behind these lines the input has what is refused: the front of a line that is too long; or, behind as many lines as
--- may be answered, one more byte
-abbrev pub IsRefusedFor : Overrun → List (List ℕ) → List ℕ → Type 0
-IsRefusedFor overrun.Line lines next = HasNoFeed next × (length next ≡ longest_ask) × (length lines < most_asks)
-IsRefusedFor overrun.Count lines next = (0 < length next) × (length lines ≡ most_asks)
-
--- the input goes on behind these lines, which are whole, with what is refused
-pub record IsRefused (why : Overrun) (before : Option (List ℕ)) (lines : List (List ℕ)) : Type 0 where
-  pub next : List ℕ
-  pub whole : AreLines lines
-  pub cause : IsRefusedFor why lines next
-  pub stands : IfSome before (λ bytes. (rest : List ℕ) × (bytes ≡ concat lines ++ (next ++ rest)))
-
--- a refusal's line is due only where the input gives cause for it
-abbrev pub IsDue : Option Overrun → Option (List ℕ) → List (List ℕ) → Type 0
-IsDue None before lines = Unit {0}
-IsDue (Some why) before lines = IsRefused why before lines
-
--- THE OUTPUT
+abbrev pub refused_lines : Option Unfit → List (List ℕ)
+refused_lines None = []
+refused_lines (Some why) = refused_line why ∷ []
 
 -- the last of these lines
 abbrev pub last_of : List (List ℕ) → List ℕ
@@ -84,27 +82,19 @@ pub record MissesLast (before now : Option (List ℕ)) (due : List (List ℕ)) :
   pub few : length rest ≤ length (last_of due)
   pub appended : Appends before now front
 
--- THE ENDINGS
+-- WHAT IS WRITTEN
 
--- what an ending says of the lines that were answered, and of the texts that were written for them:
--- all lines were answered; or a read failed behind them; or what comes behind them is refused, and that was written; or a
--- write failed, and of the texts due at most the last is missing or cut; or memory was wanted, with the same of the texts
-abbrev pub EndsSo : Ending → List (List ℕ) → List (List ℕ) → Moment → Moment → Type 0
-EndsSo ending.Done lines texts before now =
-    AreAllLines before.left now.left lines × Appends before.written now.written (concat texts)
-EndsSo ending.ReadFault lines texts before now =
-    Rose before.read_faults now.read_faults × AreLinesTaken before.left now.left lines × Appends before.written now.written (concat texts)
-EndsSo (ending.Refused why) lines texts before now =
-    IsRefused why before.left lines × Appends before.written now.written (concat texts ++ overrun_line why)
-EndsSo (ending.WriteFault due) lines texts before now =
-    Rose before.write_faults now.write_faults × IsDue due before.left lines × MissesLast before.written now.written (texts ++ overrun_lines due)
-EndsSo ending.NoMemory lines texts before now =
-    MissesLast before.written now.written texts
+-- a talk ends at a line that was cut: its write failed behind a front of it, or memory was wanted for it
+pub record IsCutAt (line : List ℕ) (before now : Option (List ℕ)) (faults faults' : ℕ) (how : Ending) : Type 0 where
+  pub cause : ((how ≡ ending.WriteFault None) × Rose faults faults') ⊎ (how ≡ ending.NoMemory)
+  pub front : AppendsFront before now line
 
--- the status that the program ends with
-abbrev pub ending_status : Ending → ℕ
-ending_status ending.Done = 0
-ending_status ending.ReadFault = 3
-ending_status (ending.WriteFault due) = 4
-ending_status (ending.Refused why) = 7
-ending_status ending.NoMemory = 9
+-- a line was written; or it was cut, and the talk ends so
+abbrev pub WroteLine : Result Unit Ending → List ℕ → Option (List ℕ) → Option (List ℕ) → ℕ → ℕ → Type 0
+WroteLine result line before now faults faults' = MatchResult result (λ _. Appends before now line) (IsCutAt line before now faults faults')
+
+-- a talk ends at a refusal: its line was written, or a front of it where the write failed
+abbrev pub Refuses : Ending → Unfit → Option (List ℕ) → Option (List ℕ) → ℕ → ℕ → Type 0
+Refuses how why before now faults faults' =
+    ((how ≡ ending.Refused why) × Appends before now (refused_line why))
+    ⊎ ((how ≡ ending.WriteFault (Some why)) × Rose faults faults' × AppendsFront before now (refused_line why))

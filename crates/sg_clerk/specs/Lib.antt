@@ -4,8 +4,10 @@ pub mod Begun
 pub mod Does
 pub mod Ends
 pub mod Laws
+pub mod Lines
 pub mod Opening
 pub mod Sheet
 pub mod Shown
 pub mod Taken
+pub mod Talks
 pub mod inside

@@ -1,5 +1,6 @@
--- What was opened of a keeper's rows, and how a command that shows them ends, by the program's own types.
-use Rattle.std.specs.Prelude.{◌≡◌, ℕ, ◌⊎◌, List}
+-- What was opened of a keeper's rows, and how a command ends that shows them or says why there is no office, by the program's
+-- own types.
+use Rattle.std.specs.Prelude.{◌≡◌, ℕ, ◌⊎◌, List, Result, IfOk, MatchResult}
 use Rattle.std.specs.Io.KnownBytes.{Appends}
 use Rattle.sg_outside.specs.Faults.{Rose}
 use Rattle.sg_outside.specs.Streams.{AppendsFront, Seen}
@@ -10,9 +11,10 @@ use Rattle.sg_histories.specs.Standing.{HasRows, StandsFor}
 use Rattle.sg_histories.specs.ValidRows.{Damaged, Empty, Whole, opening}
 use Rattle.sg_histories.specs.declared.kept.Kept.{Kept}
 use Rattle.sg_open.specs.Opened.{StandsForEach}
-use Rattle.sg_clerk.specs.Shown.{CutsShort, IsDamaged, IsEmpty, LacksMemory, LoadFails, ShowsAll}
-use Rattle.sg_clerk.specs.declared.opened.Opened.{Opened}
-use Rattle.sg_clerk.specs.declared.opened.Opened.TheVariants as opened
+use Rattle.sg_clerk.specs.Shown.{CutsShort, IsDamaged, IsEmpty, LacksMemory, LoadFails, ShowsAll, damaged_line, empty_line}
+use Rattle.sg_clerk.specs.Talks.{LineFails}
+use Rattle.sg_clerk.specs.declared.opened.Closed.{Closed}
+use Rattle.sg_clerk.specs.declared.opened.Closed.TheVariants as closed
 use Rattle.sg_clerk.specs.declared.shown.Shown.{Shown}
 use Rattle.sg_clerk.specs.declared.shown.Shown.TheVariants as shown
 
@@ -26,20 +28,19 @@ abbrev pub IsOfRows : Kept → (tells : Type 0) → Rows → Type 0
 IsOfRows kept tells rows = (loaded : Rows) × HasRows kept loaded × (tells → loaded ≡ rows)
 
 -- an office that was opened of the rows of a keeper is of such rows
-abbrev pub StartsFrom : Opened → (tells : Type 0) → Rows → Type 0
-StartsFrom (opened.Office office) tells rows = IsOfRows office tells rows
-StartsFrom opened.LoadFault tells rows = Unit {0}
-StartsFrom opened.Empty tells rows = Unit {0}
-StartsFrom (opened.Damaged table row) tells rows = Unit {0}
-StartsFrom opened.NoMemory tells rows = Unit {0}
+abbrev pub StartsFrom : Result Kept Closed → (tells : Type 0) → Rows → Type 0
+StartsFrom found tells rows = IfOk found (λ office. IsOfRows office tells rows)
 
--- what was opened of the rows of a keeper, where it tells them, with its counts of faults before and after
-abbrev pub OpensTo : Opened → (tells : Type 0) → Rows → ℕ → ℕ → Type 0
-OpensTo (opened.Office office) tells rows faults faults' = tells → IsOpen office rows
-OpensTo opened.LoadFault tells rows faults faults' = Rose faults faults'
-OpensTo opened.Empty tells rows faults faults' = tells → opening rows ≡ Empty
-OpensTo (opened.Damaged table row) tells rows faults faults' = tells → opening rows ≡ Damaged table row
-OpensTo opened.NoMemory tells rows faults faults' = Unit {0}
+-- why no office is opened of the rows of a keeper, where it tells them, with its counts of faults before and after
+abbrev pub IsClosedFor : Closed → (tells : Type 0) → Rows → ℕ → ℕ → Type 0
+IsClosedFor closed.LoadFault tells rows faults faults' = Rose faults faults'
+IsClosedFor closed.Empty tells rows faults faults' = tells → opening rows ≡ Empty
+IsClosedFor (closed.Damaged table row) tells rows faults faults' = tells → opening rows ≡ Damaged table row
+IsClosedFor closed.NoMemory tells rows faults faults' = Unit {0}
+
+-- what was opened of them
+abbrev pub OpensTo : Result Kept Closed → (tells : Type 0) → Rows → ℕ → ℕ → Type 0
+OpensTo found tells rows faults faults' = MatchResult found (λ office. tells → IsOpen office rows) (λ why. IsClosedFor why tells rows faults faults')
 
 -- the text is what is shown of each history that the office stands for
 abbrev pub IsTextOf : (Setup → List Entry → List ℕ) → Kept → List ℕ → Type 0
@@ -68,12 +69,26 @@ OfficeEnds text shown.Damaged kept out out' = ⊥
 
 -- a line was written whole, which ends so; or a front of it, where a write failed; or nothing, for want of memory
 abbrev pub LineEnds : List ℕ → Shown → Shown → Seen → Seen → Type 0
-LineEnds line ends shown.WriteFault out out' = Rose out.faults out'.faults × AppendsFront out.bytes out'.bytes line
-LineEnds line ends shown.NoMemory out out' = out' ≡ out
-LineEnds line ends shown.Done out out' = (ends ≡ shown.Done) × Appends out.bytes out'.bytes line
-LineEnds line ends shown.LoadFault out out' = (ends ≡ shown.LoadFault) × Appends out.bytes out'.bytes line
-LineEnds line ends shown.Empty out out' = (ends ≡ shown.Empty) × Appends out.bytes out'.bytes line
-LineEnds line ends shown.Damaged out out' = (ends ≡ shown.Damaged) × Appends out.bytes out'.bytes line
+LineEnds line ends how out out' =
+    ((how ≡ ends) × Appends out.bytes out'.bytes line)
+    ⊎ ((how ≡ shown.WriteFault) × Rose out.faults out'.faults × AppendsFront out.bytes out'.bytes line)
+    ⊎ ((how ≡ shown.NoMemory) × (out' ≡ out))
+
+-- what was written of why no office is opened: the line that is due, or nothing
+abbrev pub TellsWhy : Closed → Shown → Seen → Seen → Type 0
+TellsWhy closed.LoadFault how out out' = (how ≡ shown.LoadFault) × (out' ≡ out)
+TellsWhy closed.Empty how out out' = LineEnds empty_line shown.Empty how out out'
+TellsWhy (closed.Damaged table row) how out out' = LineEnds (damaged_line table row) shown.Damaged how out out'
+TellsWhy closed.NoMemory how out out' = (how ≡ shown.NoMemory) × (out' ≡ out)
+
+-- how a command ended that opened no office, and what it wrote of that
+abbrev pub ClosedEnds : Shown → (tells : Type 0) → Rows → ℕ → ℕ → Seen → Seen → Type 0
+ClosedEnds shown.Done tells rows faults faults' out out' = ⊥
+ClosedEnds shown.WriteFault tells rows faults faults' out out' = LineFails tells rows out out'
+ClosedEnds shown.LoadFault tells rows faults faults' out out' = LoadFails faults faults' out out'
+ClosedEnds shown.Empty tells rows faults faults' out out' = IsEmpty tells rows out out'
+ClosedEnds shown.Damaged tells rows faults faults' out out' = IsDamaged tells rows out out'
+ClosedEnds shown.NoMemory tells rows faults faults' out out' = out' ≡ out
 
 -- how a command that shows what is kept ended
 abbrev pub ShowEnds : (Setup → List Entry → List ℕ) → Shown → (tells : Type 0) → Rows → ℕ → ℕ → Seen → Seen → Type 0

@@ -2,9 +2,10 @@
 ghost use Rattle.std.specs.Prelude.{◌≡◌, ◌≤◌};
 ghost use Rattle.sg_clerk.specs.Asked.{DoSays};
 
-use crate::opened::{Opened, open_kept};
-use crate::shown::{Shown, show_damage, show_empty, shown_status};
-use crate::talk::{do_lines, ending_status};
+use crate::ended::ending_status;
+use crate::opened::open_kept;
+use crate::shown::{show_closed, shown_status};
+use crate::talk::do_lines;
 use sg_keeper::Keeper;
 use sg_outside::{Sink, Source};
 use std::alloc::Global;
@@ -23,13 +24,10 @@ pub fn answer_asks<S: Source, K: Keeper, O: Sink>(
     ensures told { K.tells keeper.old → K.tells keeper.new }
 {
     match open_kept(alloc, keeper) {
-        Opened::Office(office) => {
+        Ok(office) => {
             let mut office = office;
             ending_status(do_lines(alloc, &mut office, input, keeper, out))
         }
-        Opened::LoadFault => shown_status(Shown::LoadFault),
-        Opened::Empty => shown_status(show_empty(out)),
-        Opened::Damaged(table, row) => shown_status(show_damage(alloc, table, row, out)),
-        Opened::NoMemory => shown_status(Shown::NoMemory),
+        Err(why) => shown_status(show_closed(alloc, why, out)),
     }
 }

@@ -4,6 +4,7 @@
 
 mod asking;
 mod begun;
+mod ended;
 mod filling;
 pub mod laws;
 mod lines;
@@ -16,10 +17,11 @@ mod talk;
 
 pub use asking::answer_asks;
 pub use begun::{Begun, begun_status, init};
+pub use ended::{Ending, Unfit, ending_status, put_line, refuse, write_answer};
 pub use filling::fill;
-pub use opened::{Opened, open_kept};
+pub use opened::{Closed, open_kept};
 pub use posted::record;
 pub use printing::sheet;
 pub use refusal::Refusal;
-pub use shown::{Shown, show_damage, show_empty, shown_status};
-pub use talk::{Ending, Overrun, do_lines, ending_status, line_of};
+pub use shown::{Shown, show_closed, shown_status};
+pub use talk::do_lines;

@@ -7,35 +7,33 @@ use sg_keeper::{KeepFault, Keeper, Rows};
 use sg_office::{Office, OpenFault};
 use std::alloc::Global;
 
-/// What the rows of a keeper are.
-#[derive(Drop)]
-pub enum Opened {
-    /// Those of an office.
-    Office(Office),
-    /// Not had: the keeper failed.
+/// Why no office is opened of the rows of a keeper.
+#[derive(Clone, Copy, Debug, PartialEq, Eq)]
+pub enum Closed {
+    /// The keeper failed.
     LoadFault,
-    /// None, not even a setup.
+    /// It has no rows, not even a setup.
     Empty,
-    /// No office's: the first bad table, and in it the first bad row, both counted from 1.
+    /// They are no office's: the first bad table, and in it the first bad row, both counted from 1.
     Damaged(u32, u64),
-    /// Not had: memory was wanted and not found.
+    /// Memory was wanted and not found.
     NoMemory,
 }
 
-/// What rows are.
-fn opened_of(alloc: Global, rows: &Rows) -> Opened
+/// The office that rows open to.
+fn opened_of(alloc: Global, rows: &Rows) -> Result<Office, Closed>
     ensures { IsOpenedOf result rows.now }
 {
     match Office::open(alloc, rows) {
-        Ok(office) => Opened::Office(office),
-        Err(OpenFault::Empty) => Opened::Empty,
-        Err(OpenFault::Damaged { table, row }) => Opened::Damaged(table, row),
-        Err(OpenFault::NoMemory) => Opened::NoMemory,
+        Ok(office) => Ok(office),
+        Err(OpenFault::Empty) => Err(Closed::Empty),
+        Err(OpenFault::Damaged { table, row }) => Err(Closed::Damaged(table, row)),
+        Err(OpenFault::NoMemory) => Err(Closed::NoMemory),
     }
 }
 
 /// The same, and no more of the rows is kept.
-fn opened_once(alloc: Global, rows: Rows) -> Opened
+fn opened_once(alloc: Global, rows: Rows) -> Result<Office, Closed>
     ensures { IsOpenedOf result rows }
 {
     let opened = opened_of(alloc, &rows);
@@ -45,7 +43,7 @@ fn opened_once(alloc: Global, rows: Rows) -> Opened
 
 /// Loads the rows and opens the office that they are of. The rows stay as they are.
 #[tactic(auto, using(crate::proofs::Opening::opens_to, crate::proofs::Opening::starts_from))]
-pub fn open_kept<K: Keeper>(alloc: Global, keeper: &mut K) -> Opened
+pub fn open_kept<K: Keeper>(alloc: Global, keeper: &mut K) -> Result<Office, Closed>
     ensures opens { OpensTo result (K.tells keeper.old) (K.rows keeper.old) (K.faults keeper.old) (K.faults keeper.new) }
     ensures starts { StartsFrom result (K.tells keeper.old) (K.rows keeper.old) }
     ensures told { K.tells keeper.old → K.tells keeper.new }
@@ -54,8 +52,8 @@ pub fn open_kept<K: Keeper>(alloc: Global, keeper: &mut K) -> Opened
 {
     let rows = match keeper.load(alloc) {
         Ok(rows) => rows,
-        Err(KeepFault::Failed) => return Opened::LoadFault,
-        Err(KeepFault::NoMemory) => return Opened::NoMemory,
+        Err(KeepFault::Failed) => return Err(Closed::LoadFault),
+        Err(KeepFault::NoMemory) => return Err(Closed::NoMemory),
     };
     opened_once(alloc, rows)
 }

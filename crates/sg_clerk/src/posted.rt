@@ -4,8 +4,8 @@ ghost use Rattle.sg_outside.specs.Streams.{seen};
 ghost use Rattle.sg_clerk.specs.Shown.{posted_of};
 ghost use Rattle.sg_clerk.specs.Opening.{OfficeEnds, ShowEnds};
 
-use crate::opened::{Opened, open_kept};
-use crate::shown::{Shown, show_damage, show_empty};
+use crate::opened::open_kept;
+use crate::shown::{Shown, show_closed};
 use sg_keeper::Keeper;
 use sg_office::Office;
 use sg_outside::Sink;
@@ -40,10 +40,7 @@ pub fn record<K: Keeper, O: Sink>(alloc: Global, keeper: &mut K, out: &mut O) ->
     ensures later { K.faults keeper.old ≤ K.faults keeper.new }
 {
     match open_kept(alloc, keeper) {
-        Opened::Office(office) => write_story(alloc, &office, out),
-        Opened::LoadFault => Shown::LoadFault,
-        Opened::Empty => show_empty(out),
-        Opened::Damaged(table, row) => show_damage(alloc, table, row, out),
-        Opened::NoMemory => Shown::NoMemory,
+        Ok(office) => write_story(alloc, &office, out),
+        Err(why) => show_closed(alloc, why, out),
     }
 }

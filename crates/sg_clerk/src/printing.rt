@@ -14,8 +14,8 @@ ghost use Rattle.sg_clerk.specs.Opening.{OfficeEnds, ShowEnds};
 ghost use Rattle.sg_clerk.specs.inside.Printing.{HasStopCause};
 
 use crate::lines::put_decimal;
-use crate::opened::{Opened, open_kept};
-use crate::shown::{Shown, show_damage, show_empty};
+use crate::opened::open_kept;
+use crate::shown::{Shown, show_closed};
 use sg_keeper::Keeper;
 use sg_lines::write_code;
 use sg_office::Office;
@@ -283,10 +283,7 @@ pub fn sheet<K: Keeper, O: Sink>(alloc: Global, keeper: &mut K, out: &mut O) -> 
     ensures later { K.faults keeper.old ≤ K.faults keeper.new }
 {
     match open_kept(alloc, keeper) {
-        Opened::Office(office) => write_sheet(alloc, &office, out),
-        Opened::LoadFault => Shown::LoadFault,
-        Opened::Empty => show_empty(out),
-        Opened::Damaged(table, row) => show_damage(alloc, table, row, out),
-        Opened::NoMemory => Shown::NoMemory,
+        Ok(office) => write_sheet(alloc, &office, out),
+        Err(why) => show_closed(alloc, why, out),
     }
 }

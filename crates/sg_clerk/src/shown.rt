@@ -1,10 +1,11 @@
-//! How a command that shows what is kept ends.
+//! How a command that shows what is kept ends, and what any command writes that opens no office.
 ghost use Rattle.std.specs.Prelude.{◌≡◌};
 ghost use Rattle.sg_outside.specs.Streams.{seen};
 ghost use Rattle.sg_clerk.specs.Shown.{damaged_line as damaged_text, empty_line};
-ghost use Rattle.sg_clerk.specs.Opening.{LineEnds, shown_status};
+ghost use Rattle.sg_clerk.specs.Opening.{LineEnds, TellsWhy, shown_status};
 
 use crate::lines::{damaged_line, put_empty};
+use crate::opened::Closed;
 use sg_outside::{Failed, Sink};
 use std::alloc::Global;
 
@@ -40,7 +41,7 @@ pub fn shown_status(ending: Shown) -> u8
 }
 
 /// Writes that no setup is kept.
-pub fn show_empty<O: Sink>(out: &mut O) -> Shown
+fn show_empty<O: Sink>(out: &mut O) -> Shown
     ensures { LineEnds empty_line Shown.Empty result (seen (O.written out.old) (O.faults out.old)) (seen (O.written out.new) (O.faults out.new)) }
 {
     match put_empty(out) {
@@ -50,7 +51,7 @@ pub fn show_empty<O: Sink>(out: &mut O) -> Shown
 }
 
 /// Writes which row is no office's.
-pub fn show_damage<O: Sink>(alloc: Global, table: u32, row: u64, out: &mut O) -> Shown
+fn show_damage<O: Sink>(alloc: Global, table: u32, row: u64, out: &mut O) -> Shown
     ensures { LineEnds (damaged_text table row) Shown.Damaged result (seen (O.written out.old) (O.faults out.old)) (seen (O.written out.new) (O.faults out.new)) }
 {
     let Ok(line) = damaged_line(alloc, table, row) else {
@@ -59,5 +60,17 @@ pub fn show_damage<O: Sink>(alloc: Global, table: u32, row: u64, out: &mut O) ->
     match out.put(line.bytes()) {
         Ok(()) => Shown::Damaged,
         Err(Failed) => Shown::WriteFault,
+    }
+}
+
+/// Writes why no office is opened, where there is a line for that, and says how the command ends.
+pub fn show_closed<O: Sink>(alloc: Global, why: Closed, out: &mut O) -> Shown
+    ensures { TellsWhy why result (seen (O.written out.old) (O.faults out.old)) (seen (O.written out.new) (O.faults out.new)) }
+{
+    match why {
+        Closed::LoadFault => Shown::LoadFault,
+        Closed::Empty => show_empty(out),
+        Closed::Damaged(table, row) => show_damage(alloc, table, row, out),
+        Closed::NoMemory => Shown::NoMemory,
     }
 }

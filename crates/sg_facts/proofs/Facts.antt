@@ -1,6 +1,6 @@
 -- The facts of a record, by its lists.
-use Rattle.std.proofs.Common.{◌≡◌, ◌≢◌, ℕ, ◌+◌, ◌-◌, ◌*◌, ◌<◌, ◌==◌, Bool, true, false, ◌&&◌, cond, List, [], ◌∷◌, ◌++◌, length, map, filter, get_or, Option, Some, None, refl, sym, ap, ◌∙◌, arith}
-use Rattle.std.proofs.lemmas.Bool.{eq-eqb, eqb-true, ne_eqb}
+use Rattle.std.proofs.Common.{◌≡◌, ◌≢◌, ℕ, ◌+◌, ◌-◌, ◌*◌, ◌<◌, ◌==◌, Bool, true, false, ◌&&◌, ◌||◌, cond, List, [], ◌∷◌, ◌++◌, length, map, filter, get_or, Option, Some, None, refl, sym, ap, ◌∙◌, arith}
+use Rattle.std.proofs.lemmas.Bool.{and_left, and_right, eq-eqb, eqb-true, ne_eqb}
 use Rattle.std.proofs.lemmas.Option.{get_or_from_slice_get, slice_get_within}
 use Rattle.std.specs.List.{flat_map, list_any}
 use Rattle.std.specs.Option.{option_and_then, option_map, option_map_or}
@@ -14,11 +14,11 @@ use Rattle.sg_forms.specs.declared.line.CodeLine.{CodeLine}
 use Rattle.sg_forms.specs.declared.line.RowOpening.{RowOpening}
 use Rattle.sg_grammar.specs.Due.{each, lines_for}
 use Rattle.sg_grammar.specs.Placed.{Placed}
-use Rattle.sg_grammar.specs.Placed.Placed.{Begun, FlagsAt, OfPlan, OverAt, PaperAt, PlacesAt, RowAt, RowCommitAt, TotalAt}
+use Rattle.sg_grammar.specs.Placed.Placed.{Begun, CodeAt, CodeCommitAt, DrawnFull, DrawnPublic, FlagsAt, OverAt, PaperAt, PlacesAt, RowAt, RowCommitAt, SealAt, TotalAt}
 use Rattle.sg_grammar.specs.declared.state.Block.{Block}
 use Rattle.sg_grammar.specs.declared.state.Block.TheVariants as block
-use Rattle.sg_record.specs.Lines.{bit_sign, indexed, plan_lines, signs_on}
-use Rattle.sg_record.specs.Places.{block_places, cast_race_places, code_place, commit_places, dispute_places, draw_place, fate_places, flag_place, flag_places, opening_places, paper_places, places_in, race_code_commit_places, race_result_places, race_row_commit_places, race_row_places, result_places, row_commit_place, row_place, seal_place, set_places, total_place}
+use Rattle.sg_record.specs.Lines.{bit_sign, indexed, signs_on}
+use Rattle.sg_record.specs.Places.{block_places, cast_race_places, code_commit_place, code_place, dispute_places, draw_place, fate_places, flag_place, flag_places, opening_places, paper_places, places_in, race_code_commit_places, race_result_places, race_row_commit_places, race_row_places, row_commit_place, row_place, seal_place, set_places, total_place}
 use Rattle.sg_record.specs.declared.record.BallotBlock.{BallotBlock}
 use Rattle.sg_record.specs.declared.record.BlockFate.{BlockFate}
 use Rattle.sg_record.specs.declared.record.BlockFate.TheVariants as fate
@@ -26,7 +26,7 @@ use Rattle.sg_record.specs.declared.record.DisputeBlock.{DisputeBlock}
 use Rattle.sg_record.specs.declared.record.Record.{Record}
 use Rattle.sg_record.specs.declared.record.RowCommit.{RowCommit}
 use Rattle.sg_check.specs.Completions.{half_commitment, opened_on, posted_half, posts_half}
-use Rattle.sg_check.specs.Facts.{commits_left, commits_right, first_given, flags_row, is_flagged, is_set, known_code, sets_place, shows_code}
+use Rattle.sg_check.specs.Facts.{code_commitment, commits_code, commits_left, commits_right, draws_digits, draws_full, first_given, flags_row, is_flagged, is_full_draw, is_set, known_code, sets_place, shows_code}
 use Rattle.sg_check.specs.Printings.{marked_code, posts_code}
 use Rattle.sg_check.proofs.BitsFound.{bits-found}
 use Rattle.sg_check.proofs.Fronts.{any-at, any-before, any-behind, given-before, given-behind}
@@ -35,8 +35,9 @@ use Rattle.sg_facts.specs.Laws.{FactsAreListed}
 use Rattle.sg_facts.specs.Listed.{block_code, block_mark, code_shown, digest_on, dispute_code, fate_code, fate_mark}
 use Rattle.sg_facts.specs.Totals.{totals_candidate}
 use Rattle.sg_facts.proofs.Each.{EachOf, given-of, of-append, of-none}
-use Rattle.sg_facts.proofs.Finding.{any_indexed-at, first-at, given-append, of-each, given-filter, given-flat, given-map, given-same, nested-at, numbered-at}
-use Rattle.sg_facts.proofs.Sections.{ballots-of, codes-of, commits-of, disputes-of, draw-of, openings-of, plan-of, race_flags-of, race_results-of, race_sets-of, race_totals-of, results-of, seal_1-of, seal_2-of, seal_3-of}
+use Rattle.sg_facts.proofs.Finding.{any_indexed-at, first-at, given-filter, given-flat, given-map, given-same, nested-at, numbered-at, of-each, paired-at}
+use Rattle.sg_facts.proofs.Rising.{any-openings, any-results, given-codes, given-commits, given-openings, given-results, part_of}
+use Rattle.sg_facts.proofs.Sections.{codes-of, draw-of, race_flags-of, race_results-of, race_sets-of, race_totals-of, row_commits-of, rows-of, seals-of}
 
 -- a line that gives none
 abbrev NoneBy : {B : Type 0} → (Placed → Option B) → Placed → Type 0
@@ -67,39 +68,49 @@ none_if : {B : Type 0} (b : Bool) (o : Option B) → b ≡ false → cond b o No
 none_if b o e = rw e refl
 
 module _ (posted : Record) where
-  abbrev head : List Placed
-  head = map OfPlan (plan_lines posted.plan)
+  abbrev first_seal : List Placed
+  first_seal = seal_place 1 posted.seals
 
-  abbrev blocks : List Placed
-  blocks = flat_map (block_places posted.plan) posted.ballots
+  abbrev row_commits : List Placed
+  row_commits = indexed race_row_commit_places 0 posted.row_commits
 
-  abbrev claims : List Placed
-  claims = flat_map dispute_places posted.disputes
-
-  -- the lines behind the results, those behind the ballots, and those behind the commitments
-  abbrev behind_results : List Placed
-  behind_results = opening_places posted ++ claims
-
-  abbrev behind_ballots : List Placed
-  behind_ballots = result_places posted ++ behind_results
-
-  abbrev behind_commits : List Placed
-  behind_commits = blocks ++ behind_ballots
+  only : {B : Type 0} (o : Option B) → option_map_or Some o None ≡ o
+  only None = refl
+  only (Some x) = refl
 
   -- THE COMMITMENTS
 
+  as_map : {A B : Type 0} (f : A → B) (o : Option A) → option_and_then (λ x. Some (f x)) o ≡ option_map f o
+  as_map f None = refl
+  as_map f (Some x) = refl
+
+  all_same : {A : Type 0} (o : Option A) → option_and_then (λ x. Some x) o ≡ o
+  all_same None = refl
+  all_same (Some x) = refl
+
+  pub code_commitment_is : (race entry : ℕ) → code_commitment race entry (places_in posted) ≡ item_in posted.code_commits race entry
+  code_commitment_is race entry =
+      let g = commits_code race entry in
+      given-commits posted g others
+      ∙ (given-before g (indexed race_code_commit_places 0 posted.code_commits) (row_commits ++ first_seal)
+      (given-of g (row_commits ++ first_seal) (of-append (NoneBy g) row_commits first_seal (row_commits-of (NoneBy g) posted (λ r i x a b. refl)) (seals-of (NoneBy g) 1 posted.seals (λ d. refl))))
+      ∙ (paired-at g code_commit_place (λ d. Some d) race entry
+      (λ r e d other. only (g (CodeCommitAt r e d)) ∙ none_if (r == race && e == entry) (Some d) (and_left (r == race) (e == entry) (ne_eqb r race other)))
+      (λ e d other. only (g (CodeCommitAt race e d)) ∙ none_if (race == race && e == entry) (Some d) (and_right (race == race) (e == entry) (ne_eqb e entry other)))
+      (λ d. only (g (CodeCommitAt race entry d)) ∙ rw (eq-eqb race race refl, eq-eqb entry entry refl) refl) posted.code_commits
+      ∙ all_same (item_in posted.code_commits race entry)))
+    where
+      others : (line : Placed) → part_of line ≢ 2 → commits_code race entry line ≡ None
+      others (CodeCommitAt of at digest) other = absurd (other refl)
+      others line other = refl
+
   module _ (g : Placed → Option Digest) (v : RowCommit → Option Digest) (race instance row : ℕ)
       (right : (r i x : ℕ) (a b : Digest) → g (RowCommitAt r i x a b) ≡ cond ((r == race && i == instance) && x == row) (v (record { left = a; right = b })) None)
-      (head_none : EachOf (NoneBy g) head) (blocks_none : EachOf (NoneBy g) blocks) (results_none : EachOf (NoneBy g) (result_places posted)) (openings_none : EachOf (NoneBy g) (opening_places posted))
-      (claims_none : EachOf (NoneBy g) claims) (codes_none : EachOf (NoneBy g) (indexed race_code_commit_places 0 posted.code_commits)) (seal_none : EachOf (NoneBy g) (seal_place 1 posted.seals)) where
-    one : (o : Option Digest) → option_map_or Some o None ≡ o
-    one None = refl
-    one (Some x) = refl
-
+      (others : (line : Placed) → part_of line ≢ 2 → g line ≡ None) (codes_none : EachOf (NoneBy g) (indexed race_code_commit_places 0 posted.code_commits)) (seal_none : (digest : Digest) → g (SealAt 1 digest) ≡ None) where
     at_row : (r i x : ℕ) (a : RowCommit) → first_given g (row_commit_place r i x a) ≡ cond ((r == race && i == instance) && x == row) (v a) None
-    at_row r i x a = one (g (RowCommitAt r i x a.left a.right)) ∙ right r i x a.left a.right
+    at_row r i x a = only (g (RowCommitAt r i x a.left a.right)) ∙ right r i x a.left a.right
 
-    commits_here : first_given g (indexed race_row_commit_places 0 posted.row_commits) ≡ option_and_then v (row_in posted.row_commits race instance row)
+    commits_here : first_given g row_commits ≡ option_and_then v (row_in posted.row_commits race instance row)
     commits_here =
         nested-at g row_commit_place v race instance row
         (λ r i x a other. at_row r i x a ∙ none_if ((r == race && i == instance) && x == row) (v a) (ands_first (r == race) (i == instance) (x == row) (ne_eqb r race other)))
@@ -108,50 +119,75 @@ module _ (posted : Record) where
         (λ a. at_row race instance row a ∙ rw (eq-eqb race race refl, eq-eqb instance instance refl, eq-eqb row row refl) refl) posted.row_commits
 
     commit_found : first_given g (places_in posted) ≡ option_and_then v (row_in posted.row_commits race instance row)
-    unfolding places_in
     commit_found =
-        given-behind g head (commit_places posted ++ behind_commits) (given-of g head head_none)
-        ∙ (given-before g (commit_places posted) behind_commits
-        (given-of g behind_commits
-        (of-append (NoneBy g) blocks behind_ballots blocks_none
-        (of-append (NoneBy g) (result_places posted) behind_results results_none (of-append (NoneBy g) (opening_places posted) claims openings_none claims_none))))
-        ∙ (given-behind g (indexed race_code_commit_places 0 posted.code_commits) (indexed race_row_commit_places 0 posted.row_commits ++ seal_place 1 posted.seals) (given-of g (indexed race_code_commit_places 0 posted.code_commits) codes_none)
-        ∙ (given-before g (indexed race_row_commit_places 0 posted.row_commits) (seal_place 1 posted.seals) (given-of g (seal_place 1 posted.seals) seal_none) ∙ commits_here)))
-
-  as_map : {A B : Type 0} (f : A → B) (o : Option A) → option_and_then (λ x. Some (f x)) o ≡ option_map f o
-  as_map f None = refl
-  as_map f (Some x) = refl
+        given-commits posted g others
+        ∙ (given-behind g (indexed race_code_commit_places 0 posted.code_commits) (row_commits ++ first_seal) (given-of g (indexed race_code_commit_places 0 posted.code_commits) codes_none)
+        ∙ (given-before g row_commits first_seal (given-of g first_seal (seals-of (NoneBy g) 1 posted.seals seal_none)) ∙ commits_here))
 
   commitment : (on : Side) (race instance row : ℕ) → half_commitment (places_in posted) on race instance row ≡ option_map (digest_on on) (row_in posted.row_commits race instance row)
   commitment side.Left race instance row =
       let g = commits_left race instance row in
-      commit_found g (λ commit. Some commit.left) race instance row (λ r i x a b. refl)
-      (plan-of (NoneBy g) posted.plan (λ said. refl)) (ballots-of (NoneBy g) (λ b. refl) (λ k b r c code. refl) (λ b r. refl) (λ b r l. refl) posted.plan posted.ballots)
-      (results-of (NoneBy g) posted (λ r i f b. refl) (λ r f b. refl) (λ r c n. refl) (λ n d. refl)) (openings-of (NoneBy g) posted refl (λ d. refl) (λ r i x o. refl) (λ n d. refl))
-      (disputes-of (NoneBy g) posted.disputes (λ b r c w. refl) (λ b r c code. refl)) (codes-of (NoneBy g) posted (λ r e d. refl)) (seal_1-of (NoneBy g) posted (λ n d. refl))
+      commit_found g (λ commit. Some commit.left) race instance row (λ r i x a b. refl) others (codes-of (NoneBy g) posted (λ r e d. refl)) (λ d. refl)
       ∙ as_map (λ commit. commit.left) (row_in posted.row_commits race instance row)
+    where
+      others : (line : Placed) → part_of line ≢ 2 → commits_left race instance row line ≡ None
+      others (RowCommitAt of within at left right) other = absurd (other refl)
+      others line other = refl
   commitment side.Right race instance row =
       let g = commits_right race instance row in
-      commit_found g (λ commit. Some commit.right) race instance row (λ r i x a b. refl)
-      (plan-of (NoneBy g) posted.plan (λ said. refl)) (ballots-of (NoneBy g) (λ b. refl) (λ k b r c code. refl) (λ b r. refl) (λ b r l. refl) posted.plan posted.ballots)
-      (results-of (NoneBy g) posted (λ r i f b. refl) (λ r f b. refl) (λ r c n. refl) (λ n d. refl)) (openings-of (NoneBy g) posted refl (λ d. refl) (λ r i x o. refl) (λ n d. refl))
-      (disputes-of (NoneBy g) posted.disputes (λ b r c w. refl) (λ b r c code. refl)) (codes-of (NoneBy g) posted (λ r e d. refl)) (seal_1-of (NoneBy g) posted (λ n d. refl))
+      commit_found g (λ commit. Some commit.right) race instance row (λ r i x a b. refl) others (codes-of (NoneBy g) posted (λ r e d. refl)) (λ d. refl)
       ∙ as_map (λ commit. commit.right) (row_in posted.row_commits race instance row)
+    where
+      others : (line : Placed) → part_of line ≢ 2 → commits_right race instance row line ≡ None
+      others (RowCommitAt of within at left right) other = absurd (other refl)
+      others line other = refl
 
-  -- THE HALVES
+  -- THE DRAW AND THE HALVES
+
+  abbrev rows : List Placed
+  rows = indexed race_row_places 0 posted.rows
+
+  abbrev third_seal : List Placed
+  third_seal = seal_place 3 posted.seals
+
+  -- what no row gives, and no seal
+  module _ {B : Type 0} (g : Placed → Option B) (rows_none : (r i x : ℕ) (o : RowOpening) → g (RowAt r i x o) ≡ None) (seal_none : (digest : Digest) → g (SealAt 3 digest) ≡ None) where
+    behind_draw : first_given g (opening_places posted) ≡ g (draw_place posted.draw)
+    behind_draw =
+        given-before g (draw_place posted.draw ∷ []) (rows ++ third_seal)
+        (given-of g (rows ++ third_seal) (of-append (NoneBy g) rows third_seal (rows-of (NoneBy g) posted (λ r i x o is. rows_none r i x o)) (seals-of (NoneBy g) 3 posted.seals seal_none)))
+        ∙ only (g (draw_place posted.draw))
+
+  pub digits_are : first_given draws_digits (places_in posted) ≡ draws_digits (draw_place posted.draw)
+  digits_are = given-openings posted draws_digits others ∙ behind_draw draws_digits (λ r i x o. refl) (λ d. refl)
+    where
+      others : (line : Placed) → part_of line ≢ 5 → part_of line ≢ 6 → draws_digits line ≡ None
+      others (DrawnPublic digits) drawn row = absurd (drawn refl)
+      others line drawn row = refl
+
+  pub full_draw_is : is_full_draw (places_in posted) ≡ draws_full (draw_place posted.draw)
+  full_draw_is =
+      any-openings posted draws_full others
+      ∙ (any-before draws_full (draw_place posted.draw ∷ []) (rows ++ third_seal)
+      (of-none draws_full (rows ++ third_seal) (of-append (FailsBy draws_full) rows third_seal (rows-of (FailsBy draws_full) posted (λ r i x o is. refl)) (seals-of (FailsBy draws_full) 3 posted.seals (λ d. refl))))
+      ∙ or_false (draws_full (draw_place posted.draw)))
+    where
+      others : (line : Placed) → part_of line ≢ 5 → part_of line ≢ 6 → draws_full line ≡ false
+      others DrawnFull drawn row = absurd (drawn refl)
+      others line drawn row = refl
+
+      or_false : (b : Bool) → (b || false) ≡ b
+      or_false true = refl
+      or_false false = refl
 
   module _ (on : Side) (race instance row : ℕ) where
     abbrev posts : Placed → Option Opening
     posts = posts_half on race instance row
 
-    only : (o : Option Opening) → option_map_or Some o None ≡ o
-    only None = refl
-    only (Some x) = refl
-
     at_opening : (r i x : ℕ) (a : RowOpening) → first_given posts (row_place r i x a) ≡ cond ((r == race && i == instance) && x == row) (opened_on on a) None
     at_opening r i x a = only (posts (RowAt r i x a))
 
-    rows_here : first_given posts (indexed race_row_places 0 posted.rows) ≡ option_and_then (opened_on on) (row_in posted.rows race instance row)
+    rows_here : first_given posts rows ≡ option_and_then (opened_on on) (row_in posted.rows race instance row)
     rows_here =
         nested-at posts row_place (opened_on on) race instance row
         (λ r i x a other. at_opening r i x a ∙ none_if ((r == race && i == instance) && x == row) (opened_on on a) (ands_first (r == race) (i == instance) (x == row) (ne_eqb r race other)))
@@ -160,15 +196,14 @@ module _ (posted : Record) where
         (λ a. at_opening race instance row a ∙ rw (eq-eqb race race refl, eq-eqb instance instance refl, eq-eqb row row refl) refl) posted.rows
 
     half : posted_half (places_in posted) on race instance row ≡ option_and_then (opened_on on) (row_in posted.rows race instance row)
-    unfolding places_in
     half =
-        given-behind posts head (commit_places posted ++ behind_commits) (given-of posts head (plan-of (NoneBy posts) posted.plan (λ said. refl)))
-        ∙ (given-behind posts (commit_places posted) behind_commits (given-of posts (commit_places posted) (commits-of (NoneBy posts) posted (λ r e d. refl) (λ r i x a b. refl) (λ n d. refl)))
-        ∙ (given-behind posts blocks behind_ballots (given-of posts blocks (ballots-of (NoneBy posts) (λ b. refl) (λ k b r c code. refl) (λ b r. refl) (λ b r l. refl) posted.plan posted.ballots))
-        ∙ (given-behind posts (result_places posted) behind_results (given-of posts (result_places posted) (results-of (NoneBy posts) posted (λ r i f b. refl) (λ r f b. refl) (λ r c n. refl) (λ n d. refl)))
-        ∙ (given-before posts (opening_places posted) claims (given-of posts claims (disputes-of (NoneBy posts) posted.disputes (λ b r c w. refl) (λ b r c code. refl)))
-        ∙ (given-behind posts (draw_place posted.draw ∷ []) (indexed race_row_places 0 posted.rows ++ seal_place 3 posted.seals) (given-of posts (draw_place posted.draw ∷ []) (draw-of (NoneBy posts) posted.draw refl (λ d. refl), tt))
-        ∙ (given-before posts (indexed race_row_places 0 posted.rows) (seal_place 3 posted.seals) (given-of posts (seal_place 3 posted.seals) (seal_3-of (NoneBy posts) posted (λ n d. refl))) ∙ rows_here))))))
+        given-openings posted posts others
+        ∙ (given-behind posts (draw_place posted.draw ∷ []) (rows ++ third_seal) (given-of posts (draw_place posted.draw ∷ []) (draw-of (NoneBy posts) posted.draw refl (λ d. refl), tt))
+        ∙ (given-before posts rows third_seal (given-of posts third_seal (seals-of (NoneBy posts) 3 posted.seals (λ d. refl))) ∙ rows_here))
+      where
+        others : (line : Placed) → part_of line ≢ 5 → part_of line ≢ 6 → posts_half on race instance row line ≡ None
+        others (RowAt of within at opening) drawn other = absurd (other refl)
+        others line drawn other = refl
 
   -- THE RESULTS
 
@@ -176,16 +211,9 @@ module _ (posted : Record) where
   results = each (race_result_places posted) 0 (length posted.plan.races)
 
   -- a test that passes lines of results alone
-  module _ (test : Placed → Bool) (head_fails : EachOf (FailsBy test) head) (commits_fail : EachOf (FailsBy test) (commit_places posted)) (blocks_fail : EachOf (FailsBy test) blocks)
-      (openings_fail : EachOf (FailsBy test) (opening_places posted)) (claims_fail : EachOf (FailsBy test) claims) (seal_fails : EachOf (FailsBy test) (seal_place 2 posted.seals)) where
-    in_results : list_any test (places_in posted) ≡ list_any test results
-    unfolding places_in
-    in_results =
-        any-behind test head (commit_places posted ++ behind_commits) (of-none test head head_fails)
-        ∙ (any-behind test (commit_places posted) behind_commits (of-none test (commit_places posted) commits_fail)
-        ∙ (any-behind test blocks behind_ballots (of-none test blocks blocks_fail)
-        ∙ (any-before test (result_places posted) behind_results (of-none test behind_results (of-append (FailsBy test) (opening_places posted) claims openings_fail claims_fail))
-        ∙ any-before test results (seal_place 2 posted.seals) (of-none test (seal_place 2 posted.seals) seal_fails))))
+  in_results : (test : Placed → Bool) → ((line : Placed) → part_of line ≢ 4 → test line ≡ false) → ((digest : Digest) → test (SealAt 2 digest) ≡ false) → list_any test (places_in posted) ≡ list_any test results
+  in_results test others seal =
+      any-results posted test others ∙ any-before test results (seal_place 2 posted.seals) (of-none test (seal_place 2 posted.seals) (seals-of (FailsBy test) 2 posted.seals seal))
 
   item_of : {A : Type 0} (lists : List (List A)) (outer inner : ℕ) (item : A) → item_in lists outer inner ≡ Some item → (items : List A) × (slice_get lists outer ≡ Some items) × (slice_get items inner ≡ Some item)
   item_of {A} lists outer inner item is = at_items (slice_get lists outer) refl
@@ -209,18 +237,14 @@ module _ (posted : Record) where
           let flags = slice_index_or posted.flags race [] in
           let sets = set_places race (slice_index_or posted.places race []) in
           let totals = indexed (total_place race) 0 (slice_index_or posted.totals race []) in
-          in_results (flags_row race instance row) (plan-of (FailsBy (flags_row race instance row)) posted.plan (λ said. refl))
-          (commits-of (FailsBy (flags_row race instance row)) posted (λ r e d. refl) (λ r i x a b. refl) (λ n d. refl))
-          (ballots-of (FailsBy (flags_row race instance row)) (λ b. refl) (λ k b r c code. refl) (λ b r. refl) (λ b r l. refl) posted.plan posted.ballots)
-          (openings-of (FailsBy (flags_row race instance row)) posted refl (λ d. refl) (λ r i x o. refl) (λ n d. refl))
-          (disputes-of (FailsBy (flags_row race instance row)) posted.disputes (λ b r c w. refl) (λ b r c code. refl)) (seal_2-of (FailsBy (flags_row race instance row)) posted (λ n d. refl))
+          in_results (flags_row race instance row) others (λ d. refl)
           ∙ (any-at (flags_row race instance row) (race_result_places posted) 0 (length posted.plan.races - 0) race (omega arith) (omega (arith, within))
           (λ r a b other. of-none (flags_row race instance row) (race_result_places posted r)
-          (race_results-of (FailsBy (flags_row race instance row)) posted r (λ i f signs. rw (ne_eqb r race other) refl) (λ f signs. refl) (λ c n. refl)))
+          (race_results-of (FailsBy (flags_row race instance row)) posted r (λ i f signs. rw (ne_eqb r race other) refl) (λ f signs. refl) (λ c n is. refl)))
           ∙ (any-before (flags_row race instance row) (indexed (flag_places race) 0 flags) (sets ++ totals)
           (of-none (flags_row race instance row) (sets ++ totals)
           (of-append (FailsBy (flags_row race instance row)) sets totals (race_sets-of (FailsBy (flags_row race instance row)) race (slice_index_or posted.places race []) (λ f signs. refl))
-          (race_totals-of (FailsBy (flags_row race instance row)) race (slice_index_or posted.totals race []) (λ c n. refl))))
+          (race_totals-of (FailsBy (flags_row race instance row)) race (slice_index_or posted.totals race []) (λ c n is. refl))))
           ∙ (any_indexed-at (flags_row race instance row) (flag_places race) 0 flags instance bits (ap (λ (l : List (List Bool)). slice_get l instance) flags_are ∙ found.1)
           (λ j list other. of-none (flags_row race instance row) (flag_places race j list) (line_fails j list (λ e. other (e ∙ from_none instance))))
           ∙ (ap (λ (i : ℕ). list_any (flags_row race instance row) (flag_places race i bits)) (sym (from_none instance))
@@ -228,6 +252,10 @@ module _ (posted : Record) where
           (λ line. rw (eq-eqb race race refl, eq-eqb instance instance refl) refl) (slice_get_within bits row bit found.2)
           ∙ bit-of bits row bit found.2)))))
         where
+          others : (line : Placed) → part_of line ≢ 4 → flags_row race instance row line ≡ false
+          others (FlagsAt of within from signs) other = absurd (other refl)
+          others line other = refl
+
           from_none : (i : ℕ) → i ≡ 0 + i
           from_none i = omega arith
 
@@ -244,21 +272,20 @@ module _ (posted : Record) where
       let flags = indexed (flag_places race) 0 (slice_index_or posted.flags race []) in
       let sets = set_places race (slice_index_or posted.places race []) in
       let totals = indexed (total_place race) 0 (slice_index_or posted.totals race []) in
-      in_results test (plan-of (FailsBy test) posted.plan (λ said. refl))
-      (commits-of (FailsBy test) posted (λ r e d. refl) (λ r i x a b. refl) (λ n d. refl))
-      (ballots-of (FailsBy test) (λ b. refl) (λ k b r c code. refl) (λ b r. refl) (λ b r l. refl) posted.plan posted.ballots)
-      (openings-of (FailsBy test) posted refl (λ d. refl) (λ r i x o. refl) (λ n d. refl))
-      (disputes-of (FailsBy test) posted.disputes (λ b r c w. refl) (λ b r c code. refl)) (seal_2-of (FailsBy test) posted (λ n d. refl))
+      in_results test others (λ d. refl)
       ∙ (any-at test (race_result_places posted) 0 (length posted.plan.races - 0) race (omega arith) (omega (arith, within))
-      (λ r a b other. of-none test (race_result_places posted r) (race_results-of (FailsBy test) posted r (λ i f signs. refl) (λ f signs. rw (ne_eqb r race other) refl) (λ c n. refl)))
+      (λ r a b other. of-none test (race_result_places posted r) (race_results-of (FailsBy test) posted r (λ i f signs. refl) (λ f signs. rw (ne_eqb r race other) refl) (λ c n is. refl)))
       ∙ (any-behind test flags (sets ++ totals) (of-none test flags (race_flags-of (FailsBy test) race (slice_index_or posted.flags race []) (λ i f signs. refl)))
-      ∙ (any-before test sets totals (of-none test totals (race_totals-of (FailsBy test) race (slice_index_or posted.totals race []) (λ c n. refl)))
+      ∙ (any-before test sets totals (of-none test totals (race_totals-of (FailsBy test) race (slice_index_or posted.totals race []) (λ c n is. refl)))
       ∙ (ap (λ (l : List Bool). list_any test (set_places race l)) bits_are
       ∙ (bits-found bit_sign is_sign test (λ line. PlacesAt race (64 * line) (signs_on bits line)) bits at (λ line. rw (eq-eqb race race refl) refl) (slice_get_within bits at bit found.2)
       ∙ bit-of bits at bit found.2)))))
+    where
+      others : (line : Placed) → part_of line ≢ 4 → sets_place race at line ≡ false
+      others (PlacesAt of from signs) other = absurd (other refl)
+      others line other = refl
 
   total : (race candidate count : ℕ) → race < length posted.plan.races → item_in posted.totals race candidate ≡ Some count → first_given (totals_candidate race candidate) (places_in posted) ≡ Some count
-  unfolding places_in
   total race candidate count within is =
       let found = item_of posted.totals race candidate count is in
       let g = totals_candidate race candidate in
@@ -266,54 +293,34 @@ module _ (posted : Record) where
       let flags = indexed (flag_places race) 0 (slice_index_or posted.flags race []) in
       let sets = set_places race (slice_index_or posted.places race []) in
       let totals = indexed (total_place race) 0 (slice_index_or posted.totals race []) in
-      given-behind g head (commit_places posted ++ behind_commits) (given-of g head (plan-of (NoneBy g) posted.plan (λ said. refl)))
-      ∙ (given-behind g (commit_places posted) behind_commits (given-of g (commit_places posted) (commits-of (NoneBy g) posted (λ r e d. refl) (λ r i x a b. refl) (λ n d. refl)))
-      ∙ (given-behind g blocks behind_ballots (given-of g blocks (ballots-of (NoneBy g) (λ b. refl) (λ k b r c code. refl) (λ b r. refl) (λ b r l. refl) posted.plan posted.ballots))
-      ∙ (given-before g (result_places posted) behind_results
-      (given-of g behind_results
-      (of-append (NoneBy g) (opening_places posted) claims (openings-of (NoneBy g) posted refl (λ d. refl) (λ r i x o. refl) (λ n d. refl))
-      (disputes-of (NoneBy g) posted.disputes (λ b r c w. refl) (λ b r c code. refl))))
-      ∙ (given-before g results (seal_place 2 posted.seals) (given-of g (seal_place 2 posted.seals) (seal_2-of (NoneBy g) posted (λ n d. refl)))
+      given-results posted g others
+      ∙ (given-before g results (seal_place 2 posted.seals) (given-of g (seal_place 2 posted.seals) (seals-of (NoneBy g) 2 posted.seals (λ d. refl)))
       ∙ (numbered-at g (race_result_places posted) 0 (length posted.plan.races - 0) race (omega arith) (omega (arith, within))
       (λ r other. given-of g (race_result_places posted r)
-      (race_results-of (NoneBy g) posted r (λ i f signs. refl) (λ f signs. refl) (λ c n. none_if (r == race && c == candidate) (Some n) (and_first (r == race) (c == candidate) (ne_eqb r race other)))))
+      (race_results-of (NoneBy g) posted r (λ i f signs. refl) (λ f signs. refl) (λ c n is. none_if (r == race && c == candidate) (Some n) (and_left (r == race) (c == candidate) (ne_eqb r race other)))))
       ∙ (given-behind g flags (sets ++ totals) (given-of g flags (race_flags-of (NoneBy g) race (slice_index_or posted.flags race []) (λ i f signs. refl)))
       ∙ (given-behind g sets totals (given-of g sets (race_sets-of (NoneBy g) race (slice_index_or posted.places race []) (λ f signs. refl)))
       ∙ (first-at g (total_place race) (slice_index_or posted.totals race []) candidate
-      (λ j n other. only_total (g (TotalAt race j n)) ∙ none_if (race == race && j == candidate) (Some n) (and_second (race == race) (j == candidate) (ne_eqb j candidate other)))
+      (λ j n other. only (g (TotalAt race j n)) ∙ none_if (race == race && j == candidate) (Some n) (and_right (race == race) (j == candidate) (ne_eqb j candidate other)))
       ∙ (ap (λ (l : List ℕ). option_and_then (λ n. first_given g (total_place race candidate n)) (slice_get l candidate)) totals_are
       ∙ (ap (option_and_then (λ n. first_given g (total_place race candidate n))) found.2
-      ∙ rw (eq-eqb race race refl, eq-eqb candidate candidate refl) refl))))))))))
+      ∙ rw (eq-eqb race race refl, eq-eqb candidate candidate refl) refl)))))))
     where
-      and_first : (a b : Bool) → a ≡ false → (a && b) ≡ false
-      and_first true b e = cc
-      and_first false b e = refl
-
-      and_second : (a b : Bool) → b ≡ false → (a && b) ≡ false
-      and_second true b e = e
-      and_second false b e = refl
-
-      only_total : (o : Option ℕ) → option_map_or Some o None ≡ o
-      only_total None = refl
-      only_total (Some x) = refl
+      others : (line : Placed) → part_of line ≢ 4 → totals_candidate race candidate line ≡ None
+      others (TotalAt of at found) other = absurd (other refl)
+      others line other = refl
 
   -- THE CODES
 
-  -- the lines before and behind those of the ballots, and of the disputes, give no code
-  module _ (g : Placed → Option ℕ) (race : ℕ) (within : race < length posted.plan.races)
-      (head_none : EachOf (NoneBy g) head) (commits_none : EachOf (NoneBy g) (commit_places posted)) (results_none : EachOf (NoneBy g) (result_places posted)) (openings_none : EachOf (NoneBy g) (opening_places posted))
+  -- a value that only lines of blocks give
+  module _ (g : Placed → Option ℕ) (others : (line : Placed) → part_of line ≢ 3 → part_of line ≢ 7 → g line ≡ None)
       (block_gives : BallotBlock → Option ℕ) (dispute_gives : DisputeBlock → Option ℕ)
       (in_block : (one : BallotBlock) → first_given g (block_places posted.plan one) ≡ block_gives one) (in_dispute : (one : DisputeBlock) → first_given g (dispute_places one) ≡ dispute_gives one) where
     codes_found : first_given g (places_in posted) ≡ option_map_or Some (first_given block_gives posted.ballots) (first_given dispute_gives posted.disputes)
-    unfolding places_in
     codes_found =
-        given-behind g head (commit_places posted ++ behind_commits) (given-of g head head_none)
-        ∙ (given-behind g (commit_places posted) behind_commits (given-of g (commit_places posted) commits_none)
-        ∙ (given-append g blocks behind_ballots
-        ∙ (ap (λ (o : Option ℕ). option_map_or Some o (first_given g behind_ballots)) (given-flat g (block_places posted.plan) block_gives posted.ballots in_block)
-        ∙ ap (λ (o : Option ℕ). option_map_or Some (first_given block_gives posted.ballots) o)
-        (given-behind g (result_places posted) behind_results (given-of g (result_places posted) results_none)
-        ∙ (given-behind g (opening_places posted) claims (given-of g (opening_places posted) openings_none) ∙ given-flat g dispute_places dispute_gives posted.disputes in_dispute)))))
+        given-codes posted g others
+        ∙ (ap (λ (o : Option ℕ). option_map_or Some o (first_given g (flat_map dispute_places posted.disputes))) (given-flat g (block_places posted.plan) block_gives posted.ballots in_block)
+        ∙ ap (λ (o : Option ℕ). option_map_or Some (first_given block_gives posted.ballots) o) (given-flat g dispute_places dispute_gives posted.disputes in_dispute))
 
   -- the lines of a cast ballot
   module _ (g : Placed → Option ℕ) (race entry ballot : ℕ) (within : race < length posted.plan.races)
@@ -359,13 +366,18 @@ module _ (posted : Record) where
 
   mark : (race entry : ℕ) → race < length posted.plan.races → marked_code posted.plan race entry (places_in posted) ≡ first_given (block_mark posted.plan race entry) posted.ballots
   mark race entry within =
-      codes_found g race within (plan-of (NoneBy g) posted.plan (λ said. refl)) (commits-of (NoneBy g) posted (λ r e d. refl) (λ r i x a b. refl) (λ n d. refl))
-      (results-of (NoneBy g) posted (λ r i f b. refl) (λ r f b. refl) (λ r c n. refl) (λ n d. refl)) (openings-of (NoneBy g) posted refl (λ d. refl) (λ r i x o. refl) (λ n d. refl))
+      codes_found g others
       (block_mark posted.plan race entry) (λ one. None) (λ one. in_fate one.ballot one.fate) (λ one. codes_none g block.Dispute one.ballot (λ code. refl) one.codes)
       ∙ last (first_given (block_mark posted.plan race entry) posted.ballots) posted.disputes
     where
       g : Placed → Option ℕ
       g = posts_code posted.plan race entry
+
+      others : (line : Placed) → part_of line ≢ 3 → part_of line ≢ 7 → posts_code posted.plan race entry line ≡ None
+      others (CodeAt block.Cast ballot of column code) other claim = absurd (other refl)
+      others (CodeAt block.Audited ballot of column code) other claim = refl
+      others (CodeAt block.Dispute ballot of column code) other claim = refl
+      others line other claim = refl
 
       in_fate : (ballot : ℕ) (what : BlockFate) → first_given g (fate_places posted.plan ballot what) ≡ fate_mark posted.plan race entry ballot what
       in_fate ballot (fate.Cast codes overs) = cast_found g race entry ballot within (λ code. refl) refl (λ r. refl) codes overs
@@ -386,12 +398,17 @@ module _ (posted : Record) where
   known : (race entry : ℕ) → race < length posted.plan.races
       → known_code posted.plan race entry (places_in posted) ≡ option_map_or Some (first_given (block_code posted.plan race entry) posted.ballots) (first_given (dispute_code posted.plan race entry) posted.disputes)
   known race entry within =
-      codes_found g race within (plan-of (NoneBy g) posted.plan (λ said. refl)) (commits-of (NoneBy g) posted (λ r e d. refl) (λ r i x a b. refl) (λ n d. refl))
-      (results-of (NoneBy g) posted (λ r i f b. refl) (λ r f b. refl) (λ r c n. refl) (λ n d. refl)) (openings-of (NoneBy g) posted refl (λ d. refl) (λ r i x o. refl) (λ n d. refl))
+      codes_found g others
       (block_code posted.plan race entry) (dispute_code posted.plan race entry) (λ one. in_fate one.ballot one.fate) (λ one. given-map g (code_place block.Dispute one.ballot) one.codes)
     where
       g : Placed → Option ℕ
       g = shows_code posted.plan race entry
+
+      others : (line : Placed) → part_of line ≢ 3 → part_of line ≢ 7 → shows_code posted.plan race entry line ≡ None
+      others (CodeAt block.Cast ballot of column code) other claim = absurd (other refl)
+      others (CodeAt block.Audited ballot of column code) other claim = absurd (other refl)
+      others (CodeAt block.Dispute ballot of column code) other claim = absurd (claim refl)
+      others line other claim = refl
 
       in_fate : (ballot : ℕ) (what : BlockFate) → first_given g (fate_places posted.plan ballot what) ≡ fate_code posted.plan race entry ballot what
       in_fate ballot (fate.Cast codes overs) = cast_found g race entry ballot within (λ code. refl) refl (λ r. refl) codes overs

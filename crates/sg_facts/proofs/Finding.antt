@@ -1,5 +1,5 @@
 -- The first value that lines give, where the lines are put together from nested lists.
-use Rattle.std.proofs.Common.{◌≡◌, ◌≢◌, ℕ, zero, suc, ◌+◌, ◌-◌, ◌<◌, ◌≤◌, Bool, true, false, cond, inl, inr, List, [], ◌∷◌, ◌++◌, map, filter, Option, Some, None, refl, sym, ap, ◌∙◌, arith}
+use Rattle.std.proofs.Common.{◌≡◌, ◌≢◌, ℕ, zero, suc, ◌+◌, ◌-◌, ◌<◌, ◌≤◌, Bool, true, false, cond, inl, inr, List, [], ◌∷◌, ◌++◌, map, filter, Option, Some, None, refl, sym, subst, ap, ◌∙◌, arith}
 use Rattle.std.proofs.lemmas.Bool.{cases_lt}
 use Rattle.std.specs.List.{flat_map, list_any}
 use Rattle.std.specs.Option.{option_and_then, option_map_or}
@@ -13,10 +13,30 @@ use Rattle.sg_facts.proofs.Each.{EachOf, of-append, of-numbered}
 
 -- PROPERTIES OF EACH ITEM
 
-pub of-indexed : {A B : Type 0} (P : B → Type 0) (f : ℕ → A → List B) (at : ℕ) (xs : List A) → ((k : ℕ) (x : A) → EachOf P (f k x)) → EachOf P (indexed f at xs)
+pub of-indexed : {A B : Type 0} (P : B → Type 0) (f : ℕ → A → List B) (at : ℕ) (xs : List A) → ((k : ℕ) (x : A) → slice_get xs k ≡ Some x → EachOf P (f (at + k) x)) → EachOf P (indexed f at xs)
 unfolding indexed
 of-indexed P f at [] all = tt
-of-indexed P f at (x ∷ xs) all = of-append P (f at x) (indexed f (at + 1) xs) (all at x) (of-indexed P f (at + 1) xs all)
+of-indexed {A} {B} P f at (x ∷ xs) all =
+    of-append P (f at x) (indexed f (at + 1) xs) (subst (λ (n : ℕ). EachOf P (f n x)) (let here : at + 0 ≡ at = omega arith in here) (all 0 x refl))
+    (of-indexed P f (at + 1) xs (λ k y is. subst (λ (n : ℕ). EachOf P (f n y)) (let next : at + suc k ≡ (at + 1) + k = omega arith in next) (all (suc k) y is)))
+
+-- from 0 on, and for each item of nested lists
+pub of-items : {A B : Type 0} (P : B → Type 0) (f : ℕ → A → List B) (xs : List A) → ((k : ℕ) (x : A) → slice_get xs k ≡ Some x → EachOf P (f k x)) → EachOf P (indexed f 0 xs)
+of-items P f xs all = of-indexed P f 0 xs (λ k x is. subst (λ (n : ℕ). EachOf P (f n x)) (let same : k ≡ 0 + k = omega arith in same) (all k x is))
+
+pub of-entries : {A B : Type 0} (P : B → Type 0) (place : ℕ → ℕ → A → List B) (lists : List (List A)) → ((race entry : ℕ) (x : A) → item_in lists race entry ≡ Some x → EachOf P (place race entry x))
+    → EachOf P (indexed (λ race items. indexed (place race) 0 items) 0 lists)
+of-entries {A} {B} P place lists all =
+    of-items P (λ race items. indexed (place race) 0 items) lists
+    (λ race items there. of-items P (place race) items (λ entry x is. all race entry x (ap (option_and_then (λ (l : List A). slice_get l entry)) there ∙ is)))
+
+pub of-rows : {A B : Type 0} (P : B → Type 0) (place : ℕ → ℕ → ℕ → A → List B) (lists : List (List (List A)))
+    → ((race instance row : ℕ) (x : A) → row_in lists race instance row ≡ Some x → EachOf P (place race instance row x))
+    → EachOf P (indexed (λ race instances. indexed (λ instance rows. indexed (place race instance) 0 rows) 0 instances) 0 lists)
+of-rows {A} {B} P place lists all =
+    of-items P (λ race instances. indexed (λ instance rows. indexed (place race instance) 0 rows) 0 instances) lists
+    (λ race instances there. of-entries P (place race) instances
+    (λ instance row x is. all race instance row x (ap (option_and_then (λ (l : List (List A)). item_in l instance row)) there ∙ is)))
 
 pub of-each : {B : Type 0} (P : B → Type 0) (f : ℕ → List B) (at end : ℕ) → ((k : ℕ) → EachOf P (f k)) → EachOf P (each f at end)
 of-each P f at end all = of-numbered P f at (end - at) (λ k a b. all k)
@@ -64,6 +84,20 @@ and_then_same : {A B : Type 0} (f h : A → Option B) (o : Option A) → ((x : A
 and_then_same f h None same = refl
 and_then_same f h (Some x) same = same x
 
+-- entries by race: only the entry of these two numbers gives one
+pub paired-at : {A C B : Type 0} (g : C → Option B) (place : ℕ → ℕ → A → List C) (v : A → Option B) (race entry : ℕ)
+    → ((r e : ℕ) (a : A) → r ≢ race → first_given g (place r e a) ≡ None) → ((e : ℕ) (a : A) → e ≢ entry → first_given g (place race e a) ≡ None)
+    → ((a : A) → first_given g (place race entry a) ≡ v a) → (lists : List (List A))
+    → first_given g (indexed (λ r items. indexed (place r) 0 items) 0 lists) ≡ option_and_then v (item_in lists race entry)
+paired-at {A} g place v race entry other_race other_entry here lists =
+    first-at g (λ r items. indexed (place r) 0 items) lists race (λ r items other. indexed-none g (place r) 0 items (λ e a low. other_race r e a other))
+    ∙ (and_then_same (λ items. first_given g (indexed (place race) 0 items)) (λ items. option_and_then v (slice_get items entry)) (slice_get lists race) in_race
+    ∙ and_then_twice (λ items. slice_get items entry) v (slice_get lists race))
+  where
+    in_race : (items : List A) → first_given g (indexed (place race) 0 items) ≡ option_and_then v (slice_get items entry)
+    in_race items =
+        first-at g (place race) items entry (λ e a other. other_entry e a other) ∙ and_then_same (λ a. first_given g (place race entry a)) v (slice_get items entry) here
+
 -- rows by race and instance: only the row of these three numbers gives one
 pub nested-at : {A C B : Type 0} (g : C → Option B) (place : ℕ → ℕ → ℕ → A → List C) (v : A → Option B) (race instance row : ℕ)
     → ((r i x : ℕ) (a : A) → r ≢ race → first_given g (place r i x a) ≡ None) → ((i x : ℕ) (a : A) → i ≢ instance → first_given g (place race i x a) ≡ None)
@@ -72,18 +106,9 @@ pub nested-at : {A C B : Type 0} (g : C → Option B) (place : ℕ → ℕ → �
 nested-at {A} g place v race instance row other_race other_instance other_row here lists =
     first-at g (λ r instances. indexed (λ i rows. indexed (place r i) 0 rows) 0 instances) lists race
     (λ r instances other. indexed-none g (λ i rows. indexed (place r i) 0 rows) 0 instances (λ i rows low. indexed-none g (place r i) 0 rows (λ x a low_x. other_race r i x a other)))
-    ∙ (and_then_same (λ instances. first_given g (indexed (λ i rows. indexed (place race i) 0 rows) 0 instances)) (λ instances. option_and_then v (item_in instances instance row)) (slice_get lists race) in_race
+    ∙ (and_then_same (λ instances. first_given g (indexed (λ i rows. indexed (place race i) 0 rows) 0 instances)) (λ instances. option_and_then v (item_in instances instance row)) (slice_get lists race)
+    (λ instances. paired-at g (place race) v instance row other_instance other_row here instances)
     ∙ and_then_twice (λ instances. item_in instances instance row) v (slice_get lists race))
-  where
-    in_instance : (rows : List A) → first_given g (indexed (place race instance) 0 rows) ≡ option_and_then v (slice_get rows row)
-    in_instance rows =
-        first-at g (place race instance) rows row (λ x a other. other_row x a other) ∙ and_then_same (λ a. first_given g (place race instance row a)) v (slice_get rows row) here
-
-    in_race : (instances : List (List A)) → first_given g (indexed (λ i rows. indexed (place race i) 0 rows) 0 instances) ≡ option_and_then v (item_in instances instance row)
-    in_race instances =
-        first-at g (λ i rows. indexed (place race i) 0 rows) instances instance (λ i rows other. indexed-none g (place race i) 0 rows (λ x a low. other_instance i x a other))
-        ∙ (and_then_same (λ rows. first_given g (indexed (place race instance) 0 rows)) (λ rows. option_and_then v (slice_get rows row)) (slice_get instances instance) in_instance
-        ∙ and_then_twice (λ rows. slice_get rows row) v (slice_get instances instance))
 
 -- only the list of this number gives one
 pub numbered-at : {C B : Type 0} (g : C → Option B) (f : ℕ → List C) (at count number : ℕ) → at ≤ number → number < at + count → ((k : ℕ) → k ≢ number → first_given g (f k) ≡ None)

@@ -1,5 +1,5 @@
 -- How `openings` ends, from what was opened and what was written.
-use Rattle.std.proofs.Common.{◌≡◌, ℕ, Bool, true, false, List, inl, inr, refl, sym, ap, ◌∙◌, subst, arith}
+use Rattle.std.proofs.Common.{◌≡◌, ℕ, Bool, true, false, List, inl, inr, refl, sym, ap, ◌∙◌, subst}
 use Rattle.std.specs.Io.KnownBytes.{Appends}
 use Rattle.std.proofs.lemmas.Bool.{true≢false}
 use Rattle.sg_outside.specs.Streams.{AppendsFront, Seen}
@@ -12,14 +12,13 @@ use Rattle.sg_tables.specs.Tables.{MadeFrom}
 use Rattle.sg_histories.specs.Histories.{Entry}
 use Rattle.sg_histories.specs.Standing.{StandsFor}
 use Rattle.sg_histories.specs.Stories.{story_of}
-use Rattle.sg_histories.specs.ValidRows.{Damaged, Empty, opening}
 use Rattle.sg_histories.specs.declared.kept.Kept.{Kept}
 use Rattle.sg_openings.specs.Openings.{openings_text}
-use Rattle.sg_clerk.specs.Opening.{IsOpen, LineEnds, WritesPart, shown_status}
-use Rattle.sg_clerk.specs.Shown.{damaged_line, empty_line}
+use Rattle.sg_clerk.specs.Opening.{ClosedEnds, IsClosedFor, IsOpen, TellsWhy, WritesPart}
+use Rattle.sg_clerk.specs.declared.opened.Closed.{Closed}
 use Rattle.sg_clerk.specs.declared.shown.Shown.{Shown}
 use Rattle.sg_clerk.specs.declared.shown.Shown.TheVariants as shown
-use Rattle.sg_clerk.proofs.Showing.{damage_shows, empty_shows, office_shows}
+use Rattle.sg_clerk.proofs.Showing.{closed_ends, closed_shows, office_shows}
 use Rattle.sg_handed.specs.Handed.{IsOffice, OpeningsSays, due_at, due_of, is_drawn, undrawn_line}
 use Rattle.sg_handed.specs.inside.Endings.{HandedEnds, HandsOver, ShowsDue, WritesDue, handed_status}
 use Rattle.sg_handed.specs.declared.handing.Handed.{Handed}
@@ -93,26 +92,18 @@ office_ends handed.Undrawn kept tells rows faults faults' out out' opens ends = 
 
 -- NO OFFICE
 
--- behind rows without a setup
-pub empty_ends : (how : Shown) (tells : Type 0) (rows : Rows) (faults faults' : ℕ) (out out' : Seen)
-    → (tells → opening rows ≡ Empty) → LineEnds empty_line shown.Empty how out out' → HandedEnds (handed.Shown how) tells rows faults faults' out out'
-empty_ends shown.Done tells rows faults faults' out out' empty ends = absurd (omega (arith, ap shown_status ends.0))
-empty_ends shown.WriteFault tells rows faults faults' out out' empty ends = empty_shows due_of shown.WriteFault tells rows faults faults' out out' empty ends
-empty_ends shown.LoadFault tells rows faults faults' out out' empty ends = empty_shows due_of shown.LoadFault tells rows faults faults' out out' empty ends
-empty_ends shown.Empty tells rows faults faults' out out' empty ends = empty_shows due_of shown.Empty tells rows faults faults' out out' empty ends
-empty_ends shown.Damaged tells rows faults faults' out out' empty ends = empty_shows due_of shown.Damaged tells rows faults faults' out out' empty ends
-empty_ends shown.NoMemory tells rows faults faults' out out' empty ends = empty_shows due_of shown.NoMemory tells rows faults faults' out out' empty ends
+-- behind rows that no office was opened of
+closed_due : (how : Shown) (tells : Type 0) (rows : Rows) (faults faults' : ℕ) (out out' : Seen) → ClosedEnds how tells rows faults faults' out out' → ShowsDue how tells rows faults faults' out out'
+closed_due shown.Done tells rows faults faults' out out' ends = absurd ends
+closed_due shown.WriteFault tells rows faults faults' out out' ends = closed_shows due_of shown.WriteFault tells rows faults faults' out out' ends
+closed_due shown.LoadFault tells rows faults faults' out out' ends = ends
+closed_due shown.Empty tells rows faults faults' out out' ends = ends
+closed_due shown.Damaged tells rows faults faults' out out' ends = ends
+closed_due shown.NoMemory tells rows faults faults' out out' ends = inl ends
 
--- behind rows of no office
-pub damage_ends : (how : Shown) (tells : Type 0) (rows : Rows) (table row : ℕ) (faults faults' : ℕ) (out out' : Seen)
-    → (tells → opening rows ≡ Damaged table row) → LineEnds (damaged_line table row) shown.Damaged how out out'
+pub none_ends : (why : Closed) (how : Shown) (tells : Type 0) (rows : Rows) (faults faults' : ℕ) (out out' : Seen) → IsClosedFor why tells rows faults faults' → TellsWhy why how out out'
     → HandedEnds (handed.Shown how) tells rows faults faults' out out'
-damage_ends shown.Done tells rows table row faults faults' out out' damage ends = absurd (omega (arith, ap shown_status ends.0))
-damage_ends shown.WriteFault tells rows table row faults faults' out out' damage ends = damage_shows due_of shown.WriteFault tells rows table row faults faults' out out' damage ends
-damage_ends shown.LoadFault tells rows table row faults faults' out out' damage ends = damage_shows due_of shown.LoadFault tells rows table row faults faults' out out' damage ends
-damage_ends shown.Empty tells rows table row faults faults' out out' damage ends = damage_shows due_of shown.Empty tells rows table row faults faults' out out' damage ends
-damage_ends shown.Damaged tells rows table row faults faults' out out' damage ends = damage_shows due_of shown.Damaged tells rows table row faults faults' out out' damage ends
-damage_ends shown.NoMemory tells rows table row faults faults' out out' damage ends = damage_shows due_of shown.NoMemory tells rows table row faults faults' out out' damage ends
+none_ends why how tells rows faults faults' out out' is told = closed_due how tells rows faults faults' out out' (closed_ends why how tells rows faults faults' out out' is told)
 
 -- STATUSES
 

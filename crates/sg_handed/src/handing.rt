@@ -5,7 +5,7 @@ ghost use Rattle.sg_outside.specs.Streams.{PutAppends, seen};
 ghost use Rattle.sg_handed.specs.Handed.{OpeningsSays, is_drawn as is_drawn_at, undrawn_line};
 ghost use Rattle.sg_handed.specs.inside.Endings.{HandedEnds, HandsOver, WritesDue, handed_status};
 
-use sg_clerk::{Opened, Shown, open_kept, show_damage, show_empty, shown_status};
+use sg_clerk::{Shown, open_kept, show_closed, shown_status};
 use sg_keeper::Keeper;
 use sg_office::Office;
 use sg_openings::put_openings;
@@ -104,11 +104,8 @@ fn openings<K: Keeper, O: Sink>(alloc: Global, keeper: &mut K, out: &mut O) -> H
     ensures later { K.faults keeper.old ≤ K.faults keeper.new }
 {
     match open_kept(alloc, keeper) {
-        Opened::Office(office) => hand_over(alloc, &office, out),
-        Opened::LoadFault => Handed::Shown(Shown::LoadFault),
-        Opened::Empty => Handed::Shown(show_empty(out)),
-        Opened::Damaged(table, row) => Handed::Shown(show_damage(alloc, table, row, out)),
-        Opened::NoMemory => Handed::Shown(Shown::NoMemory),
+        Ok(office) => hand_over(alloc, &office, out),
+        Err(why) => Handed::Shown(show_closed(alloc, why, out)),
     }
 }
 

@@ -1,8 +1,6 @@
 -- Connections that grow by one more.
 use Rattle.std.proofs.Common.{◌≡◌, ℕ, suc, ◌+◌, ◌-◌, ◌^◌, ◌<◌, ◌≤◌, List, [], ◌∷◌, ◌++◌, length, drop, Some, None, refl, sym, ap, subst, ◌∙◌, append_assoc, append-nil, length-append, arith}
 use Rattle.std.specs.Prelude.{Option, option_map}
-use Rattle.std.specs.List.{concat}
-use Rattle.std.specs.Io.KnownBytes.{Appends, Keeps}
 use Rattle.std.proofs.lemmas.List.{drop-drop, drop_all}
 use Rattle.sg_outside.specs.Faults.{Rose}
 use Rattle.sg_links.specs.Board.{Board, Come, Conn, accepts, finishes, first_bytes, gets, on_current, takes}
@@ -31,10 +29,6 @@ failures-push (c ∷ cs) call = let ih = failures-push cs call in omega (arith, 
 pub lines-push : (calls : List Call) (call : Call) → lines_in (calls ++ call ∷ []) ≡ lines_in calls ++ line_of call.how ∷ []
 lines-push [] call = refl
 lines-push (c ∷ cs) call = ap (λ l. line_of c.how ∷ l) (lines-push cs call)
-
-pub concat-push : (lines : List (List ℕ)) (line : List ℕ) → concat (lines ++ line ∷ []) ≡ concat lines ++ line
-concat-push [] line = append-nil line
-concat-push (x ∷ xs) line = ap (λ l. x ++ l) (concat-push xs line) ∙ sym (append_assoc x (concat xs) line)
 
 -- THE CONNECTIONS
 
@@ -99,11 +93,3 @@ failed-counted (served.Answered status) first before now order read write later 
 failed-counted served.ReadFailed first before now order read write later low = omega (arith, order, read refl, low)
 failed-counted served.WriteFailed first before now order read write later low = omega (arith, order, write refl, low)
 failed-counted served.Gone first before now order read write later low = omega (arith, order, later)
-
--- THE OUTPUT
-
--- to keep is to append nothing
-pub keeps-appends : (a b : Option (List ℕ)) → Keeps a b → Appends a b []
-keeps-appends None b p = tt
-keeps-appends (Some x) None p = absurd p
-keeps-appends (Some x) (Some y) p = p ∙ sym (append-nil x)

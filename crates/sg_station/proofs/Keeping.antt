@@ -14,12 +14,12 @@ use Rattle.sg_http.specs.Visits.{Ends, IsSaid}
 use Rattle.sg_http.specs.declared.serving.Served.{Served}
 use Rattle.sg_http.specs.declared.serving.Served.TheVariants as served
 use Rattle.sg_clerk.specs.Laws.{KeepsPosted}
-use Rattle.sg_clerk.proofs.Grown.{same_grows, talk_grows}
+use Rattle.sg_clerk.proofs.Grown.{same_grows, talks_grow}
 use Rattle.sg_clerk.proofs.Keeping.{grown_keeps}
-use Rattle.sg_station.specs.Calls.{AreServed, Call}
+use Rattle.sg_station.specs.Calls.{AreServed, Call, stores_in}
 use Rattle.sg_station.specs.Laws.{CallsKeepRecord}
 use Rattle.sg_station.specs.Says.{ServeSays}
-use Rattle.sg_station.specs.Serves.{Scene}
+use Rattle.sg_station.specs.Serves.{CallsEnd, Scene, listening}
 
 said_later : (setup : Setup) (lead : Lead) (said : Option Answered) (before after : List Entry) → Lawful setup before → IsSaid setup lead said before after → IsLater setup before after
 said_later setup lead None before after lawful says = same_later setup before after lawful says
@@ -50,9 +50,6 @@ calls_keep_record setup calls history next lawful talk =
 -- `serve`
 pub serve_grows : (status port count : ℕ) (tells : Type 0) (rows rows' : Rows) (before now : Scene) → ServeSays status port count tells rows rows' before now → tells → KeepsPosted rows rows'
 serve_grows status port count tells rows rows' before now (inl served) told =
-    let from = served.from told in
-    let serves = served.serves in
-    talk_grows served.setup served.start serves.next rows rows' (served.whole told) served.lawful from.0 from.1 (serves.kept told from.0 from.1)
-    (calls_keep_record served.setup serves.calls served.start serves.next served.lawful serves.served)
+    talks_grow AreServed stores_in (CallsEnd count (listening port before) now) status tells rows rows' before.keep_faults now.keep_faults calls_keep_record served told
 serve_grows status port count tells rows rows' before now (inr (inl shut)) told = same_grows rows rows' (shut.1.same told)
 serve_grows status port count tells rows rows' before now (inr (inr closed)) told = same_grows rows rows' (closed.same told)

@@ -1,51 +1,21 @@
 -- How `serve` ends, from what was opened and how the run over the connections ended.
-use Rattle.std.proofs.Common.{◌≡◌, ℕ, ◌≤◌, List, inl, inr, refl, ap, sym, ◌∙◌, arith}
-use Rattle.std.specs.Prelude.{Option}
+use Rattle.std.proofs.Common.{◌≡◌, ℕ, ◌≤◌, List, None, inl, inr, ap, subst, ◌∙◌, arith}
+use Rattle.std.specs.Prelude.{◌⊎◌, Option, Some}
 use Rattle.sg_outside.specs.Streams.{Seen}
 use Rattle.sg_keeper.specs.declared.rows.Rows.{Rows}
-use Rattle.sg_keeper.specs.declared.setup.Setup.{Setup}
-use Rattle.sg_histories.specs.Histories.{Entry}
-use Rattle.sg_histories.specs.Standing.{StandsFor}
-use Rattle.sg_histories.specs.ValidRows.{Damaged, opening}
 use Rattle.sg_histories.specs.declared.kept.Kept.{Kept}
-use Rattle.sg_clerk.specs.Opening.{IsOfRows, IsOpen, LineEnds, shown_status}
-use Rattle.sg_clerk.specs.Shown.{damaged_line}
-use Rattle.sg_clerk.specs.declared.shown.Shown.{Shown}
-use Rattle.sg_clerk.specs.declared.shown.Shown.TheVariants as shown
-use Rattle.sg_clerk.proofs.AskEnds.{damage_says}
-use Rattle.sg_station.specs.Calls.{Call}
-use Rattle.sg_station.specs.Says.{ServeSays, out_at}
-use Rattle.sg_station.specs.Serves.{EndsSo, Scene, ServesCalls, ServesPort, StaysShut, ending_status, listening}
-use Rattle.sg_station.specs.declared.station.Ending.{Ending}
-use Rattle.sg_station.specs.declared.station.Ending.TheVariants as ending
-
--- AN OFFICE TALKS
+use Rattle.sg_clerk.specs.Ends.{ending_status}
+use Rattle.sg_clerk.specs.Opening.{IsOfRows, IsOpen}
+use Rattle.sg_clerk.specs.declared.ended.Ending.{Ending}
+use Rattle.sg_clerk.specs.declared.ended.Ending.TheVariants as ending
+use Rattle.sg_clerk.proofs.Talking.{office_talks}
+use Rattle.sg_station.specs.Calls.{AreServed, Call, stores_in}
+use Rattle.sg_station.specs.Says.{ServeSays}
+use Rattle.sg_station.specs.Serves.{CallsEnd, EndsSo, Scene, ServesPort, StaysShut, listening, out_at}
 
 -- a scene with another count of the keeper's faults
 abbrev pub at_count : Scene → ℕ → Scene
 at_count scene faults = record scene { keep_faults = faults }
-
--- an ending does not speak of the keeper
-same_ends : (how : Ending) (count : ℕ) (calls : List Call) (before now : Scene) (faults : ℕ) → EndsSo how count calls (at_count before faults) now → EndsSo how count calls before now
-same_ends ending.Done count calls before now faults ends = ends
-same_ends ending.LinkFault count calls before now faults ends = ends
-same_ends ending.WriteFault count calls before now faults ends = ends
-same_ends ending.NoMemory count calls before now faults ends = ends
-
--- what was served behind an opening was served from before it, which changed no row and only the keeper's count
-serves_from : (how : Ending) (setup : Setup) (history : List Entry) (count : ℕ) (tells still : Type 0) (rows middle after : Rows) (before now : Scene) (faults : ℕ)
-    → (tells → still) → (tells → middle ≡ rows) → before.keep_faults ≤ faults
-    → ServesCalls how setup history count still middle after (at_count before faults) now → ServesCalls how setup history count tells rows after before now
-serves_from how setup history count tells still rows middle after before now faults told same later done = record {
-  calls = done.calls;
-  next = done.next;
-  served = done.served;
-  kept = λ was text is. done.kept (told was) text (same was ∙ is);
-  stores = λ below. omega (arith, done.stores below, later);
-  failures = done.failures;
-  takes = done.takes;
-  ends = same_ends how count done.calls before now faults done.ends;
-}
 
 -- nothing was written
 unwritten : (before now : Scene) → now.written ≡ before.written → now.write_faults ≡ before.write_faults → out_at now ≡ out_at before
@@ -61,8 +31,7 @@ shut_says : (how : Ending) (kept : Kept) (port count : ℕ) (tells still : Type 
 shut_says how kept port count tells still rows middle after before now faults opens told same shut =
     elim shut.cause [
       | inl memory ↦ inr (inr (record {
-        board = shut.board;
-        no_fault = memory.1;
+        unasked = (shut.board, memory.1);
         same = λ was. shut.rows_are (told was) ∙ same was;
         says = inr (inr (inr (inr (ap ending_status memory.0, unwritten before now shut.written shut.write_faults))));
       }))
@@ -84,32 +53,40 @@ pub office_serves : (how : Ending) (kept : Kept) (port count : ℕ) (tells still
     → IsOfRows kept tells rows → (tells → IsOpen kept rows) → (tells → still) → (tells → middle ≡ rows) → before.keep_faults ≤ faults
     → ServesPort how kept port count still middle after (at_count before faults) now → ServeSays (ending_status how) port count tells rows after before now
 office_serves how kept port count tells still rows middle after before now faults starts opens told same later (inl talks) =
-    let has = starts.1 in
-    let from : (history : List Entry) → StandsFor kept history → ServesCalls how kept.setup history count tells rows after (listening port before) now
-    = λ history stands. serves_from how kept.setup history count tells still rows middle after (listening port before) now faults told same later (talks history stands) in
-    inl (record {
-      setup = kept.setup;
-      how = how;
-      status_is = refl;
-      start = has.history;
-      lawful = has.stands.lawful;
-      from = λ was. (has.text, sym (starts.2 was) ∙ has.rows_are);
-      serves = from has.history has.stands;
-      whole = λ was. (opens was).whole;
-      each = λ was text history lawful is. from history ((opens was).each text history lawful is);
-    })
+    inl (office_talks AreServed stores_in (CallsEnd count (listening port before) now) how kept tells still rows middle after before.keep_faults faults now.keep_faults starts opens told same later talks)
 office_serves how kept port count tells still rows middle after before now faults starts opens told same later (inr shut) =
     shut_says how kept port count tells still rows middle after before now faults opens told same shut
 
--- NO OFFICE IS OPENED
+-- BEHIND AN OFFICE, NO STATUS SAYS THAT NONE WAS OPENED
 
--- behind rows of no office
-pub damage_serves : (how : Shown) (port count : ℕ) (tells : Type 0) (rows middle : Rows) (table row : ℕ) (before now : Scene) → now.board ≡ before.board → now.link_faults ≡ before.link_faults
-    → (tells → middle ≡ rows) → (tells → opening rows ≡ Damaged table row) → LineEnds (damaged_line table row) shown.Damaged how (out_at before) (out_at now)
-    → ServeSays (shown_status how) port count tells rows middle before now
-damage_serves how port count tells rows middle table row before now board quiet same damage ends = inr (inr (record {
-  board = board;
-  no_fault = quiet;
-  same = same;
-  says = damage_says how tells rows table row before.keep_faults now.keep_faults (out_at before) (out_at now) damage ends;
-}))
+-- the statuses that say so
+abbrev pub SaysClosed : ℕ → Type 0
+SaysClosed status = (status ≡ 5) ⊎ (status ≡ 7) ⊎ (status ≡ 8)
+
+-- another is none of them
+is_another : (status : ℕ) → (status ≡ 5 → ⊥) → (status ≡ 7 → ⊥) → (status ≡ 8 → ⊥) → SaysClosed status → ⊥
+is_another status five seven eight (inl is) = five is
+is_another status five seven eight (inr (inl is)) = seven is
+is_another status five seven eight (inr (inr is)) = eight is
+
+-- a run over connections refuses nothing
+refuses_none : (how : Ending) (count : ℕ) (calls : List Call) (written written' : Option (List ℕ)) → EndsSo how count calls written written' → SaysClosed (ending_status how) → ⊥
+refuses_none ending.Done count calls written written' ends closed = is_another 0 (λ is. omega (arith, is)) (λ is. omega (arith, is)) (λ is. omega (arith, is)) closed
+refuses_none ending.ReadFault count calls written written' ends closed = absurd ends
+refuses_none (ending.WriteFault None) count calls written written' ends closed = is_another 4 (λ is. omega (arith, is)) (λ is. omega (arith, is)) (λ is. omega (arith, is)) closed
+refuses_none (ending.WriteFault (Some why)) count calls written written' ends closed = absurd ends
+refuses_none ending.LinkFault count calls written written' ends closed = is_another 6 (λ is. omega (arith, is)) (λ is. omega (arith, is)) (λ is. omega (arith, is)) closed
+refuses_none (ending.Refused why) count calls written written' ends closed = absurd ends
+refuses_none ending.NoMemory count calls written written' ends closed = is_another 9 (λ is. omega (arith, is)) (λ is. omega (arith, is)) (λ is. omega (arith, is)) closed
+
+pub never_closed : (how : Ending) (kept : Kept) (port count : ℕ) (tells still : Type 0) (rows middle after : Rows) (before now : Scene)
+    → IsOfRows kept tells rows → ServesPort how kept port count still middle after before now → SaysClosed (ending_status how) → ⊥
+never_closed how kept port count tells still rows middle after before now starts (inl talks) closed =
+    let has = starts.1 in
+    let served = talks has.history has.stands in
+    refuses_none how count served.exchanges before.written now.written served.ends.ends closed
+never_closed how kept port count tells still rows middle after before now starts (inr shut) closed =
+    elim shut.cause [
+      | inl memory ↦ is_another 9 (λ is. omega (arith, is)) (λ is. omega (arith, is)) (λ is. omega (arith, is)) (subst (λ (h : Ending). SaysClosed (ending_status h)) memory.0 closed)
+      | inr links ↦ is_another 6 (λ is. omega (arith, is)) (λ is. omega (arith, is)) (λ is. omega (arith, is)) (subst (λ (h : Ending). SaysClosed (ending_status h)) links.0 closed)
+    ]

@@ -1,18 +1,20 @@
 -- How the command `serve` ends (this project's command line).
-use Rattle.std.specs.Prelude.{◌≡◌, ◌⊎◌, ℕ, ◌+◌, ◌-◌, ◌^◌, ◌<◌, ◌≤◌, List, [], ◌∷◌, ◌++◌, length, Option, option_map}
+use Rattle.std.specs.Prelude.{◌≡◌, ◌⊎◌, ℕ, ◌+◌, ◌-◌, ◌^◌, ◌<◌, ◌≤◌, List, [], ◌∷◌, ◌++◌, length, Option, None, Some, option_map}
 use Rattle.std.specs.List.{concat}
 use Rattle.std.specs.Io.KnownBytes.{Appends}
 use Rattle.sg_outside.specs.Faults.{Rose}
+use Rattle.sg_outside.specs.Streams.{Seen}
 use Rattle.sg_links.specs.Board.{Board, listens}
 use Rattle.sg_keeper.specs.declared.rows.Rows.{Rows}
 use Rattle.sg_keeper.specs.declared.setup.Setup.{Setup}
 use Rattle.sg_histories.specs.Histories.{Entry}
-use Rattle.sg_histories.specs.KeptRows.{rows_of}
 use Rattle.sg_histories.specs.Standing.{StandsFor}
 use Rattle.sg_histories.specs.declared.kept.Kept.{Kept}
 use Rattle.sg_station.specs.Calls.{AreServed, Call, TakesKnown, failures_in, lines_in, stores_in}
-use Rattle.sg_station.specs.declared.station.Ending.{Ending}
-use Rattle.sg_station.specs.declared.station.Ending.TheVariants as ending
+use Rattle.sg_clerk.specs.Ends.{HasFailed}
+use Rattle.sg_clerk.specs.Talks.{Talked}
+use Rattle.sg_clerk.specs.declared.ended.Ending.{Ending}
+use Rattle.sg_clerk.specs.declared.ended.Ending.TheVariants as ending
 
 -- what stands outside at a moment: the connections and the bytes that the output took, where they are told, and the three
 -- counts of faults
@@ -22,6 +24,10 @@ pub record Scene : Type 0 where
   pub link_faults : ℕ
   pub write_faults : ℕ
   pub keep_faults : ℕ
+
+-- the output at a moment
+abbrev pub out_at : Scene → Seen
+out_at scene = record { bytes = scene.written; faults = scene.write_faults }
 
 -- of these lines the last was cut: it is missing, or a front of it was written
 pub record CutsLast (before now : Option (List ℕ)) (lines : List (List ℕ)) : Type 0 where
@@ -35,34 +41,34 @@ pub record CutsLast (before now : Option (List ℕ)) (lines : List (List ℕ)) :
 
 -- what an ending says of the connections taken, and of their lines: all were taken, and all lines written; or the links
 -- failed behind fewer, and their lines were written; or a write failed, or memory was wanted, in the line of the last
-abbrev pub EndsSo : Ending → ℕ → List Call → Scene → Scene → Type 0
-EndsSo ending.Done count calls before now = (length calls ≡ count) × Appends before.written now.written (concat (lines_in calls))
-EndsSo ending.LinkFault count calls before now =
-    (length calls < count) × Rose before.link_faults now.link_faults × Appends before.written now.written (concat (lines_in calls))
-EndsSo ending.WriteFault count calls before now =
-    (length calls ≤ count) × Rose before.write_faults now.write_faults × CutsLast before.written now.written (lines_in calls)
-EndsSo ending.NoMemory count calls before now = (length calls ≤ count) × CutsLast before.written now.written (lines_in calls)
+abbrev pub EndsSo : Ending → ℕ → List Call → (written written' : Option (List ℕ)) → Type 0
+EndsSo ending.Done count calls written written' = (length calls ≡ count) × Appends written written' (concat (lines_in calls))
+EndsSo ending.LinkFault count calls written written' = (length calls < count) × Appends written written' (concat (lines_in calls))
+EndsSo (ending.WriteFault None) count calls written written' = (length calls ≤ count) × CutsLast written written' (lines_in calls)
+EndsSo ending.NoMemory count calls written written' = (length calls ≤ count) × CutsLast written written' (lines_in calls)
+EndsSo (ending.WriteFault (Some why)) count calls written written' = ⊥
+EndsSo ending.ReadFault count calls written written' = ⊥
+EndsSo (ending.Refused why) count calls written written' = ⊥
 
 -- one more failure, where the links failed between connections
 abbrev pub one_more : Ending → ℕ
-one_more ending.Done = 0
 one_more ending.LinkFault = 1
-one_more ending.WriteFault = 0
-one_more ending.NoMemory = 0
+one_more _ = 0
 
--- Connections were taken behind this history and served by a talk of the office. Where the keeper tells the rows of that
--- history before, it tells those of the history at the talk's end. At most as many answers say that the keeper failed as
--- its count rose by, and at most as many connections failed as that of the links rose by, unless such a count stands at its
--- last value.
-pub record ServesCalls (how : Ending) (setup : Setup) (history : List Entry) (count : ℕ) (tells : Type 0) (rows after : Rows) (before now : Scene) : Type 0 where
-  pub calls : List Call
-  pub next : List Entry
-  pub served : AreServed setup calls history next
-  pub kept : tells → (text : List ℕ) → rows ≡ rows_of setup text history → after ≡ rows_of setup text next
-  pub stores : now.keep_faults < 2 ^ 64 - 1 → before.keep_faults + stores_in calls ≤ now.keep_faults
-  pub failures : now.link_faults < 2 ^ 64 - 1 → before.link_faults + (failures_in calls + one_more how) ≤ now.link_faults
-  pub takes : TakesKnown calls before.board now.board
-  pub ends : EndsSo how count calls before now
+-- How the run ended: at most as many connections failed as the links' count rose by, unless that stands at its last value.
+pub record EndsCalls (count : ℕ) (board board' : Option Board) (faults faults' : ℕ) (out out' : Seen) (how : Ending) (setup : Setup) (calls : List Call) : Type 0 where
+  pub failures : faults' < 2 ^ 64 - 1 → faults + (failures_in calls + one_more how) ≤ faults'
+  pub takes : TakesKnown calls board board'
+  pub cause : HasFailed how faults faults' out.faults out'.faults
+  pub ends : EndsSo how count calls out.bytes out'.bytes
+
+abbrev pub CallsEnd : ℕ → Scene → Scene → Ending → Setup → List Call → Type 0
+CallsEnd count before now = EndsCalls count before.board now.board before.link_faults now.link_faults (out_at before) (out_at now)
+
+-- Connections were taken behind this history and served by a talk of the office.
+abbrev pub ServesCalls : Ending → Setup → List Entry → ℕ → (tells : Type 0) → Rows → Rows → Scene → Scene → Type 0
+ServesCalls how setup history count tells rows rows' before now =
+    Talked AreServed stores_in (CallsEnd count before now how) setup history tells rows rows' before.keep_faults now.keep_faults
 
 -- nothing was taken or written, for want of memory or since the port could not be listened on
 pub record StaysShut (how : Ending) (tells : Type 0) (rows after : Rows) (before now : Scene) : Type 0 where
@@ -84,10 +90,3 @@ abbrev pub ServesPort : Ending → Kept → ℕ → ℕ → (tells : Type 0) →
 ServesPort how office port count tells rows after before now =
     ((history : List Entry) → StandsFor office history → ServesCalls how office.setup history count tells rows after (listening port before) now)
     ⊎ StaysShut how tells rows after before now
-
--- the status that the program ends with
-abbrev pub ending_status : Ending → ℕ
-ending_status ending.Done = 0
-ending_status ending.WriteFault = 4
-ending_status ending.LinkFault = 6
-ending_status ending.NoMemory = 9

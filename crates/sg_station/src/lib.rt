@@ -6,4 +6,4 @@ mod serving;
 mod station;
 
 pub use serving::serve;
-pub use station::{Ending, ending_status, serve_calls};
+pub use station::serve_calls;

@@ -2,8 +2,8 @@
 ghost use Rattle.std.specs.Prelude.{◌≡◌, ◌≢◌, ◌⊎◌, false};
 ghost use Rattle.sg_station.specs.Says.{ServeSays};
 
-use crate::station::{ending_status, serve_calls};
-use sg_clerk::{Opened, Shown, open_kept, show_damage, show_empty, shown_status};
+use crate::station::serve_calls;
+use sg_clerk::{ending_status, open_kept, show_closed, shown_status};
 use sg_keeper::Keeper;
 use sg_links::Links;
 use sg_outside::Sink;
@@ -30,13 +30,10 @@ pub fn serve<L: Links, K: Keeper, O: Sink>(
     ensures words { result ≢ 2 }
 {
     match open_kept(alloc, keeper) {
-        Opened::Office(office) => {
+        Ok(office) => {
             let mut office = office;
             ending_status(serve_calls(alloc, port, count, links, keeper, &mut office, out))
         }
-        Opened::LoadFault => shown_status(Shown::LoadFault),
-        Opened::Empty => shown_status(show_empty(out)),
-        Opened::Damaged(table, row) => shown_status(show_damage(alloc, table, row, out)),
-        Opened::NoMemory => shown_status(Shown::NoMemory),
+        Err(why) => shown_status(show_closed(alloc, why, out)),
     }
 }

@@ -2,11 +2,13 @@
 ghost use Rattle.std.specs.Prelude.{◌≡◌, ◌≤◌, ◌++◌, [], ◌∷◌, List, IfOk, decimal, false};
 ghost use Rattle.sg_histories.specs.Histories.{Entry};
 ghost use Rattle.sg_histories.specs.Standing.{StandsFor};
+ghost use Rattle.sg_clerk.specs.Ends.{WroteLine};
 ghost use Rattle.sg_station.specs.Calls.{line_of};
-ghost use Rattle.sg_station.specs.Serves.{ServesCalls, ServesPort, ending_status};
-ghost use Rattle.sg_station.specs.inside.Steps.{Steps, WroteLine};
+ghost use Rattle.sg_station.specs.Serves.{ServesCalls, ServesPort};
+ghost use Rattle.sg_station.specs.inside.Steps.{Steps};
 
 use itoa::Buffer;
+use sg_clerk::{Ending, put_line};
 use sg_http::{Desk, Served};
 use sg_keeper::Keeper;
 use sg_links::Links;
@@ -14,44 +16,6 @@ use sg_office::Office;
 use sg_outside::{Failed, Sink};
 use sg_plan::{NoMemory, Word};
 use std::alloc::Global;
-
-/// How a run over connections ended.
-#[derive(Clone, Copy, Debug, PartialEq, Eq)]
-pub enum Ending {
-    /// As many connections were served as were wanted, and the line of each was written.
-    Done,
-    /// The port could not be listened on, or no connection be accepted.
-    LinkFault,
-    /// The write of a line failed.
-    WriteFault,
-    /// Memory was wanted and not found.
-    NoMemory,
-}
-
-/// The status that the program ends with.
-pub fn ending_status(ending: Ending) -> u8
-    ensures { result ≡ ending_status ending }
-{
-    match ending {
-        Ending::Done => 0,
-        Ending::WriteFault => 4,
-        Ending::LinkFault => 6,
-        Ending::NoMemory => 9,
-    }
-}
-
-/// What became of a connection.
-#[derive(Clone, Copy, Debug, PartialEq, Eq)]
-enum Step {
-    /// It was served, and its line written.
-    Written,
-    /// It was served, and the write of its line failed.
-    WriteFault,
-    /// It was served, and memory was wanted for its line.
-    NoText,
-    /// None was accepted.
-    LinkFault,
-}
 
 /// The line of a status.
 fn status_line(alloc: Global, status: u16) -> Result<Word, NoMemory>
@@ -64,26 +28,15 @@ fn status_line(alloc: Global, status: u16) -> Result<Word, NoMemory>
     Ok(line)
 }
 
-/// Writes a line, as one put.
-fn put_line<O: Sink>(out: &mut O, line: &[u8]) -> Step
-    ensures wrote { WroteLine result line.now (O.written out.old) (O.written out.new) (O.faults out.old) (O.faults out.new) }
-    ensures later { O.faults out.old ≤ O.faults out.new }
-{
-    match out.put(line) {
-        Ok(()) => Step::Written,
-        Err(Failed) => Step::WriteFault,
-    }
-}
-
-/// Writes the line of a connection.
-fn write_line<O: Sink>(alloc: Global, served: Served, out: &mut O) -> Step
+/// Writes the line of a connection. Where it is not written, the run ends so.
+fn write_line<O: Sink>(alloc: Global, served: Served, out: &mut O) -> Result<(), Ending>
     ensures wrote { WroteLine result (line_of served) (O.written out.old) (O.written out.new) (O.faults out.old) (O.faults out.new) }
     ensures later { O.faults out.old ≤ O.faults out.new }
 {
     match served {
         Served::Answered(status) => match status_line(alloc, status) {
             Ok(line) => put_line(out, line.bytes()),
-            Err(NoMemory) => Step::NoText,
+            Err(NoMemory) => Err(Ending::NoMemory),
         },
         Served::ReadFailed => put_line(out, b"read failed\n"),
         Served::WriteFailed => put_line(out, b"write failed\n"),
@@ -91,7 +44,7 @@ fn write_line<O: Sink>(alloc: Global, served: Served, out: &mut O) -> Step
     }
 }
 
-/// Takes a connection, serves it and writes its line.
+/// Takes a connection, serves it and writes its line. Where none is accepted, or the line is not written, the run ends so.
 fn take_call<L: Links, K: Keeper, O: Sink>(
     alloc: Global,
     desk: &mut Desk,
@@ -99,7 +52,7 @@ fn take_call<L: Links, K: Keeper, O: Sink>(
     keeper: &mut K,
     office: &mut Office,
     out: &mut O,
-) -> Step
+) -> Result<(), Ending>
     requires { L.is_open links.old ≡ false }
     ensures steps { (history : List Entry) → StandsFor office.old history
         → Steps result office.old.setup office.new (K.tells keeper.old) (K.rows keeper.old) (K.rows keeper.new) history
@@ -117,7 +70,7 @@ fn take_call<L: Links, K: Keeper, O: Sink>(
             let served = desk.serve_one(alloc, links, keeper, office);
             write_line(alloc, served, out)
         }
-        Err(Failed) => Step::LinkFault,
+        Err(Failed) => Err(Ending::LinkFault),
     }
 }
 
@@ -141,10 +94,8 @@ fn take_calls<L: Links, K: Keeper, O: Sink>(
 {
     for _at in 0..count {
         match take_call(alloc, desk, links, keeper, office, out) {
-            Step::Written => {}
-            Step::WriteFault => return Ending::WriteFault,
-            Step::NoText => return Ending::NoMemory,
-            Step::LinkFault => return Ending::LinkFault,
+            Ok(()) => {}
+            Err(ending) => return ending,
         }
     }
     Ending::Done

@@ -1,11 +1,11 @@
 -- The rows of acts: their stamps are integers, and no two are the same.
-use Rattle.std.proofs.Common.{◌≡◌, inl, inr, ℕ, ℤ, codes, List, [], ◌∷◌, Bool, true, false, not, ◌&&◌, ◌||◌, int_lt, Ordering, Less, Equal, Greater, int_cmp, arith, refl, sym, ap, ◌∙◌, true≢false}
-use Rattle.std.specs.List.{AllByRecursion, IsDistinct}
+use Rattle.std.proofs.Common.{◌≡◌, inl, inr, ℕ, ℤ, codes, List, [], ◌∷◌, map, Bool, true, false, not, ◌&&◌, ◌||◌, int_lt, Ordering, Less, Equal, Greater, int_cmp, arith, refl, sym, ap, subst, ◌∙◌, true≢false}
+use Rattle.std.specs.List.{AllByRecursion, IsDistinct, list_any}
 use Rattle.std.specs.Cmp.{IsTotalOrder}
 use Rattle.std.specs.Ordering.{is_eq, is_gt, int_eq, ordering_then}
 use Rattle.std.proofs.lemmas.Int.{ints}
 use Rattle.std.proofs.lemmas.Cmp.{on_total, then_total}
-use Rattle.std.proofs.lemmas.Bool.{and_parts, and_from, cases_Bool}
+use Rattle.std.proofs.lemmas.Bool.{and_parts, and_from, or_from, cases_Bool}
 use Rattle.sqlite.specs.declared.types.Value.{Value}
 use Rattle.sqlite.specs.declared.types.Value.TheVariants.{Null, Int, Real, Text, Blob}
 use Rattle.sqlite.specs.Order.{Row, column, value_cmp}
@@ -21,17 +21,19 @@ use Rattle.sqlite_value.proofs.OrderLemmas.{value_cmp-Int, value_cmp_total}
 use Rattle.sqlite_rules.specs.Lists.{Has}
 use Rattle.sqlite_rules.proofs.TableLemmas.{int_is}
 use Rattle.sqlite_rules.proofs.ListLemmas.{all_has, all_from, some_from}
-use Rattle.sg_keeper.specs.Rows.{done_before}
+use Rattle.sg_keeper.specs.Rows.{done_before, done_is, is_new}
 use Rattle.sg_store.specs.Tables.{whole, done, schema_of}
-use Rattle.sg_store.specs.Told.{done_of}
+use Rattle.sg_store.specs.Told.{done_of, in_place}
 use Rattle.sg_store.proofs.Lists.{AreKeyed}
-use Rattle.sg_store.proofs.OneOrder.{same_key}
-use Rattle.sg_store.proofs.Places.{before_by}
-use Rattle.sg_store.proofs.Queries.{ties_total}
+use Rattle.sg_store.proofs.Places.{before_by, same_key, all_in_place, map_in_place}
 
 -- the order of the selection, on the rows of the tree
 abbrev pub stamp_cmp : Row → Row → Ordering
 stamp_cmp a b = ordering_then (value_cmp (column a 1) (column b 1)) (ordering_then (value_cmp (column a 2) (column b 2)) Equal)
+
+-- rows that all tie
+ties_total : IsTotalOrder {K = Row} (λ a b. Equal)
+ties_total = record { antisymm = λ x y. refl; trans = λ x y z p q. absurd cc; congr = λ x y z p. refl }
 
 pub stamp_total : IsTotalOrder stamp_cmp
 stamp_total = then_total (on_total (λ r. column r 1) value_cmp_total) (then_total (on_total (λ r. column r 2) value_cmp_total) ties_total)
@@ -59,27 +61,20 @@ stamped db (id ∷ station ∷ number ∷ rest) typed there =
     let also = and_parts (not (is_null number)) _ here.1 in
     (whole_value (codes "station") station first.0 here.0, whole_value (codes "number") number second.0 also.0)
 
+pub not_null : (v : Value) → is_int v ≡ true → is_null v ≡ false
+not_null Null h = absurd (true≢false (sym h))
+not_null (Int n) h = refl
+not_null (Real x) h = refl
+not_null (Text t) h = refl
+not_null (Blob b) h = refl
+
 ints_equal : (a b : Value) → is_int a ≡ true → is_int b ≡ true → value_cmp a b ≡ Equal → equal Binary a b ≡ true
 unfolding binary
-ints_equal a b k l same = rw (null_of a k, null_of b l, same) refl
-  where
-    null_of : (v : Value) → is_int v ≡ true → is_null v ≡ false
-    null_of Null h = absurd (true≢false (sym h))
-    null_of (Int n) h = refl
-    null_of (Real x) h = refl
-    null_of (Text t) h = refl
-    null_of (Blob b) h = refl
+ints_equal a b k l same = rw (not_null a k, not_null b l, same) refl
 
 ints_differ : (a b : Value) → is_int a ≡ true → is_int b ≡ true → value_cmp a b ≡ Less → differ a b ≡ true
 unfolding binary
-ints_differ a b k l less = rw (null_of a k, null_of b l, less) refl
-  where
-    null_of : (v : Value) → is_int v ≡ true → is_null v ≡ false
-    null_of Null h = absurd (true≢false (sym h))
-    null_of (Int n) h = refl
-    null_of (Real x) h = refl
-    null_of (Text t) h = refl
-    null_of (Blob b) h = refl
+ints_differ a b k l less = rw (not_null a k, not_null b l, less) refl
 
 tied : (o p : Ordering) → is_eq (ordering_then o (ordering_then p Equal)) ≡ true → (o ≡ Equal) × (p ≡ Equal)
 tied Less p h = absurd (true≢false (sym h))
@@ -133,11 +128,29 @@ module _ (db : Trees) (obeys : Obeys (schema_of 6) db) (up : IsTable (db 4)) (ke
 stamps_lower : (s t n m : ℤ) → (int_lt s t || (int_eq s t && int_lt n m)) ≡ is_gt (ordering_then (int_cmp t s) (ordering_then (int_cmp m n) Equal))
 stamps_lower s t n m = grind (arith, ints)
 
+ints_cmp : (v w : Value) → is_int v ≡ true → is_int w ≡ true → int_cmp (id_in v) (id_in w) ≡ value_cmp v w
+ints_cmp v w k l = sym (ap (λ x. value_cmp x w) (int_is v k) ∙ ap (λ x. value_cmp (Int (id_in v)) x) (int_is w l) ∙ value_cmp-Int (id_in v) (id_in w))
+
 pub same_stamps : (a b : Row) → IsStamped a → IsStamped b → done_before (done_of a) (done_of b) ≡ before_by stamp_cmp a b
 same_stamps a b p q =
     let first : int_cmp (id_in (column b 1)) (id_in (column a 1)) ≡ value_cmp (column b 1) (column a 1) = ints_cmp (column b 1) (column a 1) q.0 p.0 in
     let second : int_cmp (id_in (column b 2)) (id_in (column a 2)) ≡ value_cmp (column b 2) (column a 2) = ints_cmp (column b 2) (column a 2) q.1 p.1 in
     stamps_lower (id_in (column a 1)) (id_in (column b 1)) (id_in (column a 2)) (id_in (column b 2)) ∙ rw (first, second) refl
+
+-- the same stamp, by the order of the two
+one_stamp : (s t n m : ℤ) → (int_eq s t && int_eq n m) ≡ is_eq (ordering_then (int_cmp s t) (ordering_then (int_cmp n m) Equal))
+one_stamp s t n m = grind (arith, ints)
+
+is_stamp : (a b : Row) → IsStamped a → IsStamped b → done_is (done_of a) (done_of b) ≡ is_eq (stamp_cmp a b)
+is_stamp a b p q = one_stamp (id_in (column a 1)) (id_in (column b 1)) (id_in (column a 2)) (id_in (column b 2)) ∙ rw (ints_cmp (column a 1) (column b 1) p.0 q.0, ints_cmp (column a 2) (column b 2) p.1 q.1) refl
+
+-- a row whose stamp no row has is new among the rows of acts
+pub stamp_new : (row : Row) (rows : List Row) → IsStamped row → AllByRecursion IsStamped rows → AllByRecursion (λ r. same_key stamp_cmp stamp_total r row ≡ false) rows → is_new done_is (done_of row) (in_place done_before (map done_of rows)) ≡ true
+stamp_new row rows here all free =
+    let sorted = in_place (before_by stamp_cmp) rows in
+    subst (λ l. is_new done_is (done_of row) l ≡ true) (map_in_place stamp_cmp stamp_total done_of done_before IsStamped same_stamps rows all)
+    (ap not (none sorted (all_in_place stamp_cmp stamp_total IsStamped rows all) (all_in_place stamp_cmp stamp_total (λ r. same_key stamp_cmp stamp_total r row ≡ false) rows free)))
   where
-    ints_cmp : (v w : Value) → is_int v ≡ true → is_int w ≡ true → int_cmp (id_in v) (id_in w) ≡ value_cmp v w
-    ints_cmp v w k l = sym (ap (λ x. value_cmp x w) (int_is v k) ∙ ap (λ x. value_cmp (Int (id_in v)) x) (int_is w l) ∙ value_cmp-Int (id_in v) (id_in w))
+    none : (rows : List Row) → AllByRecursion IsStamped rows → AllByRecursion (λ r. same_key stamp_cmp stamp_total r row ≡ false) rows → list_any (λ kept. done_is kept (done_of row)) (map done_of rows) ≡ false
+    none [] all free = refl
+    none (r ∷ rows) all free = or_from _ _ (is_stamp r row all.0 here ∙ free.0) (none rows all.1 free.1)

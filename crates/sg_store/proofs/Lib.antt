@@ -9,7 +9,6 @@ pub mod Lists
 pub mod Shapes
 pub mod Frames
 pub mod Commits
-pub mod OneOrder
 pub mod Queries
 pub mod Places
 pub mod Dones

@@ -1,8 +1,9 @@
 -- Rows put into a tree, and into the list that stands for it.
-use Rattle.std.proofs.Common.{◌≡◌, ℤ, pos, ◌+ℤ◌, ◌<ℤ◌, List, [], ◌∷◌, ◌++◌, map, fold, Bool, true, false, not, ◌||◌, cond, int_lt, IsTrue, Ordering, Less, Equal, Greater, int_cmp, refl, sym, ap, ◌∙◌, arith}
+use Rattle.std.proofs.Common.{◌≡◌, ℤ, pos, ◌+ℤ◌, ◌<ℤ◌, List, [], ◌∷◌, ◌++◌, map, fold, Bool, true, false, not, ◌||◌, cond, int_lt, IsTrue, Ordering, Less, Equal, Greater, int_cmp, refl, sym, ap, ap₂, ◌∙◌, arith}
 use Rattle.std.specs.List.{AllByRecursion, list_any}
 use Rattle.std.specs.Ordering.{match_ordering, is_eq, is_gt, int_eq}
 use Rattle.std.specs.Cmp.{int_cmp_is}
+use Rattle.std.proofs.lemmas.List.{map-append}
 use Rattle.std.proofs.lemmas.List.Sums.{fold-append}
 use Rattle.std.proofs.lemmas.Int.{ints}
 use Rattle.std.proofs.lemmas.Bool.Decides.{nat_tests}
@@ -10,7 +11,7 @@ use Rattle.sqlite.specs.declared.types.Value.TheVariants.{Int}
 use Rattle.sqlite.specs.Order.{Row, value_cmp}
 use Rattle.sqlite.specs.Tree.{put_row, rowid, IsTable}
 use Rattle.sqlite.specs.View.{is_int}
-use Rattle.sqlite.specs.Edit.{id_in, next_rowid}
+use Rattle.sqlite.specs.Edit.{id_in, is_taken, next_rowid}
 use Rattle.sqlite_value.proofs.OrderLemmas.{value_cmp-Int}
 use Rattle.sqlite_rules.proofs.TableLemmas.{int_is}
 use Rattle.sg_keeper.specs.Rows.{put, is_new}
@@ -60,6 +61,14 @@ put_mapped f before same ids new (r ∷ rows) keyed all free =
     go Equal apart rest = absurd cc
     go Greater apart rest = refl
 
+-- a row whose rowid is not taken has a new key
+pub new_mapped : {A : Type 0} (f : Row → A) (before same : A → A → Bool) → AreRowids f before same → (new : Row) (rows : List Row) → is_int (rowid new) ≡ true → AreKeyed rows → is_taken rows new ≡ false → is_new same (f new) (map f rows) ≡ true
+new_mapped f before same ids new rows keyed all free = ap not (same_taken rows all ∙ free)
+  where
+    same_taken : (rows : List Row) → AreKeyed rows → list_any (λ kept. same kept (f new)) (map f rows) ≡ is_taken rows new
+    same_taken [] all = refl
+    same_taken (r ∷ rows) all = ap₂ ◌||◌ (ids.key r new all.0 keyed) (same_taken rows all.1)
+
 -- ---- a row whose rowid is chosen goes to the end
 
 lower_than : (a b c : ℤ) → int_cmp a b ≡ Less → b <ℤ c → a <ℤ c
@@ -85,10 +94,6 @@ pub put_last : (rest : Row) (rows : List Row) → IsTable rows → AreKeyed rows
 put_last rest [] up keyed = refl
 put_last rest (x ∷ rows) up keyed = put_behind (next_rowid (x ∷ rows)) rest (x ∷ rows) keyed (below_next x rows up keyed)
 
-map_push : {A B : Type 0} (f : A → B) (xs : List A) (y : A) → map f (xs ++ y ∷ []) ≡ map f xs ++ f y ∷ []
-map_push f [] y = refl
-map_push f (x ∷ xs) y = ap (λ l. f x ∷ l) (map_push f xs y)
-
 -- one more row at the end of the tree is one more in its place in the list
 pub in_place-push : {A : Type 0} (f : Row → A) (before : A → A → Bool) (rows : List Row) (row : Row) → in_place before (map f (rows ++ row ∷ [])) ≡ put before (f row) (in_place before (map f rows))
-in_place-push f before rows row = ap (in_place before) (map_push f rows row) ∙ fold-append (λ l r. put before r l) [] (map f rows) (f row ∷ [])
+in_place-push f before rows row = ap (in_place before) (map-append f rows (row ∷ [])) ∙ fold-append (λ l r. put before r l) [] (map f rows) (f row ∷ [])

@@ -1,6 +1,7 @@
 -- What each statement that makes a table does.
-use Rattle.std.proofs.Common.{◌≡◌, ℕ, zero, suc, ◌-◌, if◌then◌else◌, [], false, None, Ok, Err, Result, refl, sym, ap, subst, ◌∙◌, arith}
+use Rattle.std.proofs.Common.{◌≡◌, ℕ, zero, suc, ◌-◌, ◌<◌, if◌then◌else◌, List, [], false, None, Ok, Err, Result, refl, sym, ap, subst, ◌∙◌, arith}
 use Rattle.sqlite.specs.Store.{Ghosts}
+use Rattle.sqlite.specs.Table.{Table}
 use Rattle.sqlite.specs.Command.TheVariants.{CreateTable, Nothing}
 use Rattle.sqlite.specs.Change.{created, next_tree, KeepsRows}
 use Rattle.sqlite.specs.Does.{Tally, lacks_sequence}
@@ -14,324 +15,84 @@ use Rattle.sg_store.specs.Tables.{setup, ballot, stage, claim, done, voided, sch
 use Rattle.sg_store.specs.Told.{HasTables, rows_of, rows_in}
 use Rattle.sg_store.specs.inside.Steps.{Makes}
 use Rattle.sg_store.proofs.Adds.{went, same_value}
+use Rattle.sg_store.proofs.Commits.{unchanged}
+use Rattle.sg_store.proofs.Creates.{Creates, stays_behind, create_setup, create_ballot, create_stage, create_claim, create_done, create_voided, creates_setup, creates_ballot, creates_stage, creates_claim, creates_done, creates_voided}
 use Rattle.sg_store.proofs.Refusals.{refused}
-use Rattle.sg_store.proofs.Creates as creates
 
 -- one more table is there, without rows
-pub record Grows (turn : ℕ) (old new : Database) : Type 0 where
-  pub schema : new.schema ≡ schema_of (suc turn)
-  pub others : KeepsRows (schema_of turn).tables old.trees new.trees
-  pub empty : new.trees (next_tree (schema_of turn)) ≡ []
-  pub sound : IsDatabase new
+record Grows (turn : ℕ) (old new : State) : Type 0 where
+  pub schema : new.now.schema ≡ schema_of (suc turn)
+  pub others : KeepsRows (schema_of turn).tables old.now.trees new.now.trees
+  pub empty : new.now.trees (next_tree (schema_of turn)) ≡ []
+  pub sound : IsDatabase new.now
+  pub committed : new.committed ≡ (if old.in_transaction then old.committed else new.now)
+  pub mode : new.in_transaction ≡ old.in_transaction
 
-pub grows_setup : (old new : State) (count : ℕ) → old.now.schema ≡ schema_of 0 → Executes creates.create_setup [] old new (Ok count)
-    → Grows 0 old.now new.now × (new.committed ≡ (if old.in_transaction then old.committed else new.now)) × (new.in_transaction ≡ old.in_transaction)
-grows_setup old new count has h =
-    let w = subst (λ t. Writes old new None CreateTable t [] count) creates.setup_whole (runs_as creates.create_setup [] old new (schema_of 0) has CreateTable creates.setup_creates.is creates.setup_creates.plain count h) in
-    let all = went w.changed in
-    let first = went all.1 in
-    let made = first.1 in
-    let both : Ok made.table ≡ Ok (record setup { tree = 0 }) = sym made.defined ∙ creates.setup_defined in
-    let same : made.table ≡ record setup { tree = 0 } = cc in
-    let schema : first.0.schema ≡ schema_of 1 = made.is ∙ ap (λ s. created s made.table) has ∙ ap (created (schema_of 0)) same ∙ creates.setup_made in
-    let plain : lacks_sequence first.0.schema ≡ false = ap lacks_sequence schema in
-    let now : new.now ≡ first.0 = ap (λ (p : Tally × Database). p.1) (same_value all.2) ∙ same_value (rw plain at first.2) in (
+-- the statement of one turn; one more table without rows leaves the rows that are told
+module _ (turn : ℕ) (text : List ℕ) (table : Table) (known : Creates turn text table) (is_turn : turn < 6)
+    (kept : (s t : Trees) → KeepsRows (schema_of turn).tables s t → t (next_tree (schema_of turn)) ≡ [] → rows_of (record { schema = schema_of (suc turn); trees = t }) ≡ rows_of (record { schema = schema_of turn; trees = s })) where
+  grows : (old new : State) (count : ℕ) → old.now.schema ≡ schema_of turn → Executes text [] old new (Ok count) → Grows turn old new
+  grows old new count has h =
+      let w = subst (λ t. Writes old new None CreateTable t [] count) known.whole (runs_as text [] old new (schema_of turn) has CreateTable known.makes.is known.makes.plain count h) in
+      let all = went w.changed in
+      let first = went all.1 in
+      let made = first.1 in
+      let both : Ok made.table ≡ Ok (record table { tree = 0 }) = sym made.defined ∙ known.defined in
+      let same : made.table ≡ record table { tree = 0 } = cc in
+      let schema : first.0.schema ≡ schema_of (suc turn) = made.is ∙ ap (λ s. created s made.table) has ∙ ap (created (schema_of turn)) same ∙ known.made in
+      let plain : lacks_sequence first.0.schema ≡ false = ap lacks_sequence schema ∙ known.uncounted in
+      let now : new.now ≡ first.0 = ap (λ (p : Tally × Database). p.1) (same_value all.2) ∙ same_value (rw plain at first.2) in
       record {
         schema = ap (λ (d : Database). d.schema) now ∙ schema;
-        others = subst (λ (d : Database). KeepsRows (schema_of 0).tables old.now.trees d.trees) (sym now) (subst (λ s. KeepsRows s.tables old.now.trees first.0.trees) has made.others);
-        empty = ap (λ (d : Database). d.trees (next_tree (schema_of 0))) now ∙ subst (λ s. first.0.trees (next_tree s) ≡ []) has made.empty;
+        others = subst (λ (d : Database). KeepsRows (schema_of turn).tables old.now.trees d.trees) (sym now) (subst (λ s. KeepsRows s.tables old.now.trees first.0.trees) has made.others);
+        empty = ap (λ (d : Database). d.trees (next_tree (schema_of turn))) now ∙ subst (λ s. first.0.trees (next_tree s) ≡ []) has made.empty;
         sound = w.sound;
-      },
-      w.shown.committed_is,
-      w.shown.mode,
-    )
+        committed = w.shown.committed_is;
+        mode = w.shown.mode;
+      }
 
-kept_setup : (s t : Trees) → KeepsRows (schema_of 0).tables s t → t 0 ≡ [] → rows_of (record { schema = schema_of 1; trees = t }) ≡ rows_of (record { schema = schema_of 0; trees = s })
-kept_setup s t k empty = rw (empty) refl
+  rows_kept : (old new : State) → old.now.schema ≡ schema_of turn → Grows turn old new → rows_of new.now ≡ rows_of old.now
+  rows_kept old new has more =
+      ap (λ s. rows_of (record new.now { schema = s })) more.schema ∙ kept old.now.trees new.now.trees more.others more.empty ∙ sym (ap (λ s. rows_of (record old.now { schema = s })) has)
 
-pub rows_kept_setup : (old new : Database) → old.schema ≡ schema_of 0 → Grows 0 old new → rows_of new ≡ rows_of old
-rows_kept_setup old new has grows =
-    ap (λ s. rows_of (record new { schema = s })) grows.schema ∙ kept_setup old.trees new.trees grows.others grows.empty ∙ sym (ap (λ s. rows_of (record old { schema = s })) has)
+  makes : {S : Type 0} (g : Ghosts S) (old new : Held S) (r : Result ℕ Error) → (HasTables g turn old → Executes text [] (state g old) (state g new) r) → Makes g turn old new r
+  makes g old new (Err e) h has =
+      let same = refused text [] (state g old) (state g new) e (has.sure.stands new) has.same has.settled (h has) in (unchanged g turn old new has same.now same.committed same.settled, ap rows_of same.now)
+  makes g old new (Ok count) h has = go (has.count - turn) refl
+    where
+      go : (more : ℕ) → has.count - turn ≡ more → HasTables g (suc turn) new × (rows_in g new ≡ rows_in g old)
+      go zero is =
+          let at : has.count ≡ turn = omega (arith, has.low, is) in
+          let schema = subst (λ n. old.schema ≡ schema_of n) at has.schema in
+          let more = grows (state g old) (state g new) count schema (h has) in (
+            record { sure = has.sure; count = suc turn; low = omega arith; high = is_turn; schema = more.schema; settled = more.mode ∙ has.settled; same = sym (more.committed ∙ ap (λ b. if b then (state g old).committed else (state g new).now) has.settled); sound = more.sound },
+            rows_kept (state g old) (state g new) schema more,
+          )
+      go (suc more) is =
+          let means = stays_behind turn text table known has.count (omega (arith, is)) in
+          let same = (runs_as text [] (state g old) (state g new) (schema_of has.count) has.schema Nothing means.is means.plain count (h has)).0.0 in
+          let before : HasTables g (suc turn) old = record { sure = has.sure; count = has.count; low = omega (arith, is); high = has.high; schema = has.schema; settled = has.settled; same = has.same; sound = has.sound } in
+          (unchanged g (suc turn) old new before same.now_is same.committed_is (same.mode ∙ has.settled), ap rows_of same.now_is)
 
-pub makes_setup : {S : Type 0} (g : Ghosts S) (old new : Held S) (r : Result ℕ Error) → (HasTables g 0 old → Executes creates.create_setup [] (state g old) (state g new) r) → Makes g 0 old new r
-makes_setup g old new (Err e) h has =
-    let same = refused creates.create_setup [] (state g old) (state g new) e (has.sure.stands new) has.same has.settled (h has) in (
-      record { sure = has.sure; count = has.count; low = has.low; high = has.high; schema = ap (λ (d : Database). d.schema) same.now ∙ has.schema; settled = same.settled; same = same.now ∙ has.same ∙ sym same.committed; sound = subst IsDatabase (sym same.now) has.sound },
-      ap rows_of same.now,
-    )
-makes_setup g old new (Ok count) h has = go (has.count - 0) refl
-  where
-    go : (more : ℕ) → has.count - 0 ≡ more → HasTables g 1 new × (rows_in g new ≡ rows_in g old)
-    go zero is =
-        let at : has.count ≡ 0 = omega (arith, has.low, is) in
-        let schema = subst (λ n. old.schema ≡ schema_of n) at has.schema in
-        let made = grows_setup (state g old) (state g new) count schema (h has) in (
-          record { sure = has.sure; count = 1; low = omega arith; high = omega arith; schema = made.0.schema; settled = made.2 ∙ has.settled; same = sym (made.1 ∙ ap (λ b. if b then (state g old).committed else (state g new).now) has.settled); sound = made.0.sound },
-          rows_kept_setup (state g old).now (state g new).now schema made.0,
-        )
-    go (suc more) is =
-        let means = creates.setup_nothing has.count (omega (arith, is)) has.high in
-        let same = (runs_as creates.create_setup [] (state g old) (state g new) (schema_of has.count) has.schema Nothing means.is means.plain count (h has)).0 in (
-          record { sure = has.sure; count = has.count; low = omega (arith, is); high = has.high; schema = ap (λ (d : Database). d.schema) same.0.now_is ∙ has.schema; settled = same.0.mode ∙ has.settled; same = same.0.now_is ∙ has.same ∙ sym same.0.committed_is; sound = subst IsDatabase (sym same.0.now_is) has.sound },
-          ap rows_of same.0.now_is,
-        )
+module _ {S : Type 0} (g : Ghosts S) where
+  -- what is shown of each of the six
+  abbrev MakesBy : ℕ → List ℕ → Type 0
+  MakesBy turn text = (old new : Held S) (r : Result ℕ Error) → (HasTables g turn old → Executes text [] (state g old) (state g new) r) → Makes g turn old new r
 
-pub grows_ballot : (old new : State) (count : ℕ) → old.now.schema ≡ schema_of 1 → Executes creates.create_ballot [] old new (Ok count)
-    → Grows 1 old.now new.now × (new.committed ≡ (if old.in_transaction then old.committed else new.now)) × (new.in_transaction ≡ old.in_transaction)
-grows_ballot old new count has h =
-    let w = subst (λ t. Writes old new None CreateTable t [] count) creates.ballot_whole (runs_as creates.create_ballot [] old new (schema_of 1) has CreateTable creates.ballot_creates.is creates.ballot_creates.plain count h) in
-    let all = went w.changed in
-    let first = went all.1 in
-    let made = first.1 in
-    let both : Ok made.table ≡ Ok (record ballot { tree = 0 }) = sym made.defined ∙ creates.ballot_defined in
-    let same : made.table ≡ record ballot { tree = 0 } = cc in
-    let schema : first.0.schema ≡ schema_of 2 = made.is ∙ ap (λ s. created s made.table) has ∙ ap (created (schema_of 1)) same ∙ creates.ballot_made in
-    let plain : lacks_sequence first.0.schema ≡ false = ap lacks_sequence schema in
-    let now : new.now ≡ first.0 = ap (λ (p : Tally × Database). p.1) (same_value all.2) ∙ same_value (rw plain at first.2) in (
-      record {
-        schema = ap (λ (d : Database). d.schema) now ∙ schema;
-        others = subst (λ (d : Database). KeepsRows (schema_of 1).tables old.now.trees d.trees) (sym now) (subst (λ s. KeepsRows s.tables old.now.trees first.0.trees) has made.others);
-        empty = ap (λ (d : Database). d.trees (next_tree (schema_of 1))) now ∙ subst (λ s. first.0.trees (next_tree s) ≡ []) has made.empty;
-        sound = w.sound;
-      },
-      w.shown.committed_is,
-      w.shown.mode,
-    )
+  pub makes_setup : MakesBy 0 create_setup
+  makes_setup = makes 0 create_setup setup creates_setup (omega arith) (λ s t k empty. rw (empty) refl) g
 
-kept_ballot : (s t : Trees) → KeepsRows (schema_of 1).tables s t → t 1 ≡ [] → rows_of (record { schema = schema_of 2; trees = t }) ≡ rows_of (record { schema = schema_of 1; trees = s })
-kept_ballot s t k empty = rw (k.0, empty) refl
+  pub makes_ballot : MakesBy 1 create_ballot
+  makes_ballot = makes 1 create_ballot ballot creates_ballot (omega arith) (λ s t k empty. rw (k.0, empty) refl) g
 
-pub rows_kept_ballot : (old new : Database) → old.schema ≡ schema_of 1 → Grows 1 old new → rows_of new ≡ rows_of old
-rows_kept_ballot old new has grows =
-    ap (λ s. rows_of (record new { schema = s })) grows.schema ∙ kept_ballot old.trees new.trees grows.others grows.empty ∙ sym (ap (λ s. rows_of (record old { schema = s })) has)
+  pub makes_stage : MakesBy 2 create_stage
+  makes_stage = makes 2 create_stage stage creates_stage (omega arith) (λ s t k empty. rw (k.0, k.1.0, empty) refl) g
 
-pub makes_ballot : {S : Type 0} (g : Ghosts S) (old new : Held S) (r : Result ℕ Error) → (HasTables g 1 old → Executes creates.create_ballot [] (state g old) (state g new) r) → Makes g 1 old new r
-makes_ballot g old new (Err e) h has =
-    let same = refused creates.create_ballot [] (state g old) (state g new) e (has.sure.stands new) has.same has.settled (h has) in (
-      record { sure = has.sure; count = has.count; low = has.low; high = has.high; schema = ap (λ (d : Database). d.schema) same.now ∙ has.schema; settled = same.settled; same = same.now ∙ has.same ∙ sym same.committed; sound = subst IsDatabase (sym same.now) has.sound },
-      ap rows_of same.now,
-    )
-makes_ballot g old new (Ok count) h has = go (has.count - 1) refl
-  where
-    go : (more : ℕ) → has.count - 1 ≡ more → HasTables g 2 new × (rows_in g new ≡ rows_in g old)
-    go zero is =
-        let at : has.count ≡ 1 = omega (arith, has.low, is) in
-        let schema = subst (λ n. old.schema ≡ schema_of n) at has.schema in
-        let made = grows_ballot (state g old) (state g new) count schema (h has) in (
-          record { sure = has.sure; count = 2; low = omega arith; high = omega arith; schema = made.0.schema; settled = made.2 ∙ has.settled; same = sym (made.1 ∙ ap (λ b. if b then (state g old).committed else (state g new).now) has.settled); sound = made.0.sound },
-          rows_kept_ballot (state g old).now (state g new).now schema made.0,
-        )
-    go (suc more) is =
-        let means = creates.ballot_nothing has.count (omega (arith, is)) has.high in
-        let same = (runs_as creates.create_ballot [] (state g old) (state g new) (schema_of has.count) has.schema Nothing means.is means.plain count (h has)).0 in (
-          record { sure = has.sure; count = has.count; low = omega (arith, is); high = has.high; schema = ap (λ (d : Database). d.schema) same.0.now_is ∙ has.schema; settled = same.0.mode ∙ has.settled; same = same.0.now_is ∙ has.same ∙ sym same.0.committed_is; sound = subst IsDatabase (sym same.0.now_is) has.sound },
-          ap rows_of same.0.now_is,
-        )
+  pub makes_claim : MakesBy 3 create_claim
+  makes_claim = makes 3 create_claim claim creates_claim (omega arith) (λ s t k empty. rw (k.0, k.1.0, k.1.1.0, empty) refl) g
 
-pub grows_stage : (old new : State) (count : ℕ) → old.now.schema ≡ schema_of 2 → Executes creates.create_stage [] old new (Ok count)
-    → Grows 2 old.now new.now × (new.committed ≡ (if old.in_transaction then old.committed else new.now)) × (new.in_transaction ≡ old.in_transaction)
-grows_stage old new count has h =
-    let w = subst (λ t. Writes old new None CreateTable t [] count) creates.stage_whole (runs_as creates.create_stage [] old new (schema_of 2) has CreateTable creates.stage_creates.is creates.stage_creates.plain count h) in
-    let all = went w.changed in
-    let first = went all.1 in
-    let made = first.1 in
-    let both : Ok made.table ≡ Ok (record stage { tree = 0 }) = sym made.defined ∙ creates.stage_defined in
-    let same : made.table ≡ record stage { tree = 0 } = cc in
-    let schema : first.0.schema ≡ schema_of 3 = made.is ∙ ap (λ s. created s made.table) has ∙ ap (created (schema_of 2)) same ∙ creates.stage_made in
-    let plain : lacks_sequence first.0.schema ≡ false = ap lacks_sequence schema in
-    let now : new.now ≡ first.0 = ap (λ (p : Tally × Database). p.1) (same_value all.2) ∙ same_value (rw plain at first.2) in (
-      record {
-        schema = ap (λ (d : Database). d.schema) now ∙ schema;
-        others = subst (λ (d : Database). KeepsRows (schema_of 2).tables old.now.trees d.trees) (sym now) (subst (λ s. KeepsRows s.tables old.now.trees first.0.trees) has made.others);
-        empty = ap (λ (d : Database). d.trees (next_tree (schema_of 2))) now ∙ subst (λ s. first.0.trees (next_tree s) ≡ []) has made.empty;
-        sound = w.sound;
-      },
-      w.shown.committed_is,
-      w.shown.mode,
-    )
+  pub makes_done : MakesBy 4 create_done
+  makes_done = makes 4 create_done done creates_done (omega arith) (λ s t k empty. rw (k.0, k.1.0, k.1.1.0, k.1.1.1.0, empty) refl) g
 
-kept_stage : (s t : Trees) → KeepsRows (schema_of 2).tables s t → t 2 ≡ [] → rows_of (record { schema = schema_of 3; trees = t }) ≡ rows_of (record { schema = schema_of 2; trees = s })
-kept_stage s t k empty = rw (k.0, k.1.0, empty) refl
-
-pub rows_kept_stage : (old new : Database) → old.schema ≡ schema_of 2 → Grows 2 old new → rows_of new ≡ rows_of old
-rows_kept_stage old new has grows =
-    ap (λ s. rows_of (record new { schema = s })) grows.schema ∙ kept_stage old.trees new.trees grows.others grows.empty ∙ sym (ap (λ s. rows_of (record old { schema = s })) has)
-
-pub makes_stage : {S : Type 0} (g : Ghosts S) (old new : Held S) (r : Result ℕ Error) → (HasTables g 2 old → Executes creates.create_stage [] (state g old) (state g new) r) → Makes g 2 old new r
-makes_stage g old new (Err e) h has =
-    let same = refused creates.create_stage [] (state g old) (state g new) e (has.sure.stands new) has.same has.settled (h has) in (
-      record { sure = has.sure; count = has.count; low = has.low; high = has.high; schema = ap (λ (d : Database). d.schema) same.now ∙ has.schema; settled = same.settled; same = same.now ∙ has.same ∙ sym same.committed; sound = subst IsDatabase (sym same.now) has.sound },
-      ap rows_of same.now,
-    )
-makes_stage g old new (Ok count) h has = go (has.count - 2) refl
-  where
-    go : (more : ℕ) → has.count - 2 ≡ more → HasTables g 3 new × (rows_in g new ≡ rows_in g old)
-    go zero is =
-        let at : has.count ≡ 2 = omega (arith, has.low, is) in
-        let schema = subst (λ n. old.schema ≡ schema_of n) at has.schema in
-        let made = grows_stage (state g old) (state g new) count schema (h has) in (
-          record { sure = has.sure; count = 3; low = omega arith; high = omega arith; schema = made.0.schema; settled = made.2 ∙ has.settled; same = sym (made.1 ∙ ap (λ b. if b then (state g old).committed else (state g new).now) has.settled); sound = made.0.sound },
-          rows_kept_stage (state g old).now (state g new).now schema made.0,
-        )
-    go (suc more) is =
-        let means = creates.stage_nothing has.count (omega (arith, is)) has.high in
-        let same = (runs_as creates.create_stage [] (state g old) (state g new) (schema_of has.count) has.schema Nothing means.is means.plain count (h has)).0 in (
-          record { sure = has.sure; count = has.count; low = omega (arith, is); high = has.high; schema = ap (λ (d : Database). d.schema) same.0.now_is ∙ has.schema; settled = same.0.mode ∙ has.settled; same = same.0.now_is ∙ has.same ∙ sym same.0.committed_is; sound = subst IsDatabase (sym same.0.now_is) has.sound },
-          ap rows_of same.0.now_is,
-        )
-
-pub grows_claim : (old new : State) (count : ℕ) → old.now.schema ≡ schema_of 3 → Executes creates.create_claim [] old new (Ok count)
-    → Grows 3 old.now new.now × (new.committed ≡ (if old.in_transaction then old.committed else new.now)) × (new.in_transaction ≡ old.in_transaction)
-grows_claim old new count has h =
-    let w = subst (λ t. Writes old new None CreateTable t [] count) creates.claim_whole (runs_as creates.create_claim [] old new (schema_of 3) has CreateTable creates.claim_creates.is creates.claim_creates.plain count h) in
-    let all = went w.changed in
-    let first = went all.1 in
-    let made = first.1 in
-    let both : Ok made.table ≡ Ok (record claim { tree = 0 }) = sym made.defined ∙ creates.claim_defined in
-    let same : made.table ≡ record claim { tree = 0 } = cc in
-    let schema : first.0.schema ≡ schema_of 4 = made.is ∙ ap (λ s. created s made.table) has ∙ ap (created (schema_of 3)) same ∙ creates.claim_made in
-    let plain : lacks_sequence first.0.schema ≡ false = ap lacks_sequence schema in
-    let now : new.now ≡ first.0 = ap (λ (p : Tally × Database). p.1) (same_value all.2) ∙ same_value (rw plain at first.2) in (
-      record {
-        schema = ap (λ (d : Database). d.schema) now ∙ schema;
-        others = subst (λ (d : Database). KeepsRows (schema_of 3).tables old.now.trees d.trees) (sym now) (subst (λ s. KeepsRows s.tables old.now.trees first.0.trees) has made.others);
-        empty = ap (λ (d : Database). d.trees (next_tree (schema_of 3))) now ∙ subst (λ s. first.0.trees (next_tree s) ≡ []) has made.empty;
-        sound = w.sound;
-      },
-      w.shown.committed_is,
-      w.shown.mode,
-    )
-
-kept_claim : (s t : Trees) → KeepsRows (schema_of 3).tables s t → t 3 ≡ [] → rows_of (record { schema = schema_of 4; trees = t }) ≡ rows_of (record { schema = schema_of 3; trees = s })
-kept_claim s t k empty = rw (k.0, k.1.0, k.1.1.0, empty) refl
-
-pub rows_kept_claim : (old new : Database) → old.schema ≡ schema_of 3 → Grows 3 old new → rows_of new ≡ rows_of old
-rows_kept_claim old new has grows =
-    ap (λ s. rows_of (record new { schema = s })) grows.schema ∙ kept_claim old.trees new.trees grows.others grows.empty ∙ sym (ap (λ s. rows_of (record old { schema = s })) has)
-
-pub makes_claim : {S : Type 0} (g : Ghosts S) (old new : Held S) (r : Result ℕ Error) → (HasTables g 3 old → Executes creates.create_claim [] (state g old) (state g new) r) → Makes g 3 old new r
-makes_claim g old new (Err e) h has =
-    let same = refused creates.create_claim [] (state g old) (state g new) e (has.sure.stands new) has.same has.settled (h has) in (
-      record { sure = has.sure; count = has.count; low = has.low; high = has.high; schema = ap (λ (d : Database). d.schema) same.now ∙ has.schema; settled = same.settled; same = same.now ∙ has.same ∙ sym same.committed; sound = subst IsDatabase (sym same.now) has.sound },
-      ap rows_of same.now,
-    )
-makes_claim g old new (Ok count) h has = go (has.count - 3) refl
-  where
-    go : (more : ℕ) → has.count - 3 ≡ more → HasTables g 4 new × (rows_in g new ≡ rows_in g old)
-    go zero is =
-        let at : has.count ≡ 3 = omega (arith, has.low, is) in
-        let schema = subst (λ n. old.schema ≡ schema_of n) at has.schema in
-        let made = grows_claim (state g old) (state g new) count schema (h has) in (
-          record { sure = has.sure; count = 4; low = omega arith; high = omega arith; schema = made.0.schema; settled = made.2 ∙ has.settled; same = sym (made.1 ∙ ap (λ b. if b then (state g old).committed else (state g new).now) has.settled); sound = made.0.sound },
-          rows_kept_claim (state g old).now (state g new).now schema made.0,
-        )
-    go (suc more) is =
-        let means = creates.claim_nothing has.count (omega (arith, is)) has.high in
-        let same = (runs_as creates.create_claim [] (state g old) (state g new) (schema_of has.count) has.schema Nothing means.is means.plain count (h has)).0 in (
-          record { sure = has.sure; count = has.count; low = omega (arith, is); high = has.high; schema = ap (λ (d : Database). d.schema) same.0.now_is ∙ has.schema; settled = same.0.mode ∙ has.settled; same = same.0.now_is ∙ has.same ∙ sym same.0.committed_is; sound = subst IsDatabase (sym same.0.now_is) has.sound },
-          ap rows_of same.0.now_is,
-        )
-
-pub grows_done : (old new : State) (count : ℕ) → old.now.schema ≡ schema_of 4 → Executes creates.create_done [] old new (Ok count)
-    → Grows 4 old.now new.now × (new.committed ≡ (if old.in_transaction then old.committed else new.now)) × (new.in_transaction ≡ old.in_transaction)
-grows_done old new count has h =
-    let w = subst (λ t. Writes old new None CreateTable t [] count) creates.done_whole (runs_as creates.create_done [] old new (schema_of 4) has CreateTable creates.done_creates.is creates.done_creates.plain count h) in
-    let all = went w.changed in
-    let first = went all.1 in
-    let made = first.1 in
-    let both : Ok made.table ≡ Ok (record done { tree = 0 }) = sym made.defined ∙ creates.done_defined in
-    let same : made.table ≡ record done { tree = 0 } = cc in
-    let schema : first.0.schema ≡ schema_of 5 = made.is ∙ ap (λ s. created s made.table) has ∙ ap (created (schema_of 4)) same ∙ creates.done_made in
-    let plain : lacks_sequence first.0.schema ≡ false = ap lacks_sequence schema in
-    let now : new.now ≡ first.0 = ap (λ (p : Tally × Database). p.1) (same_value all.2) ∙ same_value (rw plain at first.2) in (
-      record {
-        schema = ap (λ (d : Database). d.schema) now ∙ schema;
-        others = subst (λ (d : Database). KeepsRows (schema_of 4).tables old.now.trees d.trees) (sym now) (subst (λ s. KeepsRows s.tables old.now.trees first.0.trees) has made.others);
-        empty = ap (λ (d : Database). d.trees (next_tree (schema_of 4))) now ∙ subst (λ s. first.0.trees (next_tree s) ≡ []) has made.empty;
-        sound = w.sound;
-      },
-      w.shown.committed_is,
-      w.shown.mode,
-    )
-
-kept_done : (s t : Trees) → KeepsRows (schema_of 4).tables s t → t 4 ≡ [] → rows_of (record { schema = schema_of 5; trees = t }) ≡ rows_of (record { schema = schema_of 4; trees = s })
-kept_done s t k empty = rw (k.0, k.1.0, k.1.1.0, k.1.1.1.0, empty) refl
-
-pub rows_kept_done : (old new : Database) → old.schema ≡ schema_of 4 → Grows 4 old new → rows_of new ≡ rows_of old
-rows_kept_done old new has grows =
-    ap (λ s. rows_of (record new { schema = s })) grows.schema ∙ kept_done old.trees new.trees grows.others grows.empty ∙ sym (ap (λ s. rows_of (record old { schema = s })) has)
-
-pub makes_done : {S : Type 0} (g : Ghosts S) (old new : Held S) (r : Result ℕ Error) → (HasTables g 4 old → Executes creates.create_done [] (state g old) (state g new) r) → Makes g 4 old new r
-makes_done g old new (Err e) h has =
-    let same = refused creates.create_done [] (state g old) (state g new) e (has.sure.stands new) has.same has.settled (h has) in (
-      record { sure = has.sure; count = has.count; low = has.low; high = has.high; schema = ap (λ (d : Database). d.schema) same.now ∙ has.schema; settled = same.settled; same = same.now ∙ has.same ∙ sym same.committed; sound = subst IsDatabase (sym same.now) has.sound },
-      ap rows_of same.now,
-    )
-makes_done g old new (Ok count) h has = go (has.count - 4) refl
-  where
-    go : (more : ℕ) → has.count - 4 ≡ more → HasTables g 5 new × (rows_in g new ≡ rows_in g old)
-    go zero is =
-        let at : has.count ≡ 4 = omega (arith, has.low, is) in
-        let schema = subst (λ n. old.schema ≡ schema_of n) at has.schema in
-        let made = grows_done (state g old) (state g new) count schema (h has) in (
-          record { sure = has.sure; count = 5; low = omega arith; high = omega arith; schema = made.0.schema; settled = made.2 ∙ has.settled; same = sym (made.1 ∙ ap (λ b. if b then (state g old).committed else (state g new).now) has.settled); sound = made.0.sound },
-          rows_kept_done (state g old).now (state g new).now schema made.0,
-        )
-    go (suc more) is =
-        let means = creates.done_nothing has.count (omega (arith, is)) has.high in
-        let same = (runs_as creates.create_done [] (state g old) (state g new) (schema_of has.count) has.schema Nothing means.is means.plain count (h has)).0 in (
-          record { sure = has.sure; count = has.count; low = omega (arith, is); high = has.high; schema = ap (λ (d : Database). d.schema) same.0.now_is ∙ has.schema; settled = same.0.mode ∙ has.settled; same = same.0.now_is ∙ has.same ∙ sym same.0.committed_is; sound = subst IsDatabase (sym same.0.now_is) has.sound },
-          ap rows_of same.0.now_is,
-        )
-
-pub grows_voided : (old new : State) (count : ℕ) → old.now.schema ≡ schema_of 5 → Executes creates.create_voided [] old new (Ok count)
-    → Grows 5 old.now new.now × (new.committed ≡ (if old.in_transaction then old.committed else new.now)) × (new.in_transaction ≡ old.in_transaction)
-grows_voided old new count has h =
-    let w = subst (λ t. Writes old new None CreateTable t [] count) creates.voided_whole (runs_as creates.create_voided [] old new (schema_of 5) has CreateTable creates.voided_creates.is creates.voided_creates.plain count h) in
-    let all = went w.changed in
-    let first = went all.1 in
-    let made = first.1 in
-    let both : Ok made.table ≡ Ok (record voided { tree = 0 }) = sym made.defined ∙ creates.voided_defined in
-    let same : made.table ≡ record voided { tree = 0 } = cc in
-    let schema : first.0.schema ≡ schema_of 6 = made.is ∙ ap (λ s. created s made.table) has ∙ ap (created (schema_of 5)) same ∙ creates.voided_made in
-    let plain : lacks_sequence first.0.schema ≡ false = ap lacks_sequence schema in
-    let now : new.now ≡ first.0 = ap (λ (p : Tally × Database). p.1) (same_value all.2) ∙ same_value (rw plain at first.2) in (
-      record {
-        schema = ap (λ (d : Database). d.schema) now ∙ schema;
-        others = subst (λ (d : Database). KeepsRows (schema_of 5).tables old.now.trees d.trees) (sym now) (subst (λ s. KeepsRows s.tables old.now.trees first.0.trees) has made.others);
-        empty = ap (λ (d : Database). d.trees (next_tree (schema_of 5))) now ∙ subst (λ s. first.0.trees (next_tree s) ≡ []) has made.empty;
-        sound = w.sound;
-      },
-      w.shown.committed_is,
-      w.shown.mode,
-    )
-
-kept_voided : (s t : Trees) → KeepsRows (schema_of 5).tables s t → t 6 ≡ [] → rows_of (record { schema = schema_of 6; trees = t }) ≡ rows_of (record { schema = schema_of 5; trees = s })
-kept_voided s t k empty = rw (k.0, k.1.0, k.1.1.0, k.1.1.1.0, k.1.1.1.1.0, empty) refl
-
-pub rows_kept_voided : (old new : Database) → old.schema ≡ schema_of 5 → Grows 5 old new → rows_of new ≡ rows_of old
-rows_kept_voided old new has grows =
-    ap (λ s. rows_of (record new { schema = s })) grows.schema ∙ kept_voided old.trees new.trees grows.others grows.empty ∙ sym (ap (λ s. rows_of (record old { schema = s })) has)
-
-pub makes_voided : {S : Type 0} (g : Ghosts S) (old new : Held S) (r : Result ℕ Error) → (HasTables g 5 old → Executes creates.create_voided [] (state g old) (state g new) r) → Makes g 5 old new r
-makes_voided g old new (Err e) h has =
-    let same = refused creates.create_voided [] (state g old) (state g new) e (has.sure.stands new) has.same has.settled (h has) in (
-      record { sure = has.sure; count = has.count; low = has.low; high = has.high; schema = ap (λ (d : Database). d.schema) same.now ∙ has.schema; settled = same.settled; same = same.now ∙ has.same ∙ sym same.committed; sound = subst IsDatabase (sym same.now) has.sound },
-      ap rows_of same.now,
-    )
-makes_voided g old new (Ok count) h has = go (has.count - 5) refl
-  where
-    go : (more : ℕ) → has.count - 5 ≡ more → HasTables g 6 new × (rows_in g new ≡ rows_in g old)
-    go zero is =
-        let at : has.count ≡ 5 = omega (arith, has.low, is) in
-        let schema = subst (λ n. old.schema ≡ schema_of n) at has.schema in
-        let made = grows_voided (state g old) (state g new) count schema (h has) in (
-          record { sure = has.sure; count = 6; low = omega arith; high = omega arith; schema = made.0.schema; settled = made.2 ∙ has.settled; same = sym (made.1 ∙ ap (λ b. if b then (state g old).committed else (state g new).now) has.settled); sound = made.0.sound },
-          rows_kept_voided (state g old).now (state g new).now schema made.0,
-        )
-    go (suc more) is =
-        let means = creates.voided_nothing has.count (omega (arith, is)) has.high in
-        let same = (runs_as creates.create_voided [] (state g old) (state g new) (schema_of has.count) has.schema Nothing means.is means.plain count (h has)).0 in (
-          record { sure = has.sure; count = has.count; low = omega (arith, is); high = has.high; schema = ap (λ (d : Database). d.schema) same.0.now_is ∙ has.schema; settled = same.0.mode ∙ has.settled; same = same.0.now_is ∙ has.same ∙ sym same.0.committed_is; sound = subst IsDatabase (sym same.0.now_is) has.sound },
-          ap rows_of same.0.now_is,
-        )
+  pub makes_voided : MakesBy 5 create_voided
+  makes_voided = makes 5 create_voided voided creates_voided (omega arith) (λ s t k empty. rw (k.0, k.1.0, k.1.1.0, k.1.1.1.0, k.1.1.1.1.0, empty) refl) g

@@ -1,25 +1,35 @@
 -- Elements put in their places, one after another, are the one rising list of them.
-use Rattle.std.proofs.Common.{◌≡◌, List, [], ◌∷◌, ◌++◌, map, fold, Bool, true, false, cond, Ordering, Less, Equal, Greater, refl, ap, ◌∙◌}
-use Rattle.std.specs.List.{AllByRecursion, IsDistinct, list_any}
+use Rattle.std.proofs.Common.{◌≡◌, append-nil, List, [], ◌∷◌, ◌++◌, map, fold, Bool, true, false, cond, Ordering, Less, Equal, Greater, refl, ap, ◌∙◌}
+use Rattle.std.specs.List.{AllByRecursion, IsDistinct}
 use Rattle.std.specs.List.Sorted.{IsPermutation}
 use Rattle.std.specs.Cmp.{IsTotalOrder}
 use Rattle.std.specs.Ordering.{is_eq, is_gt, ordering_reverse}
 use Rattle.std.proofs.lemmas.Map.Keys.{IsDistinct-IsPermutation}
 use Rattle.std.proofs.lemmas.List.Sorted.{IsPermutation-refl, IsPermutation-trans, IsPermutation-cons, IsPermutation-middle, IsPermutation-append_left}
-use Rattle.std.proofs.lemmas.Bool.{or_parts, or_from}
+use Rattle.sqlite.specs.Tree.{IsAscending}
+use Rattle.sqlite_trees.proofs.ListLemmas.{all_weaker}
 use Rattle.sg_keeper.specs.Rows.{put}
 use Rattle.sg_store.specs.Told.{in_place}
-use Rattle.sg_store.proofs.OneOrder.{Rises, same_key, flips}
 
 -- the first element comes before the second one in this order
 abbrev pub before_by : {X : Type 0} → (X → X → Ordering) → X → X → Bool
 before_by R x y = is_gt (R y x)
 
--- an element of the list has the key of this one
-abbrev pub has_key : {X : Type 0} → (X → X → Ordering) → X → List X → Bool
-has_key R x ys = list_any (λ y. is_eq (R y x)) ys
-
 module _ {X : Type 0} (R : X → X → Ordering) (total : IsTotalOrder R) where
+  abbrev Rises : List X → Type 0
+  Rises = IsAscending (λ a b. R a b ≡ Less)
+
+  abbrev pub same_key : X → X → Bool
+  same_key a b = is_eq (R a b)
+
+  flips : (x y : X) → same_key x y ≡ same_key y x
+  flips x y = rw (total.antisymm x y) (go (R y x))
+    where
+      go : (o : Ordering) → is_eq (ordering_reverse o) ≡ is_eq o
+      go Less = refl
+      go Equal = refl
+      go Greater = refl
+
   -- an element put at its place
   abbrev placed : X → List X → List X
   placed = put (before_by R)
@@ -32,9 +42,6 @@ module _ {X : Type 0} (R : X → X → Ordering) (total : IsTotalOrder R) where
       go true rest = IsPermutation-refl (x ∷ y ∷ ys)
       go false rest = IsPermutation-trans (x ∷ y ∷ ys) (y ∷ x ∷ ys) (y ∷ placed x ys) (IsPermutation-middle (x ∷ []) y ys) (IsPermutation-cons y (x ∷ ys) (placed x ys) rest)
 
-  above : (x y : X) → R y x ≡ Greater → R x y ≡ Less
-  above x y h = total.antisymm x y ∙ ap ordering_reverse h
-
   all_placed : (P : X → Type 0) (x : X) (ys : List X) → P x → AllByRecursion P ys → AllByRecursion P (placed x ys)
   all_placed P x [] here all = (here, tt)
   all_placed P x (y ∷ ys) here all = go (is_gt (R y x)) (all_placed P x ys here all.1)
@@ -43,46 +50,41 @@ module _ {X : Type 0} (R : X → X → Ordering) (total : IsTotalOrder R) where
       go true rest = (here, all)
       go false rest = (all.0, rest)
 
-  each_later : (x y : X) (zs : List X) → R x y ≡ Less → AllByRecursion (λ z. R y z ≡ Less) zs → AllByRecursion (λ z. R x z ≡ Less) zs
-  each_later x y [] first all = tt
-  each_later x y (z ∷ zs) first all = (total.trans x y z first all.0, each_later x y zs first all.1)
-
-  placed_rises : (x : X) (ys : List X) → has_key R x ys ≡ false → Rises R total ys → Rises R total (placed x ys)
+  placed_rises : (x : X) (ys : List X) → AllByRecursion (λ y. same_key y x ≡ false) ys → Rises ys → Rises (placed x ys)
   placed_rises x [] free up = (tt, tt)
-  placed_rises x (y ∷ ys) free up = go (R y x) refl (or_parts _ _ free).0 (placed_rises x ys (or_parts _ _ free).1 up.1)
+  placed_rises x (y ∷ ys) free up = go (R y x) refl free.0 (placed_rises x ys free.1 up.1)
     where
-      go : (o : Ordering) → R y x ≡ o → is_eq (R y x) ≡ false → Rises R total (placed x ys) → Rises R total (cond (is_gt o) (x ∷ y ∷ ys) (y ∷ placed x ys))
+      go : (o : Ordering) → R y x ≡ o → same_key y x ≡ false → Rises (placed x ys) → Rises (cond (is_gt o) (x ∷ y ∷ ys) (y ∷ placed x ys))
       go Less is apart rest = (all_placed (λ z. R y z ≡ Less) x ys is up.0, rest)
       go Equal is apart rest = absurd (let e = rw is at apart in cc)
-      go Greater is apart rest = ((above x y is, each_later x y ys (above x y is) up.0), up)
+      go Greater is apart rest =
+          let above = total.antisymm x y ∙ ap ordering_reverse is in
+          ((above, all_weaker (λ z. R y z ≡ Less) (λ z. R x z ≡ Less) (λ z. total.trans x y z above) ys up.0), up)
 
-  free_of : (acc : List X) (x : X) (xs : List X) → IsDistinct (same_key R total) (acc ++ x ∷ xs) → has_key R x acc ≡ false
+  -- no element before another one has its key
+  pub free_of : (acc : List X) (x : X) (xs : List X) → IsDistinct same_key (acc ++ x ∷ xs) → AllByRecursion (λ y. same_key y x ≡ false) acc
   unfolding IsDistinct
-  free_of [] x xs apart = refl
-  free_of (a ∷ acc) x xs apart = or_from _ _ (at acc apart.0) (free_of acc x xs apart.1)
+  free_of [] x xs apart = tt
+  free_of (a ∷ acc) x xs apart = (at acc apart.0, free_of acc x xs apart.1)
     where
-      at : (more : List X) → AllByRecursion (λ y. same_key R total a y ≡ false) (more ++ x ∷ xs) → same_key R total a x ≡ false
+      at : (more : List X) → AllByRecursion (λ y. same_key a y ≡ false) (more ++ x ∷ xs) → same_key a x ≡ false
       at [] all = all.0
       at (m ∷ more) all = at more all.1
 
   -- from elements in their places on
   pub record Settled (acc xs : List X) : Type 0 where
-    pub up : Rises R total (fold (λ l x. placed x l) acc xs)
+    pub up : Rises (fold (λ l x. placed x l) acc xs)
     pub same : IsPermutation (acc ++ xs) (fold (λ l x. placed x l) acc xs)
 
-  settles : (acc xs : List X) → Rises R total acc → IsDistinct (same_key R total) (acc ++ xs) → Settled acc xs
-  settles acc [] up apart = record { up = up; same = rw (append_nil acc) (IsPermutation-refl acc) }
-    where
-      append_nil : (l : List X) → l ++ [] ≡ l
-      append_nil [] = refl
-      append_nil (y ∷ l) = ap (λ m. y ∷ m) (append_nil l)
+  settles : (acc xs : List X) → Rises acc → IsDistinct same_key (acc ++ xs) → Settled acc xs
+  settles acc [] up apart = record { up = up; same = rw append-nil (IsPermutation-refl acc) }
   settles acc (x ∷ xs) up apart =
       let one = placed_permutes x acc in
       let moved = IsPermutation-trans (acc ++ x ∷ xs) ((x ∷ acc) ++ xs) (placed x acc ++ xs) (IsPermutation-middle acc x xs) (IsPermutation-append_left xs (x ∷ acc) (placed x acc) one) in
-      let rest = settles (placed x acc) xs (placed_rises x acc (free_of acc x xs apart) up) (IsDistinct-IsPermutation (same_key R total) (flips R total) (acc ++ x ∷ xs) (placed x acc ++ xs) moved apart) in
+      let rest = settles (placed x acc) xs (placed_rises x acc (free_of acc x xs apart) up) (IsDistinct-IsPermutation same_key flips (acc ++ x ∷ xs) (placed x acc ++ xs) moved apart) in
       record { up = rest.up; same = IsPermutation-trans (acc ++ x ∷ xs) (placed x acc ++ xs) _ moved rest.same }
 
-  pub in_place_settles : (xs : List X) → IsDistinct (same_key R total) xs → Settled [] xs
+  pub in_place_settles : (xs : List X) → IsDistinct same_key xs → Settled [] xs
   in_place_settles xs apart = settles [] xs tt apart
 
   all_settled : (P : X → Type 0) (acc xs : List X) → AllByRecursion P acc → AllByRecursion P xs → AllByRecursion P (fold (λ l x. placed x l) acc xs)

@@ -50,18 +50,17 @@ module _ {S : Type 0} (g : Ghosts S) where
   pub rows_rise : (held : Held S) → HasTables g 6 held → RowsRise (rows_in g held)
   rows_rise held has =
       let db = (state g held).now.trees in
-      let trees = shaped g has.sure held has.sound (schema_of 6) (six g held has) in
+      let trees = shaped g has.sure held has.sound (six g held has) in
       let obeys : Obeys (schema_of 6) db = subst (λ s. Obeys s db) (six g held has) has.sound.obeys in
-      let done_tree = trees.1.1.1.1.0 in
-      let stamps = all_stamped db obeys done_tree.0 done_tree.1 in
-      let settled = in_place_settles stamp_cmp stamp_total (db 4) (apart db obeys done_tree.0 done_tree.1) in
+      let stamps = all_stamped db obeys trees.done.0 trees.done.1 in
+      let settled = in_place_settles stamp_cmp stamp_total (db 4) (apart db obeys trees.done.0 trees.done.1) in
       let sorted = in_place (before_by stamp_cmp) (db 4) in
       let dones : Rises done_before (map done_of sorted) = mapped_rises done_of stamp_cmp stamp_total done_before IsStamped same_stamps sorted (all_in_place stamp_cmp stamp_total IsStamped (db 4) stamps) settled.up in
       let all : RowsRise (rows_of (record { schema = schema_of 6; trees = db })) = record {
-        ballots = keyed_rises ballot_of ballot_before rowids_lower (db 1) trees.1.0.0 trees.1.0.1;
-        stages = keyed_rises stage_of stage_before rowids_lower (db 2) trees.1.1.0.0 trees.1.1.0.1;
-        claims = keyed_rises claim_of claim_before rowids_lower (db 3) trees.1.1.1.0.0 trees.1.1.1.0.1;
-        voids = keyed_rises void_of void_before rowids_lower (db 6) trees.1.1.1.1.1.0.0 trees.1.1.1.1.1.0.1;
+        ballots = keyed_rises ballot_of ballot_before rowids_lower (db 1) trees.ballot.0 trees.ballot.1;
+        stages = keyed_rises stage_of stage_before rowids_lower (db 2) trees.stage.0 trees.stage.1;
+        claims = keyed_rises claim_of claim_before rowids_lower (db 3) trees.claim.0 trees.claim.1;
+        voids = keyed_rises void_of void_before rowids_lower (db 6) trees.voided.0 trees.voided.1;
         dones = subst (Rises done_before) (map_in_place stamp_cmp stamp_total done_of done_before IsStamped same_stamps (db 4) stamps) dones;
       } in
       subst RowsRise (sym (whole (state g held).now (six g held has))) all

@@ -92,6 +92,7 @@ fn begin_parts<S: Alter>(
     ensures told { KeeperTells S.Store has_tables.old conn.old → KeeperTells S.Store has_tables.new conn.new }
     ensures ok { KeeperTells S.Store has_tables.old conn.old → (rows_in S.Store conn.old).setup ≡ None → OnOk result (rows_in S.Store conn.new ≡ with_setup (rows_in S.Store conn.old) setup.now) }
     ensures err { KeeperTells S.Store has_tables.old conn.old → OnErr result (rows_in S.Store conn.new ≡ rows_in S.Store conn.old) }
+    ensures fresh { KeeperTells S.Store has_tables.old conn.old → OnOk result ((rows_in S.Store conn.old).setup ≡ None) }
     ensures cause { HasFaultCause faults.old faults.new result }
     ensures why { HasWhy cause.old cause.new result }
 {
@@ -116,6 +117,7 @@ fn commit_parts<S: Alter>(
     ensures told { KeeperTells S.Store has_tables.old conn.old → KeeperTells S.Store has_tables.new conn.new }
     ensures ok { KeeperTells S.Store has_tables.old conn.old → IsNewChange (rows_in S.Store conn.old) change.now → OnOk result (rows_in S.Store conn.new ≡ with_change (rows_in S.Store conn.old) change.now) }
     ensures err { KeeperTells S.Store has_tables.old conn.old → OnErr result (rows_in S.Store conn.new ≡ rows_in S.Store conn.old) }
+    ensures fresh { KeeperTells S.Store has_tables.old conn.old → OnOk result (IsNewChange (rows_in S.Store conn.old) change.now) }
     ensures cause { HasFaultCause faults.old faults.new result }
     ensures why { HasWhy cause.old cause.new result }
 {
@@ -230,6 +232,9 @@ impl<S: Alter> Keeper for SqlKeeper<S> {
 
         // The refusal behind a fault is kept.
         ensures why { HasWhy self.old.cause self.new.cause result }
+
+        // A second setup is refused.
+        ensures fresh { KeeperTells S.Store self.old.has_tables self.old.conn → OnOk result ((rows_in S.Store self.old.conn).setup ≡ None) }
     {
         begin_parts(
             &mut self.conn,
@@ -249,6 +254,9 @@ impl<S: Alter> Keeper for SqlKeeper<S> {
 
         // The refusal behind a fault is kept.
         ensures why { HasWhy self.old.cause self.new.cause result }
+
+        // A key that is kept is refused.
+        ensures fresh { KeeperTells S.Store self.old.has_tables self.old.conn → OnOk result (IsNewChange (rows_in S.Store self.old.conn) change.now) }
     {
         commit_parts(
             &mut self.conn,

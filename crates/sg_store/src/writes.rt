@@ -1,10 +1,10 @@
 //! The statements that add rows.
-ghost use Rattle.std.specs.Prelude.{◌≡◌, false, true, None, IsTrue, OnOk, OnErr};
+ghost use Rattle.std.specs.Prelude.{◌≡◌, false, None, IsTrue, OnOk, OnErr};
 ghost use Rattle.sqlite.specs.Values.{bound};
 ghost use Rattle.sqlite.specs.State.{HasCleanDisk};
 ghost use Rattle.sqlite.specs.Held.{state};
 ghost use Rattle.sg_keeper.specs.declared.rows.ChangeRow.TheVariants.{Ballot, Stage, Claim, Void};
-ghost use Rattle.sg_keeper.specs.Rows.{is_new_row, with_change, with_setup};
+ghost use Rattle.sg_keeper.specs.Rows.{IsNewChange, with_change, with_setup};
 ghost use Rattle.sg_store.specs.inside.Steps.{Changes};
 ghost use Rattle.sg_store.specs.inside.Two.{RanTwo};
 
@@ -39,7 +39,7 @@ fn run_two<S: Alter>(
     Ok(())
 }
 
-/// Adds the setup's text.
+/// Adds the setup's text, where none is kept.
 pub(crate) fn add_setup<S: Alter>(conn: &mut Connection<S>, body: &str) -> Result<usize, Error>
     ensures { Changes S.Store (λ rows. rows.setup ≡ None) (λ rows. with_setup rows body.now) conn.old conn.new result }
 {
@@ -52,7 +52,7 @@ fn add_ballot<S: Alter>(
     row: &BallotRow,
     done: &DoneRow,
 ) -> Result<(), Error>
-    ensures { Changes S.Store (λ rows. is_new_row rows (Ballot row.now) ≡ true) (λ rows. with_change rows (record { row = Ballot row.now; done = done.now })) conn.old conn.new result }
+    ensures { Changes S.Store (λ rows. IsNewChange rows (record { row = Ballot row.now; done = done.now })) (λ rows. with_change rows (record { row = Ballot row.now; done = done.now })) conn.old conn.new result }
 {
     let detail = text_of(&row.detail)?;
     let act = text_of(&done.act)?;
@@ -71,7 +71,7 @@ fn add_stage<S: Alter>(
     row: &StageRow,
     done: &DoneRow,
 ) -> Result<(), Error>
-    ensures { Changes S.Store (λ rows. is_new_row rows (Stage row.now) ≡ true) (λ rows. with_change rows (record { row = Stage row.now; done = done.now })) conn.old conn.new result }
+    ensures { Changes S.Store (λ rows. IsNewChange rows (record { row = Stage row.now; done = done.now })) (λ rows. with_change rows (record { row = Stage row.now; done = done.now })) conn.old conn.new result }
 {
     let detail = text_of(&row.detail)?;
     let act = text_of(&done.act)?;
@@ -90,7 +90,7 @@ fn add_claim<S: Alter>(
     row: &ClaimRow,
     done: &DoneRow,
 ) -> Result<(), Error>
-    ensures { Changes S.Store (λ rows. is_new_row rows (Claim row.now) ≡ true) (λ rows. with_change rows (record { row = Claim row.now; done = done.now })) conn.old conn.new result }
+    ensures { Changes S.Store (λ rows. IsNewChange rows (record { row = Claim row.now; done = done.now })) (λ rows. with_change rows (record { row = Claim row.now; done = done.now })) conn.old conn.new result }
 {
     let act = text_of(&done.act)?;
     run_two(
@@ -104,7 +104,7 @@ fn add_claim<S: Alter>(
 
 /// Adds a voided ballot's row and that of its act.
 fn add_void<S: Alter>(conn: &mut Connection<S>, row: &VoidRow, done: &DoneRow) -> Result<(), Error>
-    ensures { Changes S.Store (λ rows. is_new_row rows (Void row.now) ≡ true) (λ rows. with_change rows (record { row = Void row.now; done = done.now })) conn.old conn.new result }
+    ensures { Changes S.Store (λ rows. IsNewChange rows (record { row = Void row.now; done = done.now })) (λ rows. with_change rows (record { row = Void row.now; done = done.now })) conn.old conn.new result }
 {
     let act = text_of(&done.act)?;
     run_two(
@@ -116,9 +116,9 @@ fn add_void<S: Alter>(conn: &mut Connection<S>, row: &VoidRow, done: &DoneRow) -
     )
 }
 
-/// Adds both rows of a change.
+/// Adds both rows of a change, where neither key is kept.
 pub(crate) fn add_change<S: Alter>(conn: &mut Connection<S>, change: &Change) -> Result<(), Error>
-    ensures { Changes S.Store (λ rows. is_new_row rows change.now.row ≡ true) (λ rows. with_change rows change.now) conn.old conn.new result }
+    ensures { Changes S.Store (λ rows. IsNewChange rows change.now) (λ rows. with_change rows change.now) conn.old conn.new result }
 {
     match &change.row {
         ChangeRow::Ballot(row) => add_ballot(conn, row, &change.done),

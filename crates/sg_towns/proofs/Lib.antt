@@ -1,4 +1,3 @@
-pub mod Answering
-mod Endings
-pub mod Forms
-pub mod Told
+-- The proofs.
+pub mod Judging
+mod Saying

@@ -1,4 +1,2 @@
--- How the command goes over its input. Its promises stand on this, and nobody need believe it.
-pub mod Ending
-pub mod Feeding
-pub mod Stopping
+-- How the code goes on. Only clauses of private functions and proofs cite this.
+pub mod Standing

@@ -2,6 +2,7 @@
 //! reported.
 #![tactic(auto)]
 
+mod counter;
 mod counting;
 mod report;
 

@@ -1,31 +1,12 @@
--- Rows as the selections show them, and what is read from these.
-use Rattle.std.specs.Prelude.{ℕ, List, [], ◌∷◌, slice_get, option_map, Option}
-use Rattle.sqlite.specs.Order.{Row, column}
+-- What is read from the rows that the selections show.
+use Rattle.std.specs.Prelude.{ℕ, List, slice_get, option_map, Option}
+use Rattle.sqlite.specs.Order.{Row}
 use Rattle.sg_keeper.specs.declared.rows.BallotRow.{BallotRow}
 use Rattle.sg_keeper.specs.declared.rows.StageRow.{StageRow}
 use Rattle.sg_keeper.specs.declared.rows.ClaimRow.{ClaimRow}
 use Rattle.sg_keeper.specs.declared.rows.VoidRow.{VoidRow}
 use Rattle.sg_keeper.specs.declared.rows.DoneRow.{DoneRow}
 use Rattle.sg_store.specs.Told.{whole_at, text_at}
-
--- what a selection shows of a row of its table
-abbrev pub setup_shown : Row → Row
-setup_shown row = column row 0 ∷ column row 2 ∷ []
-
-abbrev pub ballot_shown : Row → Row
-ballot_shown row = column row 0 ∷ column row 2 ∷ column row 3 ∷ []
-
-abbrev pub stage_shown : Row → Row
-stage_shown row = column row 0 ∷ column row 2 ∷ []
-
-abbrev pub claim_shown : Row → Row
-claim_shown row = column row 0 ∷ column row 2 ∷ column row 3 ∷ column row 4 ∷ []
-
-abbrev pub voided_shown : Row → Row
-voided_shown row = column row 0 ∷ []
-
-abbrev pub done_shown : Row → Row
-done_shown row = column row 1 ∷ column row 2 ∷ column row 3 ∷ []
 
 -- what is read from a row that is shown
 abbrev pub setup_in : List Row → Option (List ℕ)

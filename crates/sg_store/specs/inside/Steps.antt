@@ -14,10 +14,10 @@ Makes g turn old new result = HasTables g turn old → MatchResult result (λ _.
 abbrev pub MakesAll : {S T : Type 0} → Ghosts S → Held S → Held S → Result T Error → Type 0
 MakesAll g old new result = HasTables g 0 old → MatchResult result (λ _. HasTables g 6 new) (λ _. HasTables g 0 new) × (rows_in g new ≡ rows_in g old)
 
--- where they fit, the statement, or the two of one transaction, change the rows so; a refused one changes nothing
+-- the statement, or the two of one transaction, change the rows so, which they do only where they fit; a refused one changes nothing
 abbrev pub Changes : {S T : Type 0} → Ghosts S → (Rows → Type 0) → (Rows → Rows) → Held S → Held S → Result T Error → Type 0
 Changes g Fits change old new result =
-    HasTables g 6 old → HasTables g 6 new × MatchResult result (λ _. Fits (rows_in g old) → rows_in g new ≡ change (rows_in g old)) (λ _. rows_in g new ≡ rows_in g old)
+    HasTables g 6 old → HasTables g 6 new × MatchResult result (λ _. Fits (rows_in g old) × (rows_in g new ≡ change (rows_in g old))) (λ _. rows_in g new ≡ rows_in g old)
 
 -- a selection leaves all as it was
 abbrev pub Keeps : {S : Type 0} → Ghosts S → Held S → Held S → Type 0

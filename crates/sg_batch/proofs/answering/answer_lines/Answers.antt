@@ -1,6 +1,5 @@
 use Rattle.std.proofs.Common.{◌≤◌, length, ◌∙◌, arith}
 use Rattle.std.proofs.lemmas.List.{drop_all}
-use Rattle.sg_batch.specs.declared.answering.Step.TheVariants as step
 use Rattle.sg_batch.proofs.ScanGoes.{first-comes, lines-cut, lines-done, others-come, scans-push_written}
 use Rattle.sg_batch.proofs.answering.answer_lines.Goals as goal
 
@@ -13,26 +12,19 @@ loop-at-preserved g c =
     record {
       goes = λ history stands.
           let goes = kept.goes history stands in
-          scans-push_written _ _ _ _ _ _ _ _ _ _ _ _ _ _ _ _ _ kept.setup goes kept.told c.get.ensures.rest (c.in-Written.ensures.steps goes.next goes.stands) c.in-Written.ensures.keeper_later;
+          scans-push_written _ _ _ _ _ _ _ _ _ _ _ _ _ _ _ _ _ kept.setup goes kept.told c.get.ensures.rest (c.in-Ok.ensures.steps goes.next goes.stands) c.in-Ok.ensures.keeper_later;
       come = others-come _ _ _ c.get.ensures.rest kept.come;
-      setup = c.in-Written.ensures.setup ∙ kept.setup;
-      told = λ was. c.in-Written.ensures.told (kept.told was);
-      write_later = omega (arith, kept.write_later, c.in-Written.ensures.later);
+      setup = c.in-Ok.ensures.setup ∙ kept.setup;
+      told = λ was. c.in-Ok.ensures.told (kept.told was);
+      write_later = omega (arith, kept.write_later, c.in-Ok.ensures.later);
     }
 
-pub returns-in-WriteFault-clause-answers : goal.returns-in-WriteFault-clause-answers
-returns-in-WriteFault-clause-answers g c = λ history stands.
+pub returns-in-Err-clause-answers : goal.returns-in-Err-clause-answers
+returns-in-Err-clause-answers g c = λ history stands.
     let kept = c.loop-at.invariant in
     let goes = kept.goes history stands in
-    lines-cut step.WriteFault _ _ _ _ _ _ _ _ _ _ _ _ _ _ _ _ _ tt kept.setup goes kept.told c.get.ensures.rest (c.in-WriteFault.ensures.steps goes.next goes.stands)
-    c.in-WriteFault.ensures.keeper_later kept.write_later
-
-pub returns-in-NoText-clause-answers : goal.returns-in-NoText-clause-answers
-returns-in-NoText-clause-answers g c = λ history stands.
-    let kept = c.loop-at.invariant in
-    let goes = kept.goes history stands in
-    lines-cut step.NoText _ _ _ _ _ _ _ _ _ _ _ _ _ _ _ _ _ tt kept.setup goes kept.told c.get.ensures.rest (c.in-NoText.ensures.steps goes.next goes.stands)
-    c.in-NoText.ensures.keeper_later kept.write_later
+    lines-cut _ _ _ _ _ _ _ _ _ _ _ _ _ _ _ _ _ _ kept.setup goes kept.told c.get.ensures.rest (c.in-Err.ensures.steps goes.next goes.stands)
+    c.in-Err.ensures.keeper_later kept.write_later
 
 pub returns-clause-answers : goal.returns-clause-answers
 returns-clause-answers g c = λ history stands.

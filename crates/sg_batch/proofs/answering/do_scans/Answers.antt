@@ -24,7 +24,7 @@ returns-in-Scans-clause-does g c = λ history stands.
       keep_faults = g.K.Keeper.faults c.answer_lines.new.keeper;
     } in
     does_lines c.answer_lines.result c.args.office.now.setup history (g.K.Keeper.tells c.args.keeper.now) (g.K.Keeper.rows c.args.keeper.now) (g.K.Keeper.rows c.answer_lines.new.keeper)
-    c.in-Scans.lines before now c.in-Scans.ensures.reads (c.answer_lines.ensures.answers history stands)
+    c.in-Scans.lines before now c.in-Scans.ensures.bounded c.in-Scans.ensures.reads (c.answer_lines.ensures.answers history stands)
 
 pub returns-in-Bad-clause-does : goal.returns-in-Bad-clause-does
 returns-in-Bad-clause-does g c = λ history stands.
@@ -37,11 +37,11 @@ returns-in-Bad-clause-does g c = λ history stands.
     } in
     let now : Moment = record before {
       left = g.S.Source.left c.read_scan_file.new.input;
-      written = g.O.Sink.written c.refuse_file.new.out;
+      written = g.O.Sink.written c.refuse.new.out;
       read_faults = g.S.Source.faults c.read_scan_file.new.input;
-      write_faults = g.O.Sink.faults c.refuse_file.new.out;
+      write_faults = g.O.Sink.faults c.refuse.new.out;
     } in
-    does_refused c.refuse_file.result c.in-Bad.why c.args.office.now.setup history (g.K.Keeper.tells c.args.keeper.now) (g.K.Keeper.rows c.args.keeper.now) before now refl c.in-Bad.ensures.reads c.refuse_file.ensures
+    does_refused c.refuse.result c.in-Bad.why c.args.office.now.setup history (g.K.Keeper.tells c.args.keeper.now) (g.K.Keeper.rows c.args.keeper.now) before now refl c.in-Bad.ensures.bounded c.in-Bad.ensures.reads c.refuse.ensures.refuses
 
 pub returns-in-Fault-clause-does : goal.returns-in-Fault-clause-does
 returns-in-Fault-clause-does g c = λ history stands.
@@ -53,7 +53,7 @@ returns-in-Fault-clause-does g c = λ history stands.
       keep_faults = g.K.Keeper.faults c.args.keeper.now;
     } in
     let now : Moment = record before { left = g.S.Source.left c.read_scan_file.new.input; read_faults = g.S.Source.faults c.read_scan_file.new.input } in
-    does_unread c.args.office.now.setup history (g.K.Keeper.tells c.args.keeper.now) (g.K.Keeper.rows c.args.keeper.now) before now refl refl c.in-Fault.ensures.reads
+    does_unread c.args.office.now.setup history (g.K.Keeper.tells c.args.keeper.now) (g.K.Keeper.rows c.args.keeper.now) before now refl refl c.in-Fault.ensures.bounded c.in-Fault.ensures.reads
 
 pub returns-in-NoMemory-clause-does : goal.returns-in-NoMemory-clause-does
 returns-in-NoMemory-clause-does g c = λ history stands.
@@ -65,4 +65,4 @@ returns-in-NoMemory-clause-does g c = λ history stands.
       keep_faults = g.K.Keeper.faults c.args.keeper.now;
     } in
     let now : Moment = record before { left = g.S.Source.left c.read_scan_file.new.input; read_faults = g.S.Source.faults c.read_scan_file.new.input } in
-    does_lost c.args.office.now.setup history (g.K.Keeper.tells c.args.keeper.now) (g.K.Keeper.rows c.args.keeper.now) before now refl refl
+    does_lost c.args.office.now.setup history (g.K.Keeper.tells c.args.keeper.now) (g.K.Keeper.rows c.args.keeper.now) before now refl refl c.in-NoMemory.ensures.bounded

@@ -1,11 +1,14 @@
--- The office that was opened talked, or the line of a bad row was written.
-use Rattle.std.proofs.Common.{refl}
-use Rattle.sg_clerk.specs.Ends.{Moment}
-use Rattle.sg_clerk.proofs.AskEnds.{damage_ends, office_talks}
+-- The office that was opened talked, or it was written why there is none.
+use Rattle.std.proofs.Common.{inl, inr, refl}
+use Rattle.sg_talk.specs.Talk.{stores_in}
+use Rattle.sg_clerk.specs.Asked.{IsUnread}
+use Rattle.sg_clerk.specs.Does.{LineTalk, LinesEnd}
+use Rattle.sg_clerk.specs.Ends.{Moment, out_at}
+use Rattle.sg_clerk.proofs.Talking.{office_talks, stays_closed}
 use Rattle.sg_clerk.proofs.asking.answer_asks.Goals as goal
 
-pub returns-in-Office-clause-says : goal.returns-in-Office-clause-says
-returns-in-Office-clause-says g c =
+pub returns-in-Ok-clause-says : goal.returns-in-Ok-clause-says
+returns-in-Ok-clause-says g c =
     let before : Moment = record {
       left = g.S.Source.left c.args.input.now;
       written = g.O.Sink.written c.args.out.now;
@@ -21,12 +24,12 @@ returns-in-Office-clause-says g c =
       keep_faults = g.K.Keeper.faults c.do_lines.new.keeper;
     } in
     rw c.ending_status.ensures
-    (office_talks c.do_lines.result c.in-Office.office (g.K.Keeper.tells c.args.keeper.now) (g.K.Keeper.tells c.open_kept.new.keeper)
-    (g.K.Keeper.rows c.args.keeper.now) (g.K.Keeper.rows c.open_kept.new.keeper) (g.K.Keeper.rows c.do_lines.new.keeper) before now (g.K.Keeper.faults c.open_kept.new.keeper)
-    c.in-Office.ensures.starts c.in-Office.ensures.opens c.in-Office.ensures.told c.in-Office.ensures.same c.in-Office.ensures.later c.do_lines.ensures.does)
+    (inl (office_talks LineTalk stores_in (LinesEnd before now) c.do_lines.result c.in-Ok.office (g.K.Keeper.tells c.args.keeper.now) (g.K.Keeper.tells c.open_kept.new.keeper)
+    (g.K.Keeper.rows c.args.keeper.now) (g.K.Keeper.rows c.open_kept.new.keeper) (g.K.Keeper.rows c.do_lines.new.keeper) before.keep_faults (g.K.Keeper.faults c.open_kept.new.keeper) now.keep_faults
+    c.in-Ok.ensures.starts c.in-Ok.ensures.opens c.in-Ok.ensures.told c.in-Ok.ensures.same c.in-Ok.ensures.later c.do_lines.ensures.does))
 
-pub returns-in-Damaged-clause-says : goal.returns-in-Damaged-clause-says
-returns-in-Damaged-clause-says g c =
+pub returns-in-Err-clause-says : goal.returns-in-Err-clause-says
+returns-in-Err-clause-says g c =
     let before : Moment = record {
       left = g.S.Source.left c.args.input.now;
       written = g.O.Sink.written c.args.out.now;
@@ -34,7 +37,7 @@ returns-in-Damaged-clause-says g c =
       write_faults = g.O.Sink.faults c.args.out.now;
       keep_faults = g.K.Keeper.faults c.args.keeper.now;
     } in
-    let now : Moment = record before { written = g.O.Sink.written c.show_damage.new.out; write_faults = g.O.Sink.faults c.show_damage.new.out; keep_faults = g.K.Keeper.faults c.open_kept.new.keeper } in
-    rw c.shown_status-in-Damaged.ensures
-    (damage_ends c.show_damage.result (g.K.Keeper.tells c.args.keeper.now) (g.K.Keeper.rows c.args.keeper.now) (g.K.Keeper.rows c.open_kept.new.keeper)
-    c.in-Damaged.table c.in-Damaged.row before now refl refl c.in-Damaged.ensures.same c.in-Damaged.ensures.opens c.show_damage.ensures)
+    let now : Moment = record before { written = g.O.Sink.written c.show_closed.new.out; write_faults = g.O.Sink.faults c.show_closed.new.out; keep_faults = g.K.Keeper.faults c.open_kept.new.keeper } in
+    rw c.shown_status.ensures
+    (inr (stays_closed (IsUnread before now) c.in-Err.why c.show_closed.result (g.K.Keeper.tells c.args.keeper.now) (g.K.Keeper.rows c.args.keeper.now) (g.K.Keeper.rows c.open_kept.new.keeper)
+    before.keep_faults now.keep_faults (out_at before) (out_at now) (refl, refl) c.in-Err.ensures.same c.in-Err.ensures.opens c.show_closed.ensures))

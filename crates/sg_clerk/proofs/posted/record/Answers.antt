@@ -1,26 +1,20 @@
 -- What was written of an office, or where there is none.
 use Rattle.sg_outside.specs.Streams.{seen}
 use Rattle.sg_clerk.specs.Shown.{posted_of}
-use Rattle.sg_clerk.proofs.Showing.{damage_shows, empty_shows, office_shows}
+use Rattle.sg_clerk.proofs.Showing.{closed_ends, closed_shows, office_shows}
 use Rattle.sg_clerk.proofs.posted.record.Goals as goal
 
-pub returns-in-Office-clause-ends : goal.returns-in-Office-clause-ends
-returns-in-Office-clause-ends g c =
-    office_shows posted_of c.write_story.result c.in-Office.office (g.K.Keeper.tells c.args.keeper.now) (g.K.Keeper.rows c.args.keeper.now)
+pub returns-in-Ok-clause-ends : goal.returns-in-Ok-clause-ends
+returns-in-Ok-clause-ends g c =
+    office_shows posted_of c.write_story.result c.in-Ok.office (g.K.Keeper.tells c.args.keeper.now) (g.K.Keeper.rows c.args.keeper.now)
     (g.K.Keeper.faults c.args.keeper.now) (g.K.Keeper.faults c.open_kept.new.keeper)
     (seen (g.O.Sink.written c.args.out.now) (g.O.Sink.faults c.args.out.now)) (seen (g.O.Sink.written c.write_story.new.out) (g.O.Sink.faults c.write_story.new.out))
-    c.in-Office.ensures.opens c.write_story.ensures
+    c.in-Ok.ensures.opens c.write_story.ensures
 
-pub returns-in-Empty-clause-ends : goal.returns-in-Empty-clause-ends
-returns-in-Empty-clause-ends g c =
-    empty_shows posted_of c.show_empty.result (g.K.Keeper.tells c.args.keeper.now) (g.K.Keeper.rows c.args.keeper.now)
-    (g.K.Keeper.faults c.args.keeper.now) (g.K.Keeper.faults c.open_kept.new.keeper)
-    (seen (g.O.Sink.written c.args.out.now) (g.O.Sink.faults c.args.out.now)) (seen (g.O.Sink.written c.show_empty.new.out) (g.O.Sink.faults c.show_empty.new.out))
-    c.in-Empty.ensures.opens c.show_empty.ensures
-
-pub returns-in-Damaged-clause-ends : goal.returns-in-Damaged-clause-ends
-returns-in-Damaged-clause-ends g c =
-    damage_shows posted_of c.show_damage.result (g.K.Keeper.tells c.args.keeper.now) (g.K.Keeper.rows c.args.keeper.now) c.in-Damaged.table c.in-Damaged.row
-    (g.K.Keeper.faults c.args.keeper.now) (g.K.Keeper.faults c.open_kept.new.keeper)
-    (seen (g.O.Sink.written c.args.out.now) (g.O.Sink.faults c.args.out.now)) (seen (g.O.Sink.written c.show_damage.new.out) (g.O.Sink.faults c.show_damage.new.out))
-    c.in-Damaged.ensures.opens c.show_damage.ensures
+pub returns-in-Err-clause-ends : goal.returns-in-Err-clause-ends
+returns-in-Err-clause-ends g c =
+    let out = seen (g.O.Sink.written c.args.out.now) (g.O.Sink.faults c.args.out.now) in
+    let out' = seen (g.O.Sink.written c.show_closed.new.out) (g.O.Sink.faults c.show_closed.new.out) in
+    closed_shows posted_of c.show_closed.result (g.K.Keeper.tells c.args.keeper.now) (g.K.Keeper.rows c.args.keeper.now) (g.K.Keeper.faults c.args.keeper.now) (g.K.Keeper.faults c.open_kept.new.keeper) out out'
+    (closed_ends c.in-Err.why c.show_closed.result (g.K.Keeper.tells c.args.keeper.now) (g.K.Keeper.rows c.args.keeper.now) (g.K.Keeper.faults c.args.keeper.now) (g.K.Keeper.faults c.open_kept.new.keeper) out out'
+    c.in-Err.ensures.opens c.show_closed.ensures)

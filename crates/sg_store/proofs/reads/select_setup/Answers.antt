@@ -1,11 +1,10 @@
 -- What is left to show of `select_setup`.
-use Rattle.sg_store.proofs.Rows as rows
+use Rattle.sg_store.proofs.Rows.{select_setup, setup_selects}
 use Rattle.sg_store.proofs.Selected.{kept, setup_selected}
 use Rattle.sg_store.proofs.reads.select_setup.Goals as goal
 
 pub returns-clause-kept : goal.returns-clause-kept
-returns-clause-kept g c = kept g.S.Store rows.select_setup c.args.conn.now c.query_all.new.self _ c.query_all.result (λ has. rows.setup_selects.plain)
-    (λ has. c.query_all.ensures.ok (has.sure.clean c.query_all.new.self)) (λ has. c.query_all.ensures.err (has.sure.clean c.query_all.new.self))
+returns-clause-kept g c = kept g.S.Store select_setup _ _ setup_selects _ c.args.conn.now c.query_all.new.self c.query_all.result (λ has. c.query_all.ensures.ok (has.sure.clean c.query_all.new.self)) (λ has. c.query_all.ensures.err (has.sure.clean c.query_all.new.self))
 
 pub returns-clause-found : goal.returns-clause-found
 returns-clause-found g c = setup_selected g.S.Store c.args.conn.now c.query_all.new.self c.query_all.result (λ has. c.query_all.ensures.ok (has.sure.clean c.query_all.new.self))

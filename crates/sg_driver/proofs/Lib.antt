@@ -1,0 +1,6 @@
+-- The proofs.
+mod Cut
+pub mod Forms
+pub mod Starting
+mod Stops
+pub mod Telling
