@@ -6,7 +6,7 @@
 set -u
 cd "$(dirname "$0")/.." || exit 1
 . bench/program.sh
-program=$(built bench_store) || exit 1
+program=$(built measures store) || exit 1
 program=$PWD/$program
 times=${1:-200}
 folder=$(mktemp -d -p "${2:-/tmp}") || exit 1
@@ -25,9 +25,9 @@ for kill in $(seq "$times"); do
         rows=$((rows + acknowledged))
         rm -f office.db office.db-wal office.db-shm
         acknowledged=0
-        "$program" make 0 > /dev/null
+        "$program" store make 0 > /dev/null
     fi
-    "$program" commit > said &
+    "$program" store commit > said &
     pid=$!
     sleep "0.$(printf %03d $((RANDOM % 150)))"
     kill -9 "$pid" 2> /dev/null
@@ -39,7 +39,7 @@ for kill in $(seq "$times"); do
 
     cp office.db copy.db
     [ -e office.db-wal ] && cp office.db-wal copy.db-wal
-    "$program" show > shown || fail "the file was not opened"
+    "$program" store show > shown || fail "the file was not opened"
     ballots=$(grep -c '^ballot ' shown) done_rows=$(grep -c '^done ' shown)
     [ "$ballots" = "$done_rows" ] || fail "$ballots ballots, $done_rows done"
     [ "$ballots" -ge "$acknowledged" ] || fail "$acknowledged acknowledged, $ballots kept"

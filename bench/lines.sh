@@ -6,11 +6,11 @@
 set -u
 cd "$(dirname "$0")/.." || exit 1
 . bench/program.sh
-program=$(built bench_lines copy < crates/bench_lines/stdin) || exit 1
+program=$(built measures lines copy < crates/measures/stdin) || exit 1
 for record in longest runs-20000; do
     for work in copy read write gather post; do
         for _ in 1 2 3; do
-            /usr/bin/time -f "$record $work %U s" "$program" "$work" < "bench/made/$record.record" > /dev/null
+            /usr/bin/time -f "$record $work %U s" "$program" lines "$work" < "bench/made/$record.record" > /dev/null
         done
     done
 done

@@ -17,7 +17,7 @@
 set -u
 cd "$(dirname "$0")/.." || exit 1
 . bench/program.sh
-program=$(built bench_office) || exit 1
+program=$(built measures office) || exit 1
 
 python3 - "$program" <<'PY'
 import os, sys
@@ -26,11 +26,11 @@ seen, said = os.pipe()
 
 def run(accepted, *words):
     """The processor time of the program with these words, which must accept so many, and the times that it told."""
-    child = os.posix_spawn(program, (program,) + words, {}, file_actions=[(os.POSIX_SPAWN_DUP2, said, 1)])
+    child = os.posix_spawn(program, (program, "office") + words, {}, file_actions=[(os.POSIX_SPAWN_DUP2, said, 1)])
     _, status, usage = os.wait4(child, 0)
     lines = os.read(seen, 10000).decode().splitlines() if status == 0 else [""]
     if lines[0] != accepted + " accepted":
-        sys.exit("bench_office %s ended with %d and said %s" % (" ".join(words), status, lines[0]))
+        sys.exit("measures office %s ended with %d and said %s" % (" ".join(words), status, lines[0]))
     return usage.ru_utime + usage.ru_stime, [int(line) for line in lines[1:]]
 
 def best(rounds, *works):

@@ -11,7 +11,7 @@
 set -u
 cd "$(dirname "$0")/.." || exit 1
 . bench/program.sh
-program=$(built bench_post) || exit 1
+program=$(built measures post) || exit 1
 folder=$(mktemp -d) || exit 1
 trap 'rm -rf "$folder"' EXIT
 
@@ -37,13 +37,13 @@ for runs, ballots in ((1, 2000), (1, 20000), (20000, 1)):
     words = (str(runs), str(ballots))
     tables, made, post, plain, hashed = [], [], [], [], []
     for _ in range(7):
-        tables.append(run(os.devnull, program, "tables", *words))
-        made.append(run(os.devnull, program, "make", *words))
-        post.append(run(text, program, "post", *words))
+        tables.append(run(os.devnull, program, "post", "tables", *words))
+        made.append(run(os.devnull, program, "post", "make", *words))
+        post.append(run(text, program, "post", "post", *words))
         plain.append(run(copy, "cat", text))
         hashed.append(run(os.devnull, "sha256sum", copy))
     tables, made, post, plain, hashed = min(tables), min(made), min(post), min(plain), min(hashed)
-    rows, size, memory = 10 * runs * ballots, os.stat(text).st_size, peak(program, "post", *words)
+    rows, size, memory = 10 * runs * ballots, os.stat(text).st_size, peak(program, "post", "post", *words)
     in_ms = ["%.1f" % (seconds * 1e3) for seconds in (tables, made - tables, post - made, post, plain, hashed)]
     print(line % (runs, runs * ballots, rows, size, *in_ms, "%.2f" % (post / (plain + hashed)),
                   "%.0f" % (post * 1e9 / rows), "%.1f" % (memory / 1e6), "%.2f" % (memory / size)))

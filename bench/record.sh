@@ -1,6 +1,6 @@
 #!/usr/bin/env bash
 # Times `record` of an office of 20,000 ballots (200,000 rows of table R) into a file, into nothing and into a pipe, in rounds
-# that take turns, beside the writing of a record of as many rows by bench_post (which has no office.db to open), `cat` and
+# that take turns, beside the writing of a record of as many rows by `measures post` (which has no office.db to open), `cat` and
 # `sha256sum`; and counts the calls that write, where strace is there.
 #
 #   bench/record.sh [PROGRAM..]       (at the top of the repository; these built programs, else the one that is built here)
@@ -13,7 +13,7 @@ cd "$(dirname "$0")/.." || exit 1
 [ $# -gt 0 ] || set -- "$(built sg_main audit < examples/first/first.record)"
 programs=()
 for program in "$@"; do programs+=("$(realpath "$program")") || exit 1; done
-post=$(built bench_post) || exit 1
+post=$(built measures post) || exit 1
 post=$(realpath "$post")
 python="python3 $PWD/bench/do.py"
 folder=$(mktemp -d) || exit 1
@@ -59,8 +59,8 @@ def writes(program):
     return counts[0] if counts else "0"
 
 commands = {program: (program, "record") for program in programs}
-commands["bench_post make"] = (post, "make", "1", "20000")
-commands["bench_post post"] = (post, "post", "1", "20000")
+commands["measures post make"] = (post, "post", "make", "1", "20000")
+commands["measures post post"] = (post, "post", "post", "1", "20000")
 commands["cat"] = ("cat", "record")
 commands["sha256sum"] = ("sha256sum", "record")
 with open("record", "wb") as sink:

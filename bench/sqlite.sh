@@ -6,7 +6,7 @@
 set -u
 cd "$(dirname "$0")/.." || exit 1
 . bench/program.sh
-program=$(built bench_store) || exit 1
+program=$(built measures store) || exit 1
 program=$PWD/$program
 count=${1:-1000}
 folder=$(mktemp -d) || exit 1
@@ -27,7 +27,7 @@ made() {
     done
 }
 
-"$program" make "$count"
+"$program" store make "$count"
 ls -l office.db* | awk '{ print $9 ": " $5 " bytes" }'
 sqlite3 office.db .schema
 integrity=$(sqlite3 office.db "PRAGMA integrity_check")
@@ -37,4 +37,4 @@ for table in "setup" "ballot ORDER BY number" "stage" "claim" "done ORDER BY sta
     sqlite3 office.db "SELECT * FROM $table"
 done > read
 cmp made read || fail "the rows are not those that were made"
-echo "integrity_check: $integrity; $(wc -l < read) rows as made; then the keeper loads $("$program" load)"
+echo "integrity_check: $integrity; $(wc -l < read) rows as made; then the keeper loads $("$program" store load)"

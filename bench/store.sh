@@ -7,7 +7,7 @@
 set -u
 cd "$(dirname "$0")/.." || exit 1
 . bench/program.sh
-program=$(built bench_store) || exit 1
+program=$(built measures store) || exit 1
 program=$PWD/$program
 python="python3 $PWD/bench/store.py"
 folder=$(mktemp -d -p "${1:-/tmp}") || exit 1
@@ -31,9 +31,9 @@ anew() { rm -f office.db office.db-wal office.db-shm; }
 commits=1000
 ours= theirs= ours_none= theirs_none=
 for _ in 1 2 3 4 5; do
-    anew; ours=$(least "$ours" "$(spent "$program" make $commits)")
+    anew; ours=$(least "$ours" "$(spent "$program" store make $commits)")
     anew; theirs=$(least "$theirs" "$(spent $python make $commits)")
-    anew; ours_none=$(least "$ours_none" "$(spent "$program" make 0)")
+    anew; ours_none=$(least "$ours_none" "$(spent "$program" store make 0)")
     anew; theirs_none=$(least "$theirs_none" "$(spent $python make 0)")
 done
 ours=$((ours - ours_none)) theirs=$((theirs - theirs_none))
@@ -45,14 +45,14 @@ python3 -c 'import sqlite3; sqlite3.connect("office.db").execute("PRAGMA wal_che
 mkdir -p whole && cp office.db* whole/
 ours= theirs= ours_none= theirs_none=
 for _ in 1 2 3 4 5; do
-    ours=$(least "$ours" "$(spent "$program" load)")
+    ours=$(least "$ours" "$(spent "$program" store load)")
     theirs=$(least "$theirs" "$(spent $python load)")
 done
 opening=
-for _ in 1 2 3 4 5; do opening=$(least "$opening" "$(spent "$program" open)"); done
+for _ in 1 2 3 4 5; do opening=$(least "$opening" "$(spent "$program" store open)"); done
 anew
 for _ in 1 2 3 4 5; do
-    anew; ours_none=$(least "$ours_none" "$(spent "$program" open)")
+    anew; ours_none=$(least "$ours_none" "$(spent "$program" store open)")
     anew; theirs_none=$(least "$theirs_none" "$(spent $python load)")
 done
 echo "load of 20000 and 20000 rows: $((ours - ours_none)) us, of which the opening $((opening - ours_none)) us; sqlite3 $((theirs - theirs_none)) us"

@@ -6,10 +6,10 @@
 set -u
 cd "$(dirname "$0")/.." || exit 1
 . bench/program.sh
-program=$(built bench_streams words 0) || exit 1
+program=$(built measures streams words 0) || exit 1
 
 timed() {
-    echo "$*: $(best_of_five "$program" "$@") us"
+    echo "$*: $(best_of_five "$program" streams "$@") us"
 }
 
 timed words 0

@@ -8,11 +8,11 @@
 set -u
 cd "$(dirname "$0")/.." || exit 1
 . bench/program.sh
-program=$(built bench_tables sort 0) || exit 1
+program=$(built measures tables sort 0) || exit 1
 
 timed() {
-    best=$(best_of_five "$program" "$@")
-    memory=$(/usr/bin/time -f %M "$program" "$@" 2>&1 > /dev/null)
+    best=$(best_of_five "$program" tables "$@")
+    memory=$(/usr/bin/time -f %M "$program" tables "$@" 2>&1 > /dev/null)
     echo "$*: $best us, peak $memory kB"
 }
 

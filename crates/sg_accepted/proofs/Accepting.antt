@@ -1,11 +1,12 @@
 -- From the kinds to the verdict.
-use Rattle.std.proofs.Common.{◌≡◌, ℕ, Bool, true, false, ◌||◌, List, [], ◌∷◌, ◌++◌, length, Option, Some, refl, ap, ◌∙◌, arith}
+use Rattle.std.proofs.Common.{◌≡◌, ℕ, Bool, true, false, ◌||◌, List, [], ◌∷◌, ◌++◌, length, Option, Some, refl, ap, ◌∙◌}
 use Rattle.std.proofs.lemmas.List.{map_push}
 use Rattle.sg_plan.specs.declared.plan.Plan.{Plan}
 use Rattle.sg_forms.specs.Said.{Said}
 use Rattle.sg_grammar.specs.Placed.{Placed}
 use Rattle.sg_grammar.specs.Walk.{Posted, Walked, is_whole, start, walk}
 use Rattle.sg_check.proofs.Finding.{find-none}
+use Rattle.sg_check.proofs.Fine.{all_good-fine}
 use Rattle.sg_check.proofs.Verdicts.{good_end}
 use Rattle.std.specs.Option.{option_map_or}
 use Rattle.sg_check.specs.Judging.{later_kinds}
@@ -14,8 +15,8 @@ use Rattle.sg_check.specs.Verdict.{IsVerdict, late, totals_of}
 use Rattle.sg_check.specs.declared.judged.Judged.TheVariants as judged
 use Rattle.sg_check.specs.declared.judged.Kind.{Kind}
 use Rattle.sg_check.specs.declared.judged.Kind.TheVariants as kind
-use Rattle.sg_accepted.proofs.Fine.{all_good-fine}
 use Rattle.sg_accepted.proofs.Late.{Good}
+use Rattle.sg_record.proofs.PlacesLaw.{posts-places}
 use Rattle.sg_record.specs.Places.{posts}
 use Rattle.sg_grammar.specs.Lines.{placed_of}
 
@@ -27,12 +28,6 @@ accepted lines w walks good whole =
     (ap (λ (o : Option Walked). option_map_or (λ (x : Walked). is_whole x.next) o false) walks ∙ whole) refl
 
 -- the kinds but for seals are judged over the lines in their places
-placed-posts : (version : ℕ) (lines : List Said) (places : List Placed) → length lines ≡ length places → placed_of (posts version lines places) ≡ places
-placed-posts version [] [] same = refl
-placed-posts version [] (p ∷ ps) same = absurd (omega (arith, same))
-placed-posts version (s ∷ ls) [] same = absurd (omega (arith, same))
-placed-posts version (s ∷ ls) (p ∷ ps) same = ap (λ (l : List Placed). p ∷ l) (placed-posts version ls ps (omega (arith, same)))
-
 late_placed : (k : Kind) (plan : Plan) → ((before : List Posted) (line : Posted) → is_bad k plan before line ≡ bad_placed k plan (placed_of before) line.line) → (before posted : List Posted)
     → late (is_bad k plan) before posted ≡ late (bad_placed k plan) (placed_of before) (placed_of posted)
 late_placed k plan same before [] = refl
@@ -44,11 +39,7 @@ late_placed k plan same before (line ∷ posted) =
 pub good-placed : (k : Kind) (plan : Plan) (version : ℕ) (lines : List Said) (places : List Placed) → ((before : List Posted) (line : Posted) → is_bad k plan before line ≡ bad_placed k plan (placed_of before) line.line)
     → length lines ≡ length places → Good (bad_placed k plan) [] places → Good (is_bad k plan) [] (posts version lines places)
 good-placed k plan version lines places same long good =
-    late_placed k plan same [] (posts version lines places) ∙ (ap (late (bad_placed k plan) []) (placed-posts version lines places long) ∙ good)
-
--- for each kind but seal the two are the same by computation
-pub opening-same : (plan : Plan) (before : List Posted) (line : Posted) → is_bad kind.Opening plan before line ≡ bad_placed kind.Opening plan (placed_of before) line.line
-opening-same plan before line = refl
+    late_placed k plan same [] (posts version lines places) ∙ (ap (late (bad_placed k plan) []) (posts-places version lines places long) ∙ good)
 
 pub form-good : (plan : Plan) (before lines : List Posted) → Good (is_bad kind.Form plan) before lines
 form-good plan before [] = refl

@@ -1,5 +1,6 @@
 -- Tests that one item of a list passes: lists that are made from others, and where the item stands.
 use Rattle.std.proofs.Common.{◌≡◌, ◌≢◌, ℕ, zero, suc, ◌+◌, ◌<◌, ◌≤◌, nat_lt, Bool, true, false, ◌&&◌, ◌||◌, cond, inl, inr, List, [], ◌∷◌, length, map, filter, slice_get, Some, refl, sym, ap, ◌∙◌, arith}
+use Rattle.std.proofs.Math.Bool.{or-false}
 use Rattle.std.proofs.lemmas.Bool.{cases_Bool, false_from_ne_true, lt-ltb, or_cases, or_from, or_left, or_right, true≢false}
 use Rattle.std.proofs.lemmas.List.Folds.{list_any-append}
 use Rattle.std.proofs.lemmas.List.Sums.{sum_by-cons}
@@ -56,26 +57,7 @@ any-count {A} p (x ∷ xs) =
           ap (λ (b : Bool). b || list_any p xs) fails ∙ (any-count p xs ∙ ap (nat_lt 0) (let same : count_by p xs ≡ count_by p (x ∷ xs) = omega (arith, first, here) in same))
     ]
 
-pub none-count : {A : Type 0} (p : A → Bool) (xs : List A) → list_any p xs ≡ false → count_by p xs ≡ 0
-none-count p [] none = refl
-none-count {A} p (x ∷ xs) none =
-    let first = sum_by-cons (λ (y : A). cond (p y) 1 0) x xs in
-    elim (cases_Bool (p x)) [
-      | inl passes ↦ absurd (true≢false (sym (or_left (p x) (list_any p xs) passes) ∙ none))
-      | inr fails ↦
-          let here : tally (p x) ≡ tally false = ap tally fails in
-          let rest = none-count p xs (ap (λ (b : Bool). b || list_any p xs) (sym fails) ∙ none) in
-          omega (arith, first, here, rest)
-    ]
-
 -- WHERE IT STANDS
-
-pub any-at_place : {A : Type 0} (p : A → Bool) (xs : List A) (at : ℕ) (x : A) → slice_get xs at ≡ Some x → p x ≡ true → list_any p xs ≡ true
-any-at_place p [] at x found passes = cc
-any-at_place {A} p (y ∷ ys) zero x found passes =
-    let same : y ≡ x = cc in
-    or_left (p y) (list_any p ys) (ap p same ∙ passes)
-any-at_place p (y ∷ ys) (suc at) x found passes = or_right (p y) (list_any p ys) (any-at_place p ys at x found passes)
 
 -- a place of an item that passes
 pub record PassesAt {A : Type 0} (p : A → Bool) (xs : List A) : Type 0 where
@@ -126,13 +108,6 @@ pub number-any : (p : ℕ → Bool) (count number : ℕ) → number < count → 
 unfolding numbers_below
 number-any p count number within passes = number-range p 0 count number (omega arith) (omega (arith, within)) passes
 
--- in lists that are made number by number
-pub any-numbered : {A : Type 0} (test : A → Bool) (f : ℕ → List A) (at count : ℕ) → list_any test (numbered f at count) ≡ list_any (λ k. list_any test (f k)) (range_with_len at count)
-unfolding numbered
-any-numbered test f at zero = refl
-any-numbered test f at (suc count) =
-    list_any-append test (f at) (numbered f (at + 1) count) ∙ ap (λ (b : Bool). list_any test (f at) || b) (any-numbered test f (at + 1) count)
-
 none-range : (p : ℕ → Bool) (at count : ℕ) → ((k : ℕ) → k < at + count → p k ≡ false) → list_any p (range_with_len at count) ≡ false
 none-range p at zero none = refl
 none-range p at (suc count) none = or_from (p at) (list_any p (range_with_len (at + 1) count)) (none at (omega arith)) (none-range p (at + 1) count (λ k below. none k (omega (arith, below))))
@@ -152,8 +127,4 @@ unfolding numbers_below
 any-number test count number below others =
     any-range test 0 count
     ∙ (any-at test (λ k. k ∷ []) 0 count number (omega arith) (omega (arith, below)) (λ k after before other. ap (λ (b : Bool). b || false) (others k (omega (arith, before)) other))
-    ∙ or_false (test number))
-  where
-    or_false : (b : Bool) → (b || false) ≡ b
-    or_false true = refl
-    or_false false = refl
+    ∙ or-false (test number))

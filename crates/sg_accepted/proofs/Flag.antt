@@ -1,6 +1,6 @@
 -- Kind flag: a row is flagged exactly where its entry is marked, and where its place is set.
 use Rattle.std.proofs.Common.{◌≡◌, ℕ, ◌<◌, ◌==◌, nat_lt, Bool, true, false, ◌&&◌, ◌||◌, not, List, [], None, Some, refl, sym, ap, ◌∙◌, arith}
-use Rattle.std.proofs.lemmas.Bool.{and_right, eq-eqb, ne_eqb}
+use Rattle.std.proofs.lemmas.Bool.{and_right, eq-eqb, ne_eqb, or_from}
 use Rattle.std.specs.List.{list_all}
 use Rattle.sg_plan.specs.Ballots.{entries_of}
 use Rattle.sg_plan.specs.Limits.{fault_of}
@@ -23,7 +23,7 @@ use Rattle.sg_post.specs.declared.story.Claimed.{Claimed}
 use Rattle.sg_post.specs.declared.story.Told.{Told}
 use Rattle.sg_facts.proofs.Rising.{IsFront, flagged-kept, marked-kept, record-good, set-kept}
 use Rattle.sg_accepted.proofs.Any.{any-number}
-use Rattle.sg_accepted.proofs.Late.{Good, neither}
+use Rattle.sg_accepted.proofs.Late.{Good}
 use Rattle.sg_accepted.proofs.Opening.{OpensRow, opened-opens}
 use Rattle.sg_accepted.proofs.Posted.{SaysRight, all-right, flag_is, marked_is, set_is}
 
@@ -37,7 +37,7 @@ set-marked plan seed fates race entry within =
     (λ k below other. ap (λ (b : Bool). b && is_marked plan seed fates race k) (ne_eqb (path_of plan seed race k) (path_of plan seed race entry) (λ same. other (paths.one k entry below within same))))
     ∙ ap (λ (b : Bool). b && is_marked plan seed fates race entry) (eq-eqb (path_of plan seed race entry) (path_of plan seed race entry) refl)
 
-same-differ : (a b : Bool) → a ≡ b → differ a b ≡ false
+pub same-differ : (a b : Bool) → a ≡ b → differ a b ≡ false
 same-differ true b e = ap not (sym e)
 same-differ false b e = sym e
 
@@ -79,9 +79,9 @@ module _ (plan : Plan) (seed : List ℕ) (fates : List Told) (draw : Draw) (clai
 
     row-fine : (opened : RowOpening) → OpensRow plan seed race instance number opened
         → (wrong_left_flag plan before race (is_flagged race instance number before) (left_of opened) || wrong_right_flag plan before race (is_flagged race instance number before) (right_of opened)) ≡ false
-    row-fine (row.Left o) is = rw is (neither _ false left_fine refl)
+    row-fine (row.Left o) is = rw is (or_from _ false left_fine refl)
     row-fine (row.Right o) is = rw is right_fine
-    row-fine (row.Both o p) is = rw (is.0, is.1) (neither _ _ left_fine right_fine)
+    row-fine (row.Both o p) is = rw (is.0, is.1) (or_from _ _ left_fine right_fine)
 
   flag-good : (before : List Placed) (line : Placed) → IsFront lines before line → SaysRight plan seed fates draw line → bad_flag plan before line ≡ false
   flag-good before (RowAt race instance number opening) front right = row-fine before race instance number opening front right.0 opening (rw right.1 (opened-opens plan seed fates draw race instance number))

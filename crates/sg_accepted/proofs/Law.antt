@@ -23,18 +23,22 @@ use Rattle.sg_check.specs.declared.judged.Kind.TheVariants as kind
 use Rattle.sg_post.specs.Posted.{posted_record, posted_text}
 use Rattle.sg_post.specs.declared.story.Claimed.{Claimed}
 use Rattle.sg_post.specs.declared.story.Told.{Told}
+use Rattle.sg_facts.proofs.Each.{EachOf}
 use Rattle.sg_accepted.proofs.Accepting.{accepted, form-good, good-placed}
+use Rattle.sg_accepted.proofs.Dispute.{disputes-whole}
 use Rattle.sg_accepted.proofs.Flag.{flags-whole}
 use Rattle.sg_accepted.proofs.Late.{Good}
 use Rattle.sg_accepted.proofs.Opening.{openings-whole}
 use Rattle.sg_accepted.proofs.Path.{paths-whole}
 use Rattle.sg_accepted.proofs.Pointer.{pointers-whole}
-use Rattle.sg_accepted.proofs.RecordParts.{IsTold, disputes-whole, prints-whole, rules-whole}
+use Rattle.sg_accepted.proofs.Posted.{SaysRight, all-right}
+use Rattle.sg_accepted.proofs.Print.{prints-whole}
+use Rattle.sg_accepted.proofs.Rule.{rules-whole}
 use Rattle.sg_accepted.proofs.Seals.{seals-good}
 use Rattle.sg_accepted.proofs.Side.{sides-whole}
 use Rattle.sg_accepted.proofs.StoryWalks.{Walks, story-walks, walked_as}
 use Rattle.sg_accepted.proofs.Total.{totals-whole}
-use Rattle.sg_accepted.proofs.Unaltered.{unaltered-told}
+use Rattle.sg_accepted.proofs.Unaltered.{IsTold, unaltered-told}
 use Rattle.sg_accepted.specs.Accepted.{UnalteredIsAccepted}
 use Rattle.sg_accepted.specs.Unaltered.{IsRightClaim, IsTrueFate, IsUnaltered}
 
@@ -46,6 +50,9 @@ module _ (plan : Plan) (seed : List ℕ) (fates : List Told) (draw : Draw) (clai
 
   abbrev places : List Placed
   places = places_in (posted_record plan seed fates draw claims)
+
+  right : EachOf (SaysRight plan seed fates draw) places
+  right = all-right plan seed fates draw claims told.fine told.fit told.claimed
 
   placed-are : placed_of (posts plan.version lines places) ≡ places
   placed-are = posts-places plan.version lines places long
@@ -67,9 +74,9 @@ module _ (plan : Plan) (seed : List ℕ) (fates : List Told) (draw : Draw) (clai
   kinds-good kind.Seal = seals-good plan seed fates draw claims
   kinds-good kind.Opening = placed kind.Opening (λ before line. refl) (openings-whole plan seed fates draw claims told.fine told.fit told.claimed)
   kinds-good kind.Side = placed kind.Side (λ before line. refl) (sides-whole plan seed fates draw claims bytes told.fine told.fit told.claimed)
-  kinds-good kind.Pointer = placed kind.Pointer (λ before line. refl) (pointers-whole plan seed fates draw claims)
+  kinds-good kind.Pointer = placed kind.Pointer (λ before line. refl) (pointers-whole plan seed fates draw claims right)
   kinds-good kind.Flag = placed kind.Flag (λ before line. refl) (flags-whole plan seed fates draw claims told.fine told.fit told.claimed)
-  kinds-good kind.Path = placed kind.Path (λ before line. refl) (paths-whole plan seed fates draw claims told.fine told.fit told.claimed)
+  kinds-good kind.Path = placed kind.Path (λ before line. refl) (paths-whole plan seed fates draw claims right)
   kinds-good kind.Total = placed kind.Total (λ before line. refl) (totals-whole plan seed fates draw claims apart are_in told.fine told.fit told.claimed)
   kinds-good kind.Print = placed kind.Print (λ before line. refl) (prints-whole plan seed fates draw claims told)
   kinds-good kind.Rule = placed kind.Rule (λ before line. refl) (rules-whole plan seed fates draw claims told)

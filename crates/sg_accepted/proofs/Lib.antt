@@ -1,23 +1,18 @@
 -- The proofs of the laws, kind by kind.
 pub mod Accepting
 pub mod Any
-pub mod Audits
-pub mod Blocks
+pub mod Codes
 pub mod Counted
 pub mod Dispute
-pub mod Fine
 pub mod Flag
 pub mod Given
-pub mod Holds
 pub mod Late
 pub mod Law
-pub mod Marked
 pub mod Opening
 pub mod Path
 pub mod Pointer
 pub mod Posted
 pub mod Print
-pub mod RecordParts
 pub mod RecordTotals
 pub mod Rows
 pub mod Rule

@@ -57,7 +57,7 @@ opened-opens plan seed fates (drawn.Public bytes) race instance number = at_audi
 
 -- THE KIND
 
-opens-committed : (digest : Option Digest) (kind : CommitKind) (race instance place : ℕ) (opening : Opening) → digest ≡ Some (committed kind race instance place opening)
+pub opens-committed : (digest : Option Digest) (kind : CommitKind) (race instance place : ℕ) (opening : Opening) → digest ≡ Some (committed kind race instance place opening)
     → opens_digest digest kind race instance place opening ≡ true
 opens-committed digest kind race instance place opening is =
     ap (λ (d : Option Digest). opens_digest d kind race instance place opening) is ∙ (bytes_eq-Decides (sha256 (commit_input kind race instance place opening)) (sha256 (commit_input kind race instance place opening))).1 refl

@@ -1,9 +1,8 @@
 -- Kind path: rows lead each entry to its own place, and entries of a ballot row to different candidates.
-use Rattle.std.proofs.Common.{◌≡◌, ◌≢◌, ℕ, ◌/◌, ◌%◌, ◌<◌, ◌==◌, nat_lt, Bool, true, false, ◌&&◌, ◌||◌, inl, inr, List, [], ◌∷◌, ◌++◌, None, refl, sym, subst, ap, ◌∙◌}
+use Rattle.std.proofs.Common.{◌≡◌, ◌≢◌, ℕ, ◌/◌, ◌%◌, ◌<◌, ◌==◌, nat_lt, Bool, false, ◌&&◌, ◌||◌, inl, inr, List, [], ◌∷◌, refl, sym, subst, ap, ◌∙◌}
 use Rattle.std.proofs.lemmas.Bool.{and_left, and_right, cases_eq, eq-eqb, ne_eqb}
-use Rattle.std.specs.List.{list_all, list_any}
+use Rattle.std.specs.List.{list_any}
 use Rattle.sg_plan.specs.Ballots.{candidates_of, entries_of}
-use Rattle.sg_plan.specs.Limits.{fault_of}
 use Rattle.sg_plan.specs.declared.plan.Draw.{Draw}
 use Rattle.sg_plan.specs.declared.plan.Plan.{Plan}
 use Rattle.sg_commit.specs.declared.Opening.{Opening}
@@ -13,19 +12,18 @@ use Rattle.sg_forms.specs.declared.line.RowOpening.TheVariants as row
 use Rattle.sg_grammar.specs.Placed.{Placed}
 use Rattle.sg_grammar.specs.Placed.Placed.{RowAt}
 use Rattle.sg_check.specs.Kinds.{bad_path, clashes_with, leads_elsewhere}
-use Rattle.sg_check.specs.Verdict.{late}
 use Rattle.sg_accepted.proofs.Late.{Good}
 use Rattle.sg_record.specs.Places.{places_in}
-use Rattle.sg_post.specs.Fits.{claim_fits, fates_fit}
 use Rattle.sg_post.specs.Posted.{posted_record}
 use Rattle.sg_post.specs.declared.story.Claimed.{Claimed}
 use Rattle.sg_post.specs.declared.story.Told.{Told}
-use Rattle.sg_facts.proofs.Each.{EachOf, of-append, of-into}
+use Rattle.sg_facts.proofs.Each.{EachOf, of-into}
+use Rattle.sg_facts.proofs.Rising.{record-good}
 use Rattle.sg_accepted.proofs.Opening.{OpensRow, opened-opens}
-use Rattle.sg_accepted.proofs.Posted.{SaysRight, all-right}
+use Rattle.sg_accepted.proofs.Posted.{SaysRight, of-parts}
 
 -- a row opens what its tables say
-abbrev pub RowsRight : Plan → List ℕ → Placed → Type 0
+abbrev RowsRight : Plan → List ℕ → Placed → Type 0
 RowsRight plan seed (RowAt race instance number opening) = (number < entries_of plan race) × OpensRow plan seed race instance number opening
 RowsRight plan seed line = Unit {0}
 
@@ -89,7 +87,7 @@ clashes-none plan seed race entry place (line ∷ before) within path all =
     ∙ clashes-none plan seed race entry place before within path all.1
 
 -- a row that is right is not bad in kind path, behind rows that are right
-pub path-good : (plan : Plan) (seed : List ℕ) (before : List Placed) (line : Placed) → EachOf (RowsRight plan seed) before → RowsRight plan seed line → bad_path plan before line ≡ false
+path-good : (plan : Plan) (seed : List ℕ) (before : List Placed) (line : Placed) → EachOf (RowsRight plan seed) before → RowsRight plan seed line → bad_path plan before line ≡ false
 path-good plan seed before (RowAt race instance number (row.Both left right)) all is =
     let here = leads plan seed race instance number left right is.0 is.1.0 is.1.1 in
     and_right (nat_lt left.value (entries_of plan race) && nat_lt right.value (entries_of plan race)) _
@@ -98,19 +96,14 @@ path-good plan seed before (RowAt race instance number (row.Left left)) all is =
 path-good plan seed before (RowAt race instance number (row.Right right)) all is = refl
 path-good plan seed before line all is = refl
 
--- all lines
-paths-good : (plan : Plan) (seed : List ℕ) (before lines : List Placed) → EachOf (RowsRight plan seed) before → EachOf (RowsRight plan seed) lines → Good (bad_path plan) before lines
-paths-good plan seed before [] all are = refl
-paths-good plan seed before (line ∷ lines) all are =
-    ap (λ (b : Bool). b || late (bad_path plan) (before ++ line ∷ []) lines) (path-good plan seed before line all are.0)
-    ∙ paths-good plan seed (before ++ line ∷ []) lines (of-append (RowsRight plan seed) before (line ∷ []) all (are.0, tt)) are.1
-
 says-rows : (plan : Plan) (seed : List ℕ) (fates : List Told) (draw : Draw) (line : Placed) → SaysRight plan seed fates draw line → RowsRight plan seed line
 says-rows plan seed fates draw (RowAt race instance number opening) right = (right.0.2, rw right.1 (opened-opens plan seed fates draw race instance number))
 says-rows plan seed fates draw line right = tt
 
-pub paths-whole : (plan : Plan) (seed : List ℕ) (fates : List Told) (draw : Draw) (claims : List Claimed) → fault_of plan ≡ None → fates_fit plan 0 fates ≡ true → list_all (claim_fits plan) claims ≡ true
+pub paths-whole : (plan : Plan) (seed : List ℕ) (fates : List Told) (draw : Draw) (claims : List Claimed) → EachOf (SaysRight plan seed fates draw) (places_in (posted_record plan seed fates draw claims))
     → Good (bad_path plan) [] (places_in (posted_record plan seed fates draw claims))
-paths-whole plan seed fates draw claims fine fit claimed =
-    let lines = places_in (posted_record plan seed fates draw claims) in
-    paths-good plan seed [] lines tt (of-into (SaysRight plan seed fates draw) (RowsRight plan seed) lines (says-rows plan seed fates draw) (all-right plan seed fates draw claims fine fit claimed))
+paths-whole plan seed fates draw claims right =
+    let posted = posted_record plan seed fates draw claims in
+    let P : Placed → Type 0 = RowsRight plan seed in
+    let all : EachOf P (places_in posted) = of-into (SaysRight plan seed fates draw) P (places_in posted) (says-rows plan seed fates draw) right in
+    record-good (bad_path plan) P posted (λ before line front is. path-good plan seed before line (of-parts P before (line ∷ front.rest) (subst (λ (l : List Placed). EachOf P l) front.is all)).0 is) all

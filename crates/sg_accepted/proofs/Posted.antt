@@ -1,11 +1,10 @@
 -- What a posted record says at each coordinate, and on each line: what the tables and the fates of the ballots say.
-use Rattle.std.proofs.Common.{◌≡◌, ℕ, ◌<◌, ◌==◌, nat_lt, Bool, true, false, ◌&&◌, cond, List, [], ◌∷◌, length, map, Option, Some, None, is_some, refl, sym, ap, ◌∙◌, arith}
+use Rattle.std.proofs.Common.{◌≡◌, ℕ, ◌<◌, ◌==◌, nat_lt, Bool, true, false, ◌&&◌, cond, List, [], ◌∷◌, ◌++◌, length, map, Some, None, refl, sym, ap, ◌∙◌, arith}
 use Rattle.std.specs.List.{flat_map, list_all}
 use Rattle.std.specs.Option.{option_and_then, option_map}
 use Rattle.std.specs.Prelude.{slice_get, slice_index_or}
 use Rattle.std.proofs.lemmas.Bool.{and_parts}
 use Rattle.std.proofs.lemmas.Option.{same_Some, slice_get_within}
-use Rattle.sg_plan.proofs.PlanLaws.{bounds}
 use Rattle.sg_plan.specs.Ballots.{ballot_has, candidates_of, entries_of, races_of_ballot}
 use Rattle.sg_plan.specs.Codes.{is_code}
 use Rattle.sg_plan.specs.Fates.{fate_fits, mark_fits, marks_differ}
@@ -20,6 +19,7 @@ use Rattle.sg_plan.specs.declared.plan.Side.{Side}
 use Rattle.sg_streams.specs.Numbers.{numbers_below}
 use Rattle.sg_tables.proofs.Lists.{get_or-map_below, length-map_below, slice_get-map_below}
 use Rattle.sg_forms.specs.declared.line.CodeLine.{CodeLine}
+use Rattle.sg_grammar.proofs.Claims.{option_and_then-some}
 use Rattle.sg_grammar.specs.Placed.{Placed}
 use Rattle.sg_grammar.specs.Placed.Placed.{CodeAt, Disputed, OverAt, RowAt, TotalAt}
 use Rattle.sg_grammar.specs.declared.state.Block.{Block}
@@ -29,7 +29,6 @@ use Rattle.sg_record.specs.declared.record.BallotBlock.{BallotBlock}
 use Rattle.sg_record.specs.declared.record.BlockFate.{BlockFate}
 use Rattle.sg_record.specs.declared.record.BlockFate.TheVariants as blocked
 use Rattle.sg_record.specs.declared.record.Record.{Record}
-use Rattle.sg_check.proofs.Bounding.{marked_is as code_there}
 use Rattle.sg_check.specs.Completions.{IsHalfOf, half_commitment}
 use Rattle.sg_check.specs.Facts.{code_commitment, is_flagged, is_marked as posted_marked, is_set as posted_set}
 use Rattle.sg_post.proofs.Each.{of-flat}
@@ -47,7 +46,7 @@ use Rattle.sg_facts.proofs.Rising.{is_plain, lines-of}
 use Rattle.sg_facts.proofs.Sections.{HasLines, blocks-of, papers-of}
 use Rattle.sg_facts.specs.Items.{item_in, row_in}
 use Rattle.sg_facts.specs.Listed.{AreListed, digest_on}
-use Rattle.sg_accepted.proofs.Marked.{blocks-marked}
+use Rattle.sg_accepted.proofs.Codes.{codes-marked}
 
 -- ITEMS THAT ARE MADE NUMBER BY NUMBER
 
@@ -73,22 +72,26 @@ below_is f count k x there =
     let less : k < count = omega (arith, long, inside) in
     (less, same_Some x (f k) (sym there ∙ slice_get-map_below f count k less))
 
-and_then_some : {A B : Type 0} (f : A → Option B) (o : Option A) (x : B) → option_and_then f o ≡ Some x → (y : A) × (o ≡ Some y) × (f y ≡ Some x)
-and_then_some f None x is = cc
-and_then_some f (Some y) x is = (y, refl, is)
-
 row_is : {A : Type 0} (plan : Plan) (v : ℕ → ℕ → ℕ → A) (race instance number : ℕ) (x : A) → row_in (by_row plan v) race instance number ≡ Some x → IsHalfOf plan race instance number × (x ≡ v race instance number)
 row_is {A} plan v race instance number x there =
     let rows : ℕ → ℕ → List A = λ r i. map (v r i) (numbers_below (entries_of plan r)) in
     let instances : ℕ → List (List A) = λ r. map (rows r) (numbers_below plan.instances) in
-    let a = and_then_some (λ (lists : List (List A)). item_in lists instance number) (slice_get (by_row plan v) race) x there in
-    let b = and_then_some (λ (items : List A). slice_get items number) (slice_get a.0 instance) x a.2 in
+    let a = option_and_then-some (λ (lists : List (List A)). item_in lists instance number) (slice_get (by_row plan v) race) x there in
+    let b = option_and_then-some (λ (items : List A). slice_get items number) (slice_get a.0 instance) x a.2 in
     let in_race = below_is instances (length plan.races) race a.0 a.1 in
     let in_instance = below_is (rows race) plan.instances instance b.0 (ap (λ (l : List (List A)). slice_get l instance) (sym in_race.1) ∙ b.1) in
     let in_row = below_is (v race instance) (entries_of plan race) number x (ap (λ (l : List A). slice_get l number) (sym in_instance.1) ∙ b.2) in
     ((in_race.0, in_instance.0, in_row.0), in_row.1)
 
 -- LINES
+
+pub of-both : {A : Type 0} (P Q : A → Type 0) (xs : List A) → EachOf P xs → EachOf Q xs → EachOf (λ (x : A). P x × Q x) xs
+of-both P Q [] here there = tt
+of-both P Q (x ∷ xs) here there = ((here.0, there.0), of-both P Q xs here.1 there.1)
+
+pub of-parts : {A : Type 0} (P : A → Type 0) (xs ys : List A) → EachOf P (xs ++ ys) → EachOf P xs × EachOf P ys
+of-parts P [] ys all = (tt, all)
+of-parts P (x ∷ xs) ys all = let parts = of-parts P xs ys all.1 in ((all.0, parts.0), parts.1)
 
 -- each ballot's fate fits it
 pub fits-each : (plan : Plan) (last : ℕ) (fates : List Told) → fates_fit plan last fates ≡ true → EachOf (λ (told : Told). fits_ballot plan told.ballot told.fate) fates
@@ -202,6 +205,4 @@ module _ (plan : Plan) (seed : List ℕ) (fates : List Told) (draw : Draw) (clai
       listed.place race place (is_set plan seed fates race place) in_race (item_get (length plan.races) (entries_of plan) (is_set plan seed fates) race place in_race within)
 
   pub marked_is : fault_of plan ≡ None → fates_fit plan 0 fates ≡ true → (race entry : ℕ) → race < length plan.races → posted_marked plan race entry lines ≡ is_marked plan seed fates race entry
-  marked_is fine fit race entry in_race =
-      sym (code_there plan race entry lines)
-      ∙ (ap (λ (o : Option ℕ). is_some o) (listed.mark race entry in_race) ∙ blocks-marked plan seed fates race entry in_race (omega (arith, (bounds plan fine).two_candidates race in_race)) fit)
+  marked_is fine fit race entry in_race = codes-marked plan seed fates draw claims fine fit race entry in_race

@@ -1,14 +1,20 @@
 -- Kind print: rows are opened on both sides just for audited entries, as many as there are, and lead to what the paper has.
-use Rattle.std.proofs.Common.{◌≡◌, ℕ, ◌+◌, ◌-◌, ◌/◌, ◌%◌, ◌<◌, ◌==◌, nat_lt, Bool, true, false, ◌&&◌, ◌||◌, not, cond, inl, inr, List, ◌++◌, length, Option, Some, None, refl, sym, ap, ◌∙◌, arith}
-use Rattle.std.proofs.lemmas.Bool.{and_left, and_right, cases_eq, eq-eqb, ne_eqb, or_from}
+use Rattle.std.proofs.Common.{◌≡◌, ℕ, ◌+◌, ◌/◌, ◌%◌, ◌<◌, ◌≤◌, ◌==◌, nat_lt, Bool, true, false, ◌&&◌, not, cond, inl, inr, List, [], ◌∷◌, ◌++◌, length, map, slice_get, Option, Some, None, refl, sym, ap, ◌∙◌, arith}
+use Rattle.std.proofs.Math.Bool.{and-false, and-true}
+use Rattle.std.proofs.lemmas.Bool.{and_from, and_left, and_parts, and_right, cases_eq, eq-eqb, eqb-true, ne_eqb, or_cases, or_from, or_left, or_right}
+use Rattle.std.proofs.lemmas.List.Concat.{flat_map-append}
+use Rattle.std.proofs.lemmas.List.Folds.{list_any-append}
 use Rattle.std.proofs.lemmas.List.Sums.{sum_by-append, sum_by_push}
-use Rattle.std.specs.List.{list_all}
+use Rattle.std.specs.List.{flat_map, list_any}
 use Rattle.std.specs.Option.{is_some, option_map, option_map_or}
 use Rattle.std.specs.Prelude.{count_by, sum_by}
-use Rattle.sg_plan.specs.Ballots.{candidates_of, entries_of}
+use Rattle.sg_plan.proofs.PlanLaws.{bounds, rows_are_one}
+use Rattle.sg_plan.specs.Ballots.{ballot_has, ballot_row, candidates_of, entries_of, entry_at, races_of_ballot, rows_of}
 use Rattle.sg_plan.specs.Limits.{fault_of}
 use Rattle.sg_plan.specs.declared.plan.Draw.{Draw}
 use Rattle.sg_plan.specs.declared.plan.Draw.TheVariants as drawn
+use Rattle.sg_plan.specs.declared.plan.Fate.{Fate}
+use Rattle.sg_plan.specs.declared.plan.Fate.TheVariants as fate
 use Rattle.sg_plan.specs.declared.plan.Plan.{Plan}
 use Rattle.sg_plan.specs.declared.plan.Side.{Side}
 use Rattle.sg_plan.specs.declared.plan.Side.TheVariants as side
@@ -16,152 +22,198 @@ use Rattle.sg_streams.proofs.NumberLists.{numbers_below-push}
 use Rattle.sg_streams.specs.CoinSides.{coin_of, coin_seed}
 use Rattle.sg_streams.specs.Numbers.{numbers_below}
 use Rattle.sg_tables.proofs.TableLaws.{code_laws, entry_laws, opening_laws, pointer_laws}
-use Rattle.sg_tables.specs.Tables.{code_beside, code_of_entry, left_of as row_left, left_opening_of, right_opening_of, shown_by}
+use Rattle.sg_tables.specs.Posts.{marked_columns}
+use Rattle.sg_tables.specs.Tables.{code_beside, code_of_entry, codes_of_row, left_of as row_left, left_opening_of, paper_of, right_opening_of, shown_by}
 use Rattle.sg_forms.specs.Reading.{public_bytes as bytes_of_digits}
-use Rattle.sg_grammar.specs.Due.{each, numbered}
+use Rattle.sg_forms.specs.declared.line.CodeLine.{CodeLine}
+use Rattle.sg_forms.specs.declared.line.RowOpening.{RowOpening}
+use Rattle.sg_grammar.specs.Lines.{is_audit as block_audit}
 use Rattle.sg_grammar.specs.Placed.{Placed}
 use Rattle.sg_grammar.specs.Placed.Placed.{CodeAt, PaperAt, RowAt}
 use Rattle.sg_grammar.specs.declared.state.Block.TheVariants as block
-use Rattle.sg_check.specs.Facts.{audited_code, audited_entries, audits_entry, audits_race, both_rows, draws_digits, is_audited as posted_audited, is_both, opens_both, paper_code, public_bytes, shows_paper}
+use Rattle.sg_record.proofs.BlockTests.{has_among}
+use Rattle.sg_record.specs.Places.{block_places, code_place, commit_places, draw_place, paper_places, places_in}
+use Rattle.sg_record.specs.declared.record.BallotBlock.{BallotBlock}
+use Rattle.sg_record.specs.declared.record.BlockFate.{BlockFate}
+use Rattle.sg_record.specs.declared.record.Record.{Record}
+use Rattle.sg_check.specs.Completions.{IsHalfOf}
+use Rattle.sg_check.specs.Facts.{audited_code, audited_entries, audits_entry, audits_race, both_rows, draws_digits, first_given, is_audited as posted_audited, is_both, opens_both, paper_code, public_bytes, shows_paper}
 use Rattle.sg_check.specs.Kinds.{bad_print, is_there, wrong_audit, wrong_number, wrong_paper}
-use Rattle.sg_post.specs.Fits.{fates_fit}
-use Rattle.sg_post.specs.Marks.{is_audited}
-use Rattle.sg_post.specs.Posted.{both_sides, one_side, opened_row}
+use Rattle.sg_post.specs.Marks.{is_audit, is_audited, is_entry_of, told_audits}
+use Rattle.sg_post.specs.Posted.{audited_codes, both_sides, code_in_row, code_line_of, fate_blocks, one_side, opened_row, posted_record, told_blocks}
+use Rattle.sg_post.specs.declared.story.Claimed.{Claimed}
 use Rattle.sg_post.specs.declared.story.Told.{Told}
-use Rattle.sg_accepted.proofs.Counted.{count-lefts}
-use Rattle.sg_check.proofs.Fronts.{all-append, all-each, given-before, given-behind, given-others}
-use Rattle.sg_accepted.proofs.Late.{Good, good-one}
-use Rattle.sg_accepted.proofs.Marked.{is_some-cond}
-use Rattle.sg_accepted.proofs.Rows.{is_row, row_place, row_places, rows-good, rows_before}
-use Rattle.sg_accepted.proofs.Audits.{audited-code, audited-count, audited-paper}
-use Rattle.sg_accepted.proofs.Blocks.{fates_places}
-use Rattle.sg_accepted.proofs.Sums.{sum-none, sum-numbered, sum-others, sum-range, sum-same, tally}
+use Rattle.sg_facts.proofs.Each.{EachOf, of-all, of-into, of-none}
+use Rattle.sg_facts.proofs.Facts.{digits_are}
+use Rattle.sg_facts.proofs.Rising.{IsFront, behind_ballots, behind_commits, blocks, digits-kept, given-kept, head, part_of, record-good}
+use Rattle.sg_accepted.proofs.Any.{any-map, any-same, same_tests}
+use Rattle.sg_accepted.proofs.Codes.{any-codes, audited_code_at, cast_code, row-columns, shows_in, sum-codes, told_codes}
+use Rattle.sg_accepted.proofs.Counted.{count-lefts, count-row, count-told}
+use Rattle.sg_accepted.proofs.Given.{Gives, given-value}
+use Rattle.sg_accepted.proofs.Late.{Good}
+use Rattle.sg_accepted.proofs.Posted.{SaysRight, all-right}
+use Rattle.sg_accepted.proofs.Rows.{in_instance, sum-earlier}
+use Rattle.sg_accepted.proofs.Rule.{BlockRight, blocks-right}
+use Rattle.sg_accepted.proofs.Sums.{sum-flat, sum-map, sum-nothing, sum-of, sum-ones, sum-same, sum-zero, tally}
+use Rattle.sg_accepted.proofs.Unaltered.{IsTold}
 use Rattle.sg_accepted.specs.Unaltered.{IsTrueFate}
-use Rattle.sg_post.proofs.Each.{EachOf}
 
--- WHAT IT ASKS OF THE LINES BEFORE
+-- the code on a line is that of its entry
+code-of-line : (plan : Plan) (seed : List ℕ) (ballot race column : ℕ) → (code_line_of plan seed ballot race column).code ≡ code_of_entry plan seed race (entry_at plan race ballot column)
+unfolding code_in_row
+code-of-line plan seed ballot race column = opening_laws.code plan seed race (entry_at plan race ballot column)
 
-pub record PrintFacts (plan : Plan) (seed : List ℕ) (fates : List Told) (draw : Draw) (before : List Placed) : Type 0 where
-  pub audited : (race entry : ℕ) → race < length plan.races → audited_code plan race entry before ≡ cond (is_audited plan fates race entry) (Some (code_of_entry plan seed race entry)) None
-  pub paper : (race entry candidate : ℕ) → race < length plan.races → candidate < candidates_of plan race → is_audited plan fates race entry ≡ true
-      → paper_code plan race (entry / candidates_of plan race) candidate before ≡ Some (code_beside plan seed race (entry / candidates_of plan race) candidate)
-  pub number : (race : ℕ) → race < length plan.races → audited_entries race before ≡ count_by (is_audited plan fates race) (numbers_below (entries_of plan race))
-  pub full : draw ≡ drawn.Full → public_bytes before ≡ None
+-- WHAT A LINE GIVES
 
--- no line of an audited ballot's block
-abbrev pub no_audit : Placed → Bool
-no_audit (CodeAt block.Audited ballot race column code) = false
-no_audit (PaperAt ballot race list) = false
-no_audit line = true
+-- the line is a code of the entry in an audited ballot's block
+abbrev audit_test : Plan → ℕ → ℕ → Placed → Bool
+audit_test plan race entry (CodeAt kind ballot of column code) = block_audit kind && (of == race && entry_at plan of ballot column == entry)
+audit_test plan race entry line = false
 
-no_entry : (plan : Plan) (race entry : ℕ) (line : Placed) → no_audit line ≡ true → audits_entry plan race entry line ≡ None
-no_entry plan race entry (CodeAt block.Cast ballot of column code) is = refl
-no_entry plan race entry (CodeAt block.Audited ballot of column code) is = cc
-no_entry plan race entry (CodeAt block.Dispute ballot of column code) is = refl
-no_entry plan race entry line is = refl
-
-no_paper : (plan : Plan) (race row candidate : ℕ) (line : Placed) → no_audit line ≡ true → shows_paper plan race row candidate line ≡ None
-no_paper plan race row candidate (PaperAt ballot of list) is = cc
-no_paper plan race row candidate line is = refl
-
-no_audits : (race : ℕ) (line : Placed) → no_audit line ≡ true → (cond (audits_race race line) 1 0) ≡ let none : ℕ = 0 in none
-no_audits race (CodeAt block.Cast ballot of column code) is = refl
-no_audits race (CodeAt block.Audited ballot of column code) is = cc
-no_audits race (CodeAt block.Dispute ballot of column code) is = refl
-no_audits race line is = refl
-
--- the blocks give these facts
-pub print-facts : (plan : Plan) (seed : List ℕ) (last : ℕ) (fates : List Told) (draw : Draw) (base more : List Placed) → fault_of plan ≡ None → fates_fit plan last fates ≡ true
-    → EachOf (λ told. IsTrueFate plan seed told.ballot told.fate) fates → list_all no_audit base ≡ true → list_all no_audit more ≡ true
-    → (draw ≡ drawn.Full → public_bytes (base ++ (fates_places plan seed fates ++ more)) ≡ None) → PrintFacts plan seed fates draw (base ++ (fates_places plan seed fates ++ more))
-print-facts plan seed last fates draw base more fine fit true_fates quiet_base quiet_more full =
-    let blocks = fates_places plan seed fates in
-    record {
-      audited = λ race entry within.
-          given-behind (audits_entry plan race entry) base (blocks ++ more) (given-others (audits_entry plan race entry) no_audit (no_entry plan race entry) base quiet_base)
-          ∙ (given-before (audits_entry plan race entry) blocks more (given-others (audits_entry plan race entry) no_audit (no_entry plan race entry) more quiet_more)
-          ∙ audited-code plan seed last fates race entry fine fit true_fates within);
-      paper = λ race entry candidate within below audited.
-          let given = shows_paper plan race (entry / candidates_of plan race) candidate in
-          given-behind given base (blocks ++ more) (given-others given no_audit (no_paper plan race (entry / candidates_of plan race) candidate) base quiet_base)
-          ∙ (given-before given blocks more (given-others given no_audit (no_paper plan race (entry / candidates_of plan race) candidate) more quiet_more)
-          ∙ audited-paper plan seed last fates race entry candidate fine fit true_fates within below audited);
-      number = λ race within.
-          let g = λ (line : Placed). cond (audits_race race line) 1 0 in
-          let a = sum-others g no_audit (no_audits race) base quiet_base in
-          let b = sum-others g no_audit (no_audits race) more quiet_more in
-          let c = audited-count plan seed last fates race fine fit within in
-          let d = sum_by-append g base (blocks ++ more) in
-          let e = sum_by-append g blocks more in
-          omega (arith, a, b, c, d, e);
-      full = full;
-    }
-
-row_quiet : (line : Placed) → is_row line ≡ true → no_audit line ≡ true
-row_quiet (RowAt race instance number opening) is = refl
-row_quiet line is = cc
-
-no_digits : (line : Placed) → is_row line ≡ true → draws_digits line ≡ None
-no_digits (RowAt race instance number opening) is = refl
-no_digits line is = cc
-
--- and rows keep them
-pub print-keeps : (plan : Plan) (seed : List ℕ) (fates : List Told) (draw : Draw) (before rows : List Placed) → list_all is_row rows ≡ true → PrintFacts plan seed fates draw before
-    → PrintFacts plan seed fates draw (before ++ rows)
-print-keeps plan seed fates draw before rows all facts = record {
-  audited = λ race entry within.
-      given-before (audits_entry plan race entry) before rows (given-others (audits_entry plan race entry) is_row (λ line is. no_entry plan race entry line (row_quiet line is)) rows all) ∙ facts.audited race entry within;
-  paper = λ race entry candidate within below audited.
-      given-before (shows_paper plan race (entry / candidates_of plan race) candidate) before rows
-      (given-others (shows_paper plan race (entry / candidates_of plan race) candidate) is_row (λ line is. no_paper plan race (entry / candidates_of plan race) candidate line (row_quiet line is)) rows all)
-      ∙ facts.paper race entry candidate within below audited;
-  number = λ race within.
-      let g = λ (line : Placed). cond (audits_race race line) 1 0 in
-      let a = sum-others g is_row (λ line is. no_audits race line (row_quiet line is)) rows all in
-      let b = facts.number race within in
-      let c = sum_by-append g before rows in
-      omega (arith, a, b, c);
-  full = λ is. ap (option_map bytes_of_digits) (given-before draws_digits before rows (given-others draws_digits is_row no_digits rows all)) ∙ facts.full is;
-}
-
--- ROWS
-
-rows_before-rows : (plan : Plan) (seed : List ℕ) (fates : List Told) (draw : Draw) (race instance number : ℕ) → list_all is_row (rows_before plan (row_place plan seed fates draw) race instance number) ≡ true
-rows_before-rows plan seed fates draw race instance number =
-    let f = row_place plan seed fates draw in
-    all-append is_row (numbered (λ r. each (λ i. each (f r i) 0 (entries_of plan r)) 0 plan.instances) 0 race) (numbered (λ i. each (f race i) 0 (entries_of plan race)) 0 instance ++ numbered (f race instance) 0 number)
-    (all-each is_row (λ r. each (λ i. each (f r i) 0 (entries_of plan r)) 0 plan.instances) 0 race
-    (λ r. all-each is_row (λ i. each (f r i) 0 (entries_of plan r)) 0 (plan.instances - 0) (λ i. all-each is_row (f r i) 0 (entries_of plan r - 0) (λ n. refl))))
-    (all-append is_row (numbered (λ i. each (f race i) 0 (entries_of plan race)) 0 instance) (numbered (f race instance) 0 number)
-    (all-each is_row (λ i. each (f race i) 0 (entries_of plan race)) 0 instance (λ i. all-each is_row (f race i) 0 (entries_of plan race - 0) (λ n. refl)))
-    (all-each is_row (f race instance) 0 number (λ n. refl)))
-
--- of the rows before one, those of its instance that are opened on both sides
-both-before : (plan : Plan) (seed : List ℕ) (fates : List Told) (draw : Draw) (base : List Placed) (race instance number : ℕ) → both_rows race instance base ≡ 0
-    → both_rows race instance (base ++ rows_before plan (row_place plan seed fates draw) race instance number)
-    ≡ count_by (λ n. is_both (opened_row plan seed fates draw race instance n)) (numbers_below number)
-unfolding numbers_below
-both-before plan seed fates draw base race instance number none =
-    let f = row_place plan seed fates draw in
-    let g = λ (line : Placed). cond (opens_both race instance line) 1 0 in
-    let races = numbered (λ r. each (λ i. each (f r i) 0 (entries_of plan r)) 0 plan.instances) 0 race in
-    let instances = numbered (λ i. each (f race i) 0 (entries_of plan race)) 0 instance in
-    let own = numbered (f race instance) 0 number in
-    let a = sum-none g (λ r. each (λ i. each (f r i) 0 (entries_of plan r)) 0 plan.instances) 0 race
-    (λ r low high. sum-none g (λ i. each (f r i) 0 (entries_of plan r)) 0 (plan.instances - 0)
-    (λ i x y. sum-none g (f r i) 0 (entries_of plan r - 0) (λ n v w. rw (ne_eqb r race (λ e. omega (arith, e, high))) refl))) in
-    let b = sum-none g (λ i. each (f race i) 0 (entries_of plan race)) 0 instance
-    (λ i low high. sum-none g (f race i) 0 (entries_of plan race - 0) (λ n v w. rw (eq-eqb race race refl, ne_eqb i instance (λ e. omega (arith, e, high))) refl)) in
-    let c = sum-numbered g (f race instance) 0 number in
-    let d = sum-range (λ n. sum_by g (f race instance n)) (λ n. cond (is_both (opened_row plan seed fates draw race instance n)) 1 0) 0 number
-    (λ n v w. rw (eq-eqb race race refl, eq-eqb instance instance refl) (one_line (is_both (opened_row plan seed fates draw race instance n)))) in
-    let x = sum_by-append g base (races ++ (instances ++ own)) in
-    let y = sum_by-append g races (instances ++ own) in
-    let z = sum_by-append g instances own in
-    omega (arith, none, a, b, c, d, x, y, z)
+audit-gives : (plan : Plan) (seed : List ℕ) (fates : List Told) (draw : Draw) (race entry : ℕ) (line : Placed) → SaysRight plan seed fates draw line → Gives (audits_entry plan race entry) (audit_test plan race entry) (code_of_entry plan seed race entry) line
+audit-gives plan seed fates draw race entry (CodeAt kind ballot of column code) is = at_test (block_audit kind && (of == race && entry_at plan of ballot column == entry)) refl
   where
-    one_line : (t : Bool) → 0 + tally t ≡ tally t
-    one_line t = omega arith
+    at_test : (b : Bool) → (block_audit kind && (of == race && entry_at plan of ballot column == entry)) ≡ b → cond b (Some code.code) None ≡ cond b (Some (code_of_entry plan seed race entry)) None
+    at_test true passes =
+        let names = and_parts (of == race) (entry_at plan of ballot column == entry) (and_parts (block_audit kind) _ passes).1 in
+        let in_race : of ≡ race = eqb-true of race names.0 in
+        let at_entry : entry_at plan of ballot column ≡ entry = eqb-true (entry_at plan of ballot column) entry names.1 in
+        let value : code.code ≡ code_of_entry plan seed race entry =
+        ap (λ (c : CodeLine). c.code) is.3 ∙ (code-of-line plan seed ballot of column ∙ (ap (code_of_entry plan seed of) at_entry ∙ ap (λ (r : ℕ). code_of_entry plan seed r entry) in_race)) in
+        ap (λ v. Some v) value
+    at_test false fails = refl
+audit-gives plan seed fates draw race entry line is = refl
+
+-- the line has the paper of the ballot row
+abbrev paper_test : Plan → ℕ → ℕ → Placed → Bool
+paper_test plan race row (PaperAt ballot of list) = of == race && ballot_row plan of ballot == row
+paper_test plan race row line = false
+
+paper-gives : (plan : Plan) (seed : List ℕ) (fates : List Told) (race row candidate : ℕ) (line : Placed) → fault_of plan ≡ None → race < length plan.races → candidate < candidates_of plan race → BlockRight plan seed fates line
+    → Gives (shows_paper plan race row candidate) (paper_test plan race row) (code_beside plan seed race row candidate) line
+paper-gives plan seed fates race row candidate (PaperAt ballot of list) fine within below is = at_test (of == race && ballot_row plan of ballot == row) refl
+  where
+    at_test : (b : Bool) → (of == race && ballot_row plan of ballot == row) ≡ b → cond b (slice_get list candidate) None ≡ cond b (Some (code_beside plan seed race row candidate)) None
+    at_test true passes =
+        let names = and_parts (of == race) (ballot_row plan of ballot == row) passes in
+        let in_race : of ≡ race = eqb-true of race names.0 in
+        let in_row : ballot_row plan of ballot ≡ row = eqb-true (ballot_row plan of ballot) row names.1 in
+        ap (λ (l : List ℕ). slice_get l candidate) (is.1 ∙ (ap (codes_of_row plan seed of) in_row ∙ ap (λ (r : ℕ). codes_of_row plan seed r row) in_race))
+        ∙ (code_laws.differ plan seed race row fine within).listed candidate below
+    at_test false fails = refl
+paper-gives plan seed fates race row candidate line fine within below is = refl
+
+-- WHICH ENTRIES A BALLOT'S BLOCK SHOWS
+
+module _ (plan : Plan) (seed : List ℕ) (race : ℕ) (some : 0 < candidates_of plan race) where
+  -- the entry, where the ballot was audited and it is one of its own
+  told-audits : (entry ballot : ℕ) (what : Fate) → list_any (audit_test plan race entry) (told_codes plan seed race ballot what) ≡ (is_entry_of plan race entry ballot && is_audit what)
+  told-audits entry ballot (fate.Audited paper) = at_has (ballot_has plan ballot race)
+    where
+      at_has : (b : Bool) → list_any (audit_test plan race entry) (cond b (map (audited_code_at plan seed race ballot) (numbers_below (candidates_of plan race))) []) ≡ ((b && ballot_row plan race ballot == entry / candidates_of plan race) && true)
+      at_has true =
+          any-map (audit_test plan race entry) (audited_code_at plan seed race ballot) (numbers_below (candidates_of plan race))
+          ∙ (ap (λ (b : Bool). list_any (λ c. b && entry_at plan race ballot c == entry) (numbers_below (candidates_of plan race))) (eq-eqb race race refl) ∙ row-columns plan ballot race entry (λ e. true) some)
+      at_has false = refl
+  told-audits entry ballot (fate.Cast marks) =
+      of-none (audit_test plan race entry) (told_codes plan seed race ballot (fate.Cast marks))
+      (of-all (λ (line : Placed). audit_test plan race entry line ≡ false) (cast_code plan seed race ballot) (marked_columns plan seed race (ballot_row plan race ballot) (fate.Cast marks)) (λ c. refl)) ∙ sym (and-false (is_entry_of plan race entry ballot))
+  told-audits entry ballot fate.Unused = sym (and-false (is_entry_of plan race entry ballot))
+  told-audits entry ballot fate.Spoiled = sym (and-false (is_entry_of plan race entry ballot))
+  told-audits entry ballot fate.Voided = sym (and-false (is_entry_of plan race entry ballot))
+
+  eq-sides : (a b : ℕ) → (a == b) ≡ (b == a)
+  eq-sides a b = same_tests (a == b) (b == a) (λ e. eq-eqb b a (sym (eqb-true a b e))) (λ e. eq-eqb a b (sym (eqb-true b a e)))
+
+  none-audited : (ballot : ℕ) → count_by (λ entry. is_entry_of plan race entry ballot && false) (numbers_below (entries_of plan race)) ≡ 0
+  none-audited ballot = sum-zero (λ entry. tally (is_entry_of plan race entry ballot && false)) (numbers_below (entries_of plan race)) (λ entry. ap tally (and-false (is_entry_of plan race entry ballot)))
+
+  -- and as many as it has
+  told-count : (ballot : ℕ) (what : Fate) → count_by (audits_race race) (told_codes plan seed race ballot what) ≡ count_by (λ entry. is_entry_of plan race entry ballot && is_audit what) (numbers_below (entries_of plan race))
+  unfolding numbers_below
+  told-count ballot (fate.Audited paper) = at_has (ballot_has plan ballot race) refl
+    where
+      k : ℕ
+      k = candidates_of plan race
+
+      entries : List ℕ
+      entries = numbers_below (entries_of plan race)
+
+      at_has : (b : Bool) → ballot_has plan ballot race ≡ b → count_by (audits_race race) (cond b (map (audited_code_at plan seed race ballot) (numbers_below k)) []) ≡ count_by (λ entry. (b && ballot_row plan race ballot == entry / k) && true) entries
+      at_has true has =
+          sum-map (λ line. tally (audits_race race line)) (audited_code_at plan seed race ballot) (numbers_below k)
+          ∙ (sum-same (λ (c : ℕ). tally (race == race)) (λ (c : ℕ). 1) (numbers_below k) (λ c. ap tally (eq-eqb race race refl)) ∙ sum-ones 0 k)
+          ∙ sym (sum-same (λ entry. tally ((ballot_row plan race ballot == entry / k) && true)) (λ entry. tally (entry / k == ballot_row plan race ballot)) entries
+          (λ entry. ap tally (and-true (ballot_row plan race ballot == entry / k) ∙ eq-sides (ballot_row plan race ballot) (entry / k)))
+          ∙ count-row k (rows_of plan race) (ballot_row plan race ballot) some ((rows_are_one plan race).below ballot has))
+      at_has false has = sym (sum-nothing entries)
+  told-count ballot (fate.Cast marks) =
+      sum-of (λ line. tally (audits_race race line)) (told_codes plan seed race ballot (fate.Cast marks))
+      (of-all (λ (line : Placed). tally (audits_race race line) ≡ 0) (cast_code plan seed race ballot) (marked_columns plan seed race (ballot_row plan race ballot) (fate.Cast marks)) (λ c. refl)) ∙ sym (none-audited ballot)
+  told-count ballot fate.Unused = sym (none-audited ballot)
+  told-count ballot fate.Spoiled = sym (none-audited ballot)
+  told-count ballot fate.Voided = sym (none-audited ballot)
+
+  -- the paper of an audited entry's ballot row
+  papers-any : (ballot row : ℕ) (f : ℕ → List ℕ) (races : List ℕ) → ballot_row plan race ballot ≡ row → list_any (λ r. r == race) races ≡ true → list_any (paper_test plan race row) (paper_places ballot races (map f races)) ≡ true
+  papers-any ballot row f [] is e = cc
+  papers-any ballot row f (r ∷ races) is e =
+      elim (or_cases (r == race) (list_any (λ o. o == race) races) e) [
+        | inl here ↦
+            or_left (r == race && ballot_row plan r ballot == row) _
+            (and_from (r == race) (ballot_row plan r ballot == row) here (eq-eqb (ballot_row plan r ballot) row (ap (λ (o : ℕ). ballot_row plan o ballot) (eqb-true r race here) ∙ is)))
+        | inr behind ↦ or_right (r == race && ballot_row plan r ballot == row) _ (papers-any ballot row f races is behind)
+      ]
+
+  told-paper : (entry ballot : ℕ) (what : Fate) → IsTrueFate plan seed ballot what → is_entry_of plan race entry ballot ≡ true → is_audit what ≡ true
+      → list_any (paper_test plan race (entry / candidates_of plan race)) (flat_map (block_places plan) (map (λ (w : BlockFate). let one : BallotBlock = record { ballot = ballot; fate = w } in one) (fate_blocks plan seed ballot what))) ≡ true
+  unfolding paper_of
+  told-paper entry ballot (fate.Audited paper) is own audit =
+      let test : Placed → Bool = paper_test plan race (entry / candidates_of plan race) in
+      let races : List ℕ = races_of_ballot plan ballot in
+      let codes : List Placed = map (code_place block.Audited ballot) (audited_codes plan seed ballot) in
+      let parts = and_parts (ballot_has plan ballot race) (ballot_row plan race ballot == entry / candidates_of plan race) own in
+      let found : list_any test (paper_places ballot races paper) ≡ true = ap (λ (p : List (List ℕ)). list_any test (paper_places ballot races p)) is
+      ∙ papers-any ballot (entry / candidates_of plan race) (λ r. codes_of_row plan seed r (ballot_row plan r ballot)) races (eqb-true (ballot_row plan race ballot) (entry / candidates_of plan race) parts.1) (sym (has_among plan ballot race) ∙ parts.0) in
+      list_any-append test (paper_places ballot races paper ++ codes) [] ∙ or_left (list_any test (paper_places ballot races paper ++ codes)) false (list_any-append test (paper_places ballot races paper) codes ∙ or_left (list_any test (paper_places ballot races paper)) (list_any test codes) found)
+  told-paper entry ballot (fate.Cast marks) is own audit = cc
+  told-paper entry ballot fate.Unused is own audit = cc
+  told-paper entry ballot fate.Spoiled is own audit = cc
+  told-paper entry ballot fate.Voided is own audit = cc
+
+  papers-there : (entry : ℕ) (fates : List Told) → EachOf (λ told. IsTrueFate plan seed told.ballot told.fate) fates → list_any (told_audits plan race entry) fates ≡ true
+      → list_any (paper_test plan race (entry / candidates_of plan race)) (flat_map (block_places plan) (flat_map (told_blocks plan seed) fates)) ≡ true
+  papers-there entry [] all e = cc
+  papers-there entry (told ∷ fates) all e =
+      let test : Placed → Bool = paper_test plan race (entry / candidates_of plan race) in
+      let here : List Placed = flat_map (block_places plan) (told_blocks plan seed told) in
+      let behind : List Placed = flat_map (block_places plan) (flat_map (told_blocks plan seed) fates) in
+      ap (list_any test) (flat_map-append (block_places plan) (told_blocks plan seed told) (flat_map (told_blocks plan seed) fates))
+      ∙ (list_any-append test here behind
+      ∙ elim (or_cases (told_audits plan race entry told) (list_any (told_audits plan race entry) fates) e) [
+        | inl own ↦
+            let parts = and_parts (is_entry_of plan race entry told.ballot) (is_audit told.fate) own in
+            or_left (list_any test here) (list_any test behind) (told-paper entry told.ballot told.fate all.0 parts.0 parts.1)
+        | inr later ↦ or_right (list_any test here) (list_any test behind) (papers-there entry fates all.1 later)
+      ])
+
+-- WHAT NO ROW SAYS, AND NO LINE BEHIND IT
+
+no-entry : (plan : Plan) (race entry : ℕ) (line : Placed) → 6 ≤ part_of line → audits_entry plan race entry line ≡ None
+no-entry plan race entry (CodeAt block.Cast ballot of column code) late = refl
+no-entry plan race entry (CodeAt block.Audited ballot of column code) late = absurd (omega (arith, late))
+no-entry plan race entry (CodeAt block.Dispute ballot of column code) late = refl
+no-entry plan race entry line late = refl
+
+no-paper : (plan : Plan) (race row candidate : ℕ) (line : Placed) → 6 ≤ part_of line → shows_paper plan race row candidate line ≡ None
+no-paper plan race row candidate (PaperAt ballot of list) late = absurd (omega (arith, late))
+no-paper plan race row candidate line late = refl
+
+no-audit : (race : ℕ) (line : Placed) → 6 ≤ part_of line → tally (audits_race race line) ≡ 0
+no-audit race (CodeAt block.Cast ballot of column code) late = refl
+no-audit race (CodeAt block.Audited ballot of column code) late = absurd (omega (arith, late))
+no-audit race (CodeAt block.Dispute ballot of column code) late = refl
+no-audit race line late = refl
 
 -- with public bytes, a row is opened on both sides exactly where its entry is audited
 both-audited : (plan : Plan) (seed : List ℕ) (fates : List Told) (bytes : List ℕ) (race instance n : ℕ)
@@ -174,140 +226,173 @@ both-audited plan seed fates bytes race instance n = at_audit (is_audited plan f
     at_audit false side.Left = refl
     at_audit false side.Right = refl
 
-module _ (plan : Plan) (seed : List ℕ) (fates : List Told) (draw : Draw) (front : List Placed) (facts : PrintFacts plan seed fates draw front)
-    (race instance number : ℕ) (in_race : race < length plan.races) (in_rows : number < entries_of plan race) where
-  -- what the front says of the row's entry
-  entry-audited : posted_audited plan race (left_opening_of plan seed race instance number).value front ≡ is_audited plan fates race (row_left plan seed race instance number)
-  entry-audited =
-      ap (λ (e : ℕ). posted_audited plan race e front) (opening_laws.left plan seed race instance number)
-      ∙ (ap (λ (o : Option ℕ). is_some o) (facts.audited race (row_left plan seed race instance number) in_race)
-      ∙ is_some-cond (is_audited plan fates race (row_left plan seed race instance number)) (code_of_entry plan seed race (row_left plan seed race instance number)))
+is_some-cond : (b : Bool) (v : ℕ) → is_some (cond b (Some v) None) ≡ b
+is_some-cond true v = refl
+is_some-cond false v = refl
 
-  paper-fine : wrong_paper plan front race (both_sides plan seed race instance number) ≡ false
-  paper-fine =
-      let left = left_opening_of plan seed race instance number in
-      let right = right_opening_of plan seed race instance number in
-      let entry = row_left plan seed race instance number in
-      let k = candidates_of plan race in
-      let below : entry < entries_of plan race = (pointer_laws.lefts plan seed race instance).below number in_rows in
-      let led = entry_laws.leads plan seed race entry below in
-      let is_left : left.value ≡ entry = opening_laws.left plan seed race instance number in
-      let is_shown : right.value % k ≡ shown_by plan seed race entry =
-      ap (λ (v : ℕ). v % k) (opening_laws.right plan seed race instance number ∙ pointer_laws.composed plan seed race instance number) ∙ led.column in
-      let test = λ (code : ℕ). not (is_there (paper_code plan race (left.value / k) (right.value % k) front) code) in
-      and_right (nat_lt left.value (entries_of plan race) && nat_lt right.value (entries_of plan race)) _
-      (ap (λ (o : Option ℕ). option_map_or test o false) (ap (λ (e : ℕ). audited_code plan race e front) is_left ∙ facts.audited race entry in_race)
-      ∙ at_audit (is_audited plan fates race entry) refl is_left is_shown led.shows)
+module _ (plan : Plan) (seed : List ℕ) (fates : List Told) (draw : Draw) (claims : List Claimed) (told : IsTold plan seed fates claims) where
+  abbrev posted : Record
+  posted = posted_record plan seed fates draw claims
+
+  abbrev lines : List Placed
+  lines = places_in posted
+
+  right : EachOf (SaysRight plan seed fates draw) lines
+  right = all-right plan seed fates draw claims told.fine told.fit told.claimed
+
+  some_candidate : (race : ℕ) → race < length plan.races → 0 < candidates_of plan race
+  some_candidate race within = omega (arith, (bounds plan told.fine).two_candidates race within)
+
+  -- THE RECORD
+
+  -- the codes of all audited entries are shown, and of no other
+  audited-is : (race entry : ℕ) → race < length plan.races → audited_code plan race entry lines ≡ cond (is_audited plan fates race entry) (Some (code_of_entry plan seed race entry)) None
+  unfolding is_audited
+  audited-is race entry within =
+      let v : ℕ = code_of_entry plan seed race entry in
+      given-value (audits_entry plan race entry) (audit_test plan race entry) v lines
+      (of-into (SaysRight plan seed fates draw) (Gives (audits_entry plan race entry) (audit_test plan race entry) v) lines (λ line is. audit-gives plan seed fates draw race entry line is) right)
+      ∙ ap (λ (b : Bool). cond b (Some v) None)
+      (any-codes plan seed fates draw claims race (audit_test plan race entry) within only
+      ∙ any-same (λ (one : Told). list_any (audit_test plan race entry) (told_codes plan seed race one.ballot one.fate)) (told_audits plan race entry) fates (λ one. told-audits plan seed race (some_candidate race within) entry one.ballot one.fate))
     where
-      at_audit : (b : Bool) → is_audited plan fates race (row_left plan seed race instance number) ≡ b
-          → (left_opening_of plan seed race instance number).value ≡ row_left plan seed race instance number
-          → (right_opening_of plan seed race instance number).value % candidates_of plan race ≡ shown_by plan seed race (row_left plan seed race instance number)
-          → shown_by plan seed race (row_left plan seed race instance number) < candidates_of plan race
-          → option_map_or (λ (code : ℕ). not (is_there (paper_code plan race ((left_opening_of plan seed race instance number).value / candidates_of plan race) ((right_opening_of plan seed race instance number).value % candidates_of plan race) front) code))
-          (cond b (Some (code_of_entry plan seed race (row_left plan seed race instance number))) None) false ≡ false
-      at_audit false audited is_left is_shown shows = refl
-      at_audit true audited is_left is_shown shows =
-          let entry = row_left plan seed race instance number in
-          let code = code_of_entry plan seed race entry in
-          let there : paper_code plan race ((left_opening_of plan seed race instance number).value / candidates_of plan race) ((right_opening_of plan seed race instance number).value % candidates_of plan race) front ≡ Some code =
-          ap (λ (v : ℕ). paper_code plan race (v / candidates_of plan race) ((right_opening_of plan seed race instance number).value % candidates_of plan race) front) is_left
-          ∙ (ap (λ (c : ℕ). paper_code plan race (entry / candidates_of plan race) c front) is_shown
-          ∙ (facts.paper race entry (shown_by plan seed race entry) in_race shows audited ∙ ap (λ v. Some v) (sym (code_laws.beside plan seed race entry)))) in
-          ap (λ (o : Option ℕ). not (is_there o code)) there ∙ ap not (eq-eqb code code refl)
+      only : (line : Placed) → shows_in race line ≡ false → audit_test plan race entry line ≡ false
+      only (CodeAt block.Cast ballot of column code) is = refl
+      only (CodeAt block.Audited ballot of column code) is = and_left (of == race) (entry_at plan of ballot column == entry) is
+      only (CodeAt block.Dispute ballot of column code) is = refl
+      only line is = refl
 
--- with public bytes
-module _ (plan : Plan) (seed : List ℕ) (fates : List Told) (bytes : List ℕ) (base : List Placed) (facts : PrintFacts plan seed fates (drawn.Public bytes) base)
-    (no_both : (race instance : ℕ) → both_rows race instance base ≡ 0)
-    (race instance number : ℕ) (in_race : race < length plan.races) (in_rows : number < entries_of plan race) where
-  public_front : List Placed
-  public_front = base ++ rows_before plan (row_place plan seed fates (drawn.Public bytes)) race instance number
+  -- and what their papers have
+  paper-is : (race entry candidate : ℕ) → race < length plan.races → candidate < candidates_of plan race → is_audited plan fates race entry ≡ true
+      → paper_code plan race (entry / candidates_of plan race) candidate lines ≡ Some (code_beside plan seed race (entry / candidates_of plan race) candidate)
+  unfolding is_audited places_in
+  paper-is race entry candidate within below audited =
+      let row : ℕ = entry / candidates_of plan race in
+      let test : Placed → Bool = paper_test plan race row in
+      let v : ℕ = code_beside plan seed race row candidate in
+      let there : list_any test lines ≡ true = list_any-append test (head posted) (commit_places posted ++ behind_commits posted)
+      ∙ or_right (list_any test (head posted)) _ (list_any-append test (commit_places posted) (behind_commits posted)
+      ∙ or_right (list_any test (commit_places posted)) _ (list_any-append test (blocks posted) (behind_ballots posted)
+      ∙ or_left (list_any test (blocks posted)) _ (papers-there plan seed race (some_candidate race within) entry fates told.papers audited))) in
+      given-value (shows_paper plan race row candidate) test v lines
+      (of-into (BlockRight plan seed fates) (Gives (shows_paper plan race row candidate) test v) lines (λ line is. paper-gives plan seed fates race row candidate line told.fine within below is) (blocks-right plan seed fates draw claims told))
+      ∙ ap (λ (b : Bool). cond b (Some v) None) there
 
-  public_facts : PrintFacts plan seed fates (drawn.Public bytes) public_front
-  unfolding public_front
-  public_facts =
-      print-keeps plan seed fates (drawn.Public bytes) base (rows_before plan (row_place plan seed fates (drawn.Public bytes)) race instance number)
-      (rows_before-rows plan seed fates (drawn.Public bytes) race instance number) facts
-
-  audit-fine : wrong_audit plan public_front race (opened_row plan seed fates (drawn.Public bytes) race instance number) ≡ false
-  unfolding opened_row
-  audit-fine =
-      at_audit (is_audited plan fates race (row_left plan seed race instance number)) (coin_of (coin_seed bytes) race instance number)
-      (entry-audited plan seed fates (drawn.Public bytes) public_front public_facts race instance number in_race in_rows)
+  -- as many are shown as there are
+  number-is : (race : ℕ) → race < length plan.races → audited_entries race lines ≡ count_by (is_audited plan fates race) (numbers_below (entries_of plan race))
+  unfolding is_audited
+  number-is race within =
+      let g : Placed → ℕ = λ line. tally (audits_race race line) in
+      let entries : List ℕ = numbers_below (entries_of plan race) in
+      sum-codes plan seed race within g only fates draw claims
+      ∙ (sum-flat g (λ (one : Told). told_codes plan seed race one.ballot one.fate) fates
+      ∙ (sum-same (λ (one : Told). count_by (audits_race race) (told_codes plan seed race one.ballot one.fate)) (λ (one : Told). count_by (λ entry. told_audits plan race entry one) entries) fates
+      (λ one. told-count plan seed race (some_candidate race within) one.ballot one.fate)
+      ∙ sym (count-told plan race (told_audits plan race) (λ entry one e. (and_parts (is_entry_of plan race entry one.ballot) (is_audit one.fate) e).0) 0 fates told.fit)))
     where
-      at_audit : (b : Bool) (s : Side) → posted_audited plan race (left_opening_of plan seed race instance number).value public_front ≡ b
-          → wrong_audit plan public_front race (cond b (both_sides plan seed race instance number) (one_side plan seed race instance number s)) ≡ false
-      at_audit true s is = and_right (nat_lt (left_opening_of plan seed race instance number).value (entries_of plan race)) _ (ap not is)
-      at_audit false side.Left is = and_right (nat_lt (left_opening_of plan seed race instance number).value (entries_of plan race)) _ is
-      at_audit false side.Right is = refl
+      only : (line : Placed) → shows_in race line ≡ false → tally (audits_race race line) ≡ 0
+      only (CodeAt block.Cast ballot of column code) is = refl
+      only (CodeAt block.Audited ballot of column code) is = ap tally is
+      only (CodeAt block.Dispute ballot of column code) is = refl
+      only line is = refl
 
-  number-fine : wrong_number plan public_front race instance number (opened_row plan seed fates (drawn.Public bytes) race instance number) ≡ false
-  unfolding public_front
-  number-fine =
-      let opened = λ (n : ℕ). opened_row plan seed fates (drawn.Public bytes) race instance n in
-      let n = entries_of plan race in
-      elim (cases_eq (number + 1) n) [
-        | inr other ↦ and_left (number + 1 == n) _ (ne_eqb (number + 1) n other)
-        | inl last ↦
-            let before = both-before plan seed fates (drawn.Public bytes) base race instance number (no_both race instance) in
-            let pushed : count_by (λ k. is_both (opened k)) (numbers_below (number + 1)) ≡ count_by (λ k. is_both (opened k)) (numbers_below number) + tally (is_both (opened number)) =
-            ap (count_by (λ k. is_both (opened k))) (numbers_below-push number) ∙ sum_by_push (λ k. cond (is_both (opened k)) 1 0) (numbers_below number) number in
-            let whole : count_by (λ k. is_both (opened k)) (numbers_below (number + 1)) ≡ count_by (λ k. is_both (opened k)) (numbers_below n) = ap (λ (m : ℕ). count_by (λ k. is_both (opened k)) (numbers_below m)) last in
-            let audited = sum-same (λ k. cond (is_both (opened k)) 1 0) (λ k. cond (is_audited plan fates race (row_left plan seed race instance k)) 1 0) (numbers_below n)
-            (λ k. ap tally (both-audited plan seed fates bytes race instance k)) in
-            let entries = count-lefts plan seed race instance (is_audited plan fates race) in
-            let posted = public_facts.number race in_race in
-            and_right (number + 1 == n) _
-            (ap not (eq-eqb (both_rows race instance public_front + tally (is_both (opened number))) (audited_entries race public_front) (omega (arith, before, pushed, whole, audited, entries, posted))))
-      ]
+  -- BEFORE A ROW
 
-  -- a row of the record
-  public-fine : (b : Bool) → wrong_paper plan public_front race (opened_row plan seed fates (drawn.Public bytes) race instance number) ≡ false
-      → ((b && (wrong_audit plan public_front race (opened_row plan seed fates (drawn.Public bytes) race instance number) || wrong_number plan public_front race instance number (opened_row plan seed fates (drawn.Public bytes) race instance number)))
-      || wrong_paper plan public_front race (opened_row plan seed fates (drawn.Public bytes) race instance number)) ≡ false
-  public-fine b paper =
-      or_from (b && (wrong_audit plan public_front race (opened_row plan seed fates (drawn.Public bytes) race instance number) || wrong_number plan public_front race instance number (opened_row plan seed fates (drawn.Public bytes) race instance number))) _
-      (and_right b _ (or_from (wrong_audit plan public_front race (opened_row plan seed fates (drawn.Public bytes) race instance number)) _ audit-fine number-fine)) paper
+  module _ (before : List Placed) (race instance number : ℕ) (opening : RowOpening) (front : IsFront lines before (RowAt race instance number opening)) (within : IsHalfOf plan race instance number) where
+    abbrev line : Placed
+    line = RowAt race instance number opening
 
--- what a row opens leads to what the paper has, with either draw
-paper-row : (plan : Plan) (seed : List ℕ) (fates : List Told) (draw : Draw) (front : List Placed) (race instance number : ℕ) → PrintFacts plan seed fates draw front → race < length plan.races
-    → number < entries_of plan race → wrong_paper plan front race (opened_row plan seed fates draw race instance number) ≡ false
-unfolding opened_row
-paper-row plan seed fates drawn.Full front race instance number facts in_race in_rows = paper-fine plan seed fates drawn.Full front facts race instance number in_race in_rows
-paper-row plan seed fates (drawn.Public bytes) front race instance number facts in_race in_rows =
-    at_audit (is_audited plan fates race (row_left plan seed race instance number)) (coin_of (coin_seed bytes) race instance number)
-  where
-    at_audit : (b : Bool) (s : Side) → wrong_paper plan front race (cond b (both_sides plan seed race instance number) (one_side plan seed race instance number s)) ≡ false
-    at_audit true s = paper-fine plan seed fates (drawn.Public bytes) front facts race instance number in_race in_rows
-    at_audit false side.Left = refl
-    at_audit false side.Right = refl
+    abbrev entry : ℕ
+    entry = row_left plan seed race instance number
 
-print-row : (plan : Plan) (seed : List ℕ) (fates : List Told) (draw : Draw) (base : List Placed) (race instance number : ℕ) → PrintFacts plan seed fates draw base
-    → ((r i : ℕ) → both_rows r i base ≡ 0) → race < length plan.races → number < entries_of plan race
-    → bad_print plan (base ++ rows_before plan (row_place plan seed fates draw) race instance number) (RowAt race instance number (opened_row plan seed fates draw race instance number)) ≡ false
-unfolding public_front
-print-row plan seed fates drawn.Full base race instance number facts no_both in_race in_rows =
-    let rows = rows_before plan (row_place plan seed fates drawn.Full) race instance number in
-    let kept = print-keeps plan seed fates drawn.Full base rows (rows_before-rows plan seed fates drawn.Full race instance number) facts in
-    or_from _ (wrong_paper plan (base ++ rows) race (opened_row plan seed fates drawn.Full race instance number))
-    (and_left (is_some (public_bytes (base ++ rows))) _ (ap (λ (o : Option (List ℕ)). is_some o) (kept.full refl)))
-    (paper-row plan seed fates drawn.Full (base ++ rows) race instance number kept in_race in_rows)
-print-row plan seed fates (drawn.Public bytes) base race instance number facts no_both in_race in_rows =
-    let rows = rows_before plan (row_place plan seed fates (drawn.Public bytes)) race instance number in
-    let kept = print-keeps plan seed fates (drawn.Public bytes) base rows (rows_before-rows plan seed fates (drawn.Public bytes) race instance number) facts in
-    public-fine plan seed fates bytes base facts no_both race instance number in_race in_rows (is_some (public_bytes (base ++ rows)))
-    (paper-row plan seed fates (drawn.Public bytes) (base ++ rows) race instance number kept in_race in_rows)
+    audited-before : (e : ℕ) → audited_code plan race e before ≡ cond (is_audited plan fates race e) (Some (code_of_entry plan seed race e)) None
+    audited-before e = given-kept lines before line front (audits_entry plan race e) (no-entry plan race e) ∙ audited-is race e within.0
 
--- the rows of a posted record, behind lines that open no row
-pub prints-good : (plan : Plan) (seed : List ℕ) (fates : List Told) (draw : Draw) (base : List Placed) → PrintFacts plan seed fates draw base → ((race instance : ℕ) → both_rows race instance base ≡ 0)
-    → Good (bad_print plan) base (row_places plan seed fates draw)
-unfolding row_places
-prints-good plan seed fates draw base facts no_both =
-    rows-good (bad_print plan) base plan (row_place plan seed fates draw)
-    (λ race instance number in_race in_instances in_rows.
-    good-one (bad_print plan) (base ++ rows_before plan (row_place plan seed fates draw) race instance number) (RowAt race instance number (opened_row plan seed fates draw race instance number))
-    (print-row plan seed fates draw base race instance number facts no_both in_race in_rows))
+    entry-audited : posted_audited plan race (left_opening_of plan seed race instance number).value before ≡ is_audited plan fates race entry
+    entry-audited =
+        ap (λ (e : ℕ). posted_audited plan race e before) (opening_laws.left plan seed race instance number)
+        ∙ (ap (λ (o : Option ℕ). is_some o) (audited-before entry) ∙ is_some-cond (is_audited plan fates race entry) (code_of_entry plan seed race entry))
 
--- no other line is judged
-abbrev pub no_row : Placed → Bool
-no_row (RowAt race instance number opening) = false
-no_row line = true
+    -- a row that is opened on both sides leads to what the paper has
+    paper-fine : wrong_paper plan before race (both_sides plan seed race instance number) ≡ false
+    paper-fine =
+        let left = left_opening_of plan seed race instance number in
+        let right = right_opening_of plan seed race instance number in
+        let k : ℕ = candidates_of plan race in
+        let led = entry_laws.leads plan seed race entry ((pointer_laws.lefts plan seed race instance).below number within.2) in
+        let is_left : left.value ≡ entry = opening_laws.left plan seed race instance number in
+        let is_shown : right.value % k ≡ shown_by plan seed race entry = ap (λ (v : ℕ). v % k) (opening_laws.right plan seed race instance number ∙ pointer_laws.composed plan seed race instance number) ∙ led.column in
+        and_right (nat_lt left.value (entries_of plan race) && nat_lt right.value (entries_of plan race)) _
+        (rw (is_left, is_shown) (ap (λ (o : Option ℕ). option_map_or (λ code. not (is_there (paper_code plan race (entry / k) (shown_by plan seed race entry) before) code)) o false) (audited-before entry) ∙ at_audit (is_audited plan fates race entry) refl led.shows))
+      where
+        at_audit : (b : Bool) → is_audited plan fates race entry ≡ b → shown_by plan seed race entry < candidates_of plan race
+            → option_map_or (λ (code : ℕ). not (is_there (paper_code plan race (entry / candidates_of plan race) (shown_by plan seed race entry) before) code)) (cond b (Some (code_of_entry plan seed race entry)) None) false ≡ false
+        at_audit false audited below = refl
+        at_audit true audited below =
+            let code : ℕ = code_of_entry plan seed race entry in
+            let there : paper_code plan race (entry / candidates_of plan race) (shown_by plan seed race entry) before ≡ Some code =
+            given-kept lines before line front (shows_paper plan race (entry / candidates_of plan race) (shown_by plan seed race entry)) (no-paper plan race (entry / candidates_of plan race) (shown_by plan seed race entry))
+            ∙ (paper-is race entry (shown_by plan seed race entry) within.0 below audited ∙ ap (λ v. Some v) (sym (code_laws.beside plan seed race entry))) in
+            ap (λ (o : Option ℕ). not (is_there o code)) there ∙ ap not (eq-eqb code code refl)
+
+    -- one side, or both, as the draw says
+    sides-fine : (b : Bool) (s : Side) → is_audited plan fates race entry ≡ b → (wrong_audit plan before race (cond b (both_sides plan seed race instance number) (one_side plan seed race instance number s)) ≡ false)
+        × (wrong_paper plan before race (cond b (both_sides plan seed race instance number) (one_side plan seed race instance number s)) ≡ false)
+    sides-fine true s audited = (and_right (nat_lt (left_opening_of plan seed race instance number).value (entries_of plan race)) _ (ap not (entry-audited ∙ audited)), paper-fine)
+    sides-fine false side.Left audited = (and_right (nat_lt (left_opening_of plan seed race instance number).value (entries_of plan race)) _ (entry-audited ∙ audited), refl)
+    sides-fine false side.Right audited = (refl, refl)
+
+    -- with the last row of an instance, as many are opened on both sides as there are audited entries
+    number-fine : (o : RowOpening) → o ≡ opened_row plan seed fates draw race instance number → ((n : ℕ) → is_both (opened_row plan seed fates draw race instance n) ≡ is_audited plan fates race (row_left plan seed race instance n))
+        → wrong_number plan before race instance number o ≡ false
+    number-fine o own both =
+        let n : ℕ = entries_of plan race in
+        let is_opened : ℕ → Bool = λ k. is_both (opened_row plan seed fates draw race instance k) in
+        let audits : Placed → ℕ = λ l. tally (audits_race race l) in
+        elim (cases_eq (number + 1) n) [
+          | inr other ↦ and_left (number + 1 == n) _ (ne_eqb (number + 1) n other)
+          | inl last ↦
+              let earlier : both_rows race instance before ≡ count_by is_opened (numbers_below number) = sum-earlier plan seed fates draw claims race instance before number opening front within (λ l. tally (opens_both race instance l)) only
+              ∙ sum-same (λ k. tally ((race == race && instance == instance) && is_opened k)) (λ k. tally (is_opened k)) (numbers_below number) (λ k. rw (eq-eqb race race refl, eq-eqb instance instance refl) refl) in
+              let all : count_by is_opened (numbers_below (number + 1)) ≡ count_by is_opened (numbers_below number) + tally (is_both o) = ap (count_by is_opened) (numbers_below-push number)
+              ∙ (sum_by_push (λ k. tally (is_opened k)) (numbers_below number) number ∙ ap (λ (x : RowOpening). count_by is_opened (numbers_below number) + tally (is_both x)) (sym own)) in
+              let audited = sum-same (λ k. tally (is_opened k)) (λ k. tally (is_audited plan fates race (row_left plan seed race instance k))) (numbers_below n) (λ k. ap tally (both k)) in
+              and_right (number + 1 == n) _
+              (ap not (eq-eqb (both_rows race instance before + tally (is_both o)) (audited_entries race before)
+              (omega (
+                arith,
+                earlier,
+                all,
+                ap (λ (m : ℕ). count_by is_opened (numbers_below m)) last,
+                audited,
+                count-lefts plan seed race instance (is_audited plan fates race),
+                number-is race within.0,
+                ap (sum_by audits) front.is,
+                sum_by-append audits before (line ∷ front.rest),
+                sum-of audits (line ∷ front.rest) (of-into (λ later. 6 ≤ part_of later) (λ later. audits later ≡ 0) (line ∷ front.rest) (no-audit race) (omega arith, front.behind)),
+              ))))
+        ]
+      where
+        only : (l : Placed) → in_instance race instance l ≡ false → tally (opens_both race instance l) ≡ 0
+        only (RowAt of i k x) none = ap tally (and_left (of == race && i == instance) (is_both x) none)
+        only l none = refl
+
+    row-fine : (d : Draw) → draw ≡ d → bad_print plan before (RowAt race instance number (opened_row plan seed fates d race instance number)) ≡ false
+    unfolding opened_row
+    row-fine drawn.Full is =
+        let none : first_given draws_digits before ≡ None = digits-kept lines before line front (omega arith) ∙ (digits_are posted ∙ ap (λ (d : Draw). draws_digits (draw_place d)) is) in
+        or_from _ (wrong_paper plan before race (both_sides plan seed race instance number)) (and_left (is_some (public_bytes before)) _ (ap (λ (o : Option (List ℕ)). is_some (option_map bytes_of_digits o)) none)) paper-fine
+    row-fine (drawn.Public bytes) is =
+        let row : RowOpening = opened_row plan seed fates (drawn.Public bytes) race instance number in
+        let fine = sides-fine (is_audited plan fates race entry) (coin_of (coin_seed bytes) race instance number) refl in
+        or_from _ (wrong_paper plan before race row)
+        (and_right (is_some (public_bytes before)) _ (or_from (wrong_audit plan before race row) _ fine.0
+        (number-fine row (ap (λ (d : Draw). opened_row plan seed fates d race instance number) (sym is)) (λ n. ap (λ (d : Draw). is_both (opened_row plan seed fates d race instance n)) is ∙ both-audited plan seed fates bytes race instance n)))) fine.1
+
+  print-good : (before : List Placed) (line : Placed) → IsFront lines before line → SaysRight plan seed fates draw line → bad_print plan before line ≡ false
+  print-good before (RowAt race instance number opening) front is =
+      ap (λ (o : RowOpening). bad_print plan before (RowAt race instance number o)) is.1 ∙ row-fine before race instance number opening front is.0 draw refl
+  print-good before other front is = refl
+
+  pub prints-whole : Good (bad_print plan) [] lines
+  prints-whole = record-good (bad_print plan) (SaysRight plan seed fates draw) posted print-good right

@@ -21,6 +21,7 @@ use Rattle.sg_check.proofs.Verdicts.{one_verdict}
 use Rattle.sg_check.specs.Verdict.{IsVerdict, total_on, totals_in, totals_of}
 use Rattle.sg_check.specs.declared.judged.Judged.TheVariants as judged
 use Rattle.sg_check.specs.declared.judged.Total.{Total}
+use Rattle.sg_post.proofs.Numbered.{each-same, indexed-numbers}
 use Rattle.sg_post.specs.Marks.{total_of}
 use Rattle.sg_post.specs.Posted.{posted_record, posted_text}
 use Rattle.sg_post.specs.declared.story.Claimed.{Claimed}
@@ -29,7 +30,6 @@ use Rattle.sg_facts.proofs.Each.{EachOf, of-into}
 use Rattle.sg_facts.proofs.Rising.{IsPart, all-behind, behind_ballots, behind_commits, behind_results, blocks, blocks_are, commits_are, head, head_is, part_of, results-rise}
 use Rattle.sg_facts.proofs.Sections.{race_flags-of, race_sets-of, seals-of}
 use Rattle.sg_accepted.proofs.Law.{unaltered_is_accepted}
-use Rattle.sg_accepted.proofs.Rows.{indexed-numbers}
 use Rattle.sg_accepted.proofs.StoryWalks.{Walks, story-walks}
 use Rattle.sg_accepted.specs.Totals.{UnalteredHasTotals, UnalteredIsNeverNo, one_total, told_totals}
 
@@ -69,12 +69,6 @@ other-none line other = refl
 part-none : (part : ℕ) (lines : List Placed) → part ≢ 4 → EachOf (IsPart part) lines → EachOf HasNone lines
 part-none part lines other all = of-into (IsPart part) HasNone lines (λ line is. other-none line (λ e. other (let same : part ≡ 4 = omega (arith, is, e) in same))) all
 
-each-within : {A : Type 0} (f g : ℕ → List A) (at count : ℕ) → ((k : ℕ) → k < at + count → f k ≡ g k) → numbered f at count ≡ numbered g at count
-unfolding numbered
-each-within f g at zero same = refl
-each-within f g at (suc count) same =
-    ap (λ l. l ++ numbered f (at + 1) count) (same at (omega arith)) ∙ ap (λ l. g at ++ l) (each-within f g (at + 1) count (λ k b. same k (omega (arith, b))))
-
 module _ (plan : Plan) (seed : List ℕ) (fates : List Told) (draw : Draw) (claims : List Claimed) where
   abbrev posted : Record
   posted = posted_record plan seed fates draw claims
@@ -95,8 +89,7 @@ module _ (plan : Plan) (seed : List ℕ) (fates : List Told) (draw : Draw) (clai
   unfolding told_totals
   results-totals =
       flat-numbered (race_result_places posted) 0 (length plan.races - 0)
-      ∙ each-within (λ race. flat_map total_on (race_result_places posted race)) (λ race. each (one_total plan seed fates race) 0 (candidates_of plan race)) 0 (length plan.races - 0)
-      (λ race b. race-totals race (omega (arith, b)))
+      ∙ each-same (λ race. flat_map total_on (race_result_places posted race)) (λ race. each (one_total plan seed fates race) 0 (candidates_of plan race)) (length plan.races) race-totals
 
   places-totals : flat_map total_on (places_in posted) ≡ told_totals plan seed fates
   unfolding places_in

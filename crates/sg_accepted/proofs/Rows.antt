@@ -1,147 +1,167 @@
--- The rows of a record: what is judged at rows alone, and the rows number by number.
-use Rattle.std.proofs.Common.{◌≡◌, ℕ, zero, suc, ◌+◌, ◌-◌, ◌<◌, Bool, true, false, ◌||◌, List, [], ◌∷◌, ◌++◌, length, map, refl, sym, subst, ap, ◌∙◌, append_assoc, arith}
-use Rattle.std.specs.List.{range_with_len}
+-- The rows of an instance before a row: the earlier ones, number by number.
+use Rattle.std.proofs.Common.{◌≡◌, ◌≢◌, ℕ, zero, suc, ◌+◌, ◌-◌, ◌<◌, ◌≤◌, ◌==◌, Bool, true, false, ◌&&◌, cond, inl, inr, List, [], ◌∷◌, ◌++◌, length, map, filter, refl, sym, ap, ◌∙◌, append-nil, arith}
+use Rattle.std.proofs.lemmas.Bool.{and_left, and_right, cases_lt, eq-eqb, ne_eqb}
+use Rattle.std.proofs.lemmas.List.Elements.{filter-append}
+use Rattle.std.specs.List.{list_any, range_with_len}
+use Rattle.std.specs.Prelude.{sum_by}
 use Rattle.sg_plan.specs.Ballots.{entries_of}
 use Rattle.sg_plan.specs.declared.plan.Draw.{Draw}
 use Rattle.sg_plan.specs.declared.plan.Draw.TheVariants as drawn
 use Rattle.sg_plan.specs.declared.plan.Plan.{Plan}
 use Rattle.sg_streams.specs.Numbers.{numbers_below}
 use Rattle.sg_forms.specs.declared.line.RowOpening.{RowOpening}
-use Rattle.sg_grammar.specs.Due.{each, numbered}
+use Rattle.sg_grammar.specs.Due.{numbered}
 use Rattle.sg_grammar.specs.Placed.{Placed}
-use Rattle.sg_grammar.specs.Placed.Placed.{CodeCommitAt, Disputed, FlagsAt, OfPlan, PlacesAt, RowAt, RowCommitAt, SealAt, TotalAt, Begun, CodeAt, OverAt, PaperAt}
-use Rattle.sg_grammar.specs.declared.state.Block.TheVariants as block
-use Rattle.sg_record.proofs.BlockLines.{numbered-same}
+use Rattle.sg_grammar.specs.Placed.Placed.{RowAt}
 use Rattle.sg_record.specs.Lines.{indexed}
-use Rattle.sg_record.specs.Places.{code_place, commit_places, draw_place, places_in, race_row_places, result_places, seal_place}
+use Rattle.sg_record.specs.Places.{commit_places, draw_place, instance_row_places, places_in, race_row_places, result_places, row_place, seal_place}
 use Rattle.sg_record.specs.declared.record.Record.{Record}
-use Rattle.sg_check.specs.Verdict.{late}
-use Rattle.sg_post.specs.Posted.{by_row, opened_row}
+use Rattle.sg_check.specs.Completions.{IsHalfOf}
+use Rattle.sg_post.proofs.Numbered.{indexed-numbers}
+use Rattle.sg_post.specs.Posted.{opened_row, posted_record}
+use Rattle.sg_post.specs.declared.story.Claimed.{Claimed}
 use Rattle.sg_post.specs.declared.story.Told.{Told}
-use Rattle.sg_facts.proofs.Each.{EachOf, of-append}
-use Rattle.sg_facts.proofs.Rising.{blocks, claims, head}
-use Rattle.sg_facts.proofs.Sections.{ballots-of, commits-of, disputes-of, plan-of, results-of, seals-of}
-use Rattle.sg_accepted.proofs.Late.{Good, good-append, good-each}
+use Rattle.sg_facts.proofs.Each.{EachOf, of-into, of-numbered}
+use Rattle.sg_facts.proofs.Finding.{of-entries, of-items}
+use Rattle.sg_facts.proofs.Rising.{IsFront, IsPart, blocks, blocks_are, claims, commits_are, head, head_is, part_of, results_are}
+use Rattle.sg_facts.proofs.Sections.{disputes-of, seals-of}
+use Rattle.sg_accepted.proofs.Any.{any-filter, any-map, any-same}
+use Rattle.sg_accepted.proofs.Sums.{sum-filter, sum-map, sum-same}
 
--- WHAT IS JUDGED AT ROWS ALONE
+-- FILTERS
 
-abbrev pub is_row : Placed → Bool
-is_row (RowAt race instance number opening) = true
-is_row line = false
+module _ {A : Type 0} (p : A → Bool) where
+  abbrev Fails : A → Type 0
+  Fails x = p x ≡ false
 
--- the lines before the rows, and those behind them
-abbrev pub rows_base : Record → List Placed
-rows_base posted = head posted ++ (commit_places posted ++ (blocks posted ++ (result_places posted ++ draw_place posted.draw ∷ [])))
+  filter-none : (xs : List A) → EachOf Fails xs → filter p xs ≡ []
+  filter-none [] all = refl
+  filter-none (x ∷ xs) all = ap (λ (b : Bool). cond b (x ∷ filter p xs) (filter p xs)) all.0 ∙ filter-none xs all.1
 
-abbrev rows_end : Record → List Placed
-rows_end posted = seal_place 3 posted.seals ++ claims posted
+  filter-behind : (xs ys : List A) → EachOf Fails xs → filter p (xs ++ ys) ≡ filter p ys
+  filter-behind xs ys all = filter-append p xs ys ∙ ap (λ l. l ++ filter p ys) (filter-none xs all)
 
-parted : {A : Type 0} (a b c d : List A) (x : A) (r s t : List A) → a ++ (b ++ (c ++ (d ++ x ∷ ((r ++ s) ++ t)))) ≡ (a ++ (b ++ (c ++ (d ++ x ∷ [])))) ++ (r ++ (s ++ t))
-parted a b c d x r s t =
-    let more = r ++ (s ++ t) in
-    ap (λ l. a ++ (b ++ (c ++ (d ++ x ∷ l)))) (append_assoc r s t)
-    ∙ sym (append_assoc a (b ++ (c ++ (d ++ x ∷ []))) more
-    ∙ ap (λ l. a ++ l) (append_assoc b (c ++ (d ++ x ∷ [])) more ∙ ap (λ l. b ++ l) (append_assoc c (d ++ x ∷ []) more ∙ ap (λ l. c ++ l) (append_assoc d (x ∷ []) more))))
+  filter-before : (xs ys : List A) → EachOf Fails ys → filter p (xs ++ ys) ≡ filter p xs
+  filter-before xs ys all = filter-append p xs ys ∙ (ap (λ l. filter p xs ++ l) (filter-none ys all) ∙ append-nil (filter p xs))
 
-draw-no_row : (draw : Draw) → is_row (draw_place draw) ≡ false
-draw-no_row drawn.Full = refl
-draw-no_row (drawn.Public bytes) = refl
+  -- only items of the list of this number pass
+  filter-at : (f : ℕ → List A) (at count number : ℕ) → at ≤ number → number < at + count → ((k : ℕ) → k ≢ number → EachOf Fails (f k)) → filter p (numbered f at count) ≡ filter p (f number)
+  unfolding numbered
+  filter-at f at zero number low high others = absurd (omega (arith, low, high))
+  filter-at f at (suc count) number low high others =
+      elim (cases_lt at number) [
+        | inl less ↦ filter-behind (f at) (numbered f (at + 1) count) (others at (λ e. omega (arith, e, less))) ∙ filter-at f (at + 1) count number (omega (arith, less)) (omega (arith, high)) others
+        | inr not_less ↦
+            let same : at ≡ number = omega (arith, low, not_less) in
+            filter-before (f at) (numbered f (at + 1) count) (behind (at + 1) count (λ k less. others k (λ e. omega (arith, e, less, same)))) ∙ ap (λ (k : ℕ). filter p (f k)) same
+      ]
+    where
+      behind : (from many : ℕ) → ((k : ℕ) → from ≤ k → EachOf Fails (f k)) → EachOf Fails (numbered f from many)
+      behind from many all = of-numbered Fails f from many (λ k low high. all k low)
 
-module _ (P : Placed → Type 0) (posted : Record) (others : (line : Placed) → is_row line ≡ false → P line) where
-  pub base-of : EachOf P (rows_base posted)
-  base-of =
-      of-append P (head posted) _ (plan-of P posted.plan (λ said. others (OfPlan said) refl))
-      (of-append P (commit_places posted) _ (commits-of P posted (λ r e d. others (CodeCommitAt r e d) refl) (λ r i x a b. others (RowCommitAt r i x a b) refl) (λ d. others (SealAt 1 d) refl))
-      (of-append P (blocks posted) _
-      (ballots-of P (λ b. others (Begun b) refl) (λ b r. others (OverAt b r) refl) (λ b r l. others (PaperAt b r l) refl) (λ b code. others (code_place block.Cast b code) refl)
-      (λ b code. others (code_place block.Audited b code) refl) posted.plan posted.ballots)
-      (of-append P (result_places posted) (draw_place posted.draw ∷ [])
-      (results-of P posted (λ r i f b. others (FlagsAt r i f b) refl) (λ r f b. others (PlacesAt r f b) refl) (λ r c n low is. others (TotalAt r c n) refl) (λ d. others (SealAt 2 d) refl))
-      (others (draw_place posted.draw) (draw-no_row posted.draw), tt))))
+  filter-all : (f : ℕ → A) (at count : ℕ) → ((k : ℕ) → p (f k) ≡ true) → filter p (numbered (λ k. f k ∷ []) at count) ≡ map f (range_with_len at count)
+  unfolding numbered
+  filter-all f at zero passes = refl
+  filter-all f at (suc count) passes =
+      ap (λ (b : Bool). cond b (f at ∷ filter p (numbered (λ k. f k ∷ []) (at + 1) count)) (filter p (numbered (λ k. f k ∷ []) (at + 1) count))) (passes at) ∙ ap (λ l. f at ∷ l) (filter-all f (at + 1) count passes)
 
-  end-of : EachOf P (rows_end posted)
-  end-of =
-      of-append P (seal_place 3 posted.seals) (claims posted) (seals-of P 3 posted.seals (λ d. others (SealAt 3 d) refl))
-      (disputes-of P posted.disputes (λ b r c w. others (Disputed b r c w) refl) (λ b r c code. others (CodeAt block.Dispute b r c code) refl))
+-- the items before one, in a list that is made number by number
+split-range : {A : Type 0} (f : ℕ → A) (at count : ℕ) (xs ys : List A) (y : A) → map f (range_with_len at count) ≡ xs ++ y ∷ ys → (k : ℕ) × (xs ≡ map f (range_with_len at k)) × (y ≡ f (at + k))
+split-range f at zero [] ys y e = cc
+split-range f at zero (x ∷ xs) ys y e = cc
+split-range f at (suc count) [] ys y e = (0, refl, (let same : f at ≡ y = cc in sym same) ∙ ap f (let here : at ≡ at + 0 = omega arith in here))
+split-range {A} f at (suc count) (x ∷ xs) ys y e =
+    let rest = split-range f (at + 1) count xs ys y cc in
+    let first : f at ≡ x = cc in (
+      suc rest.0,
+      ap (λ (z : A). z ∷ xs) (sym first) ∙ ap (λ l. f at ∷ l) rest.1,
+      rest.2 ∙ ap f (let next : (at + 1) + rest.0 ≡ at + suc rest.0 = omega arith in next),
+    )
 
-never-good : (bad : List Placed → Placed → Bool) (before lines : List Placed) → EachOf (λ (line : Placed). (front : List Placed) → bad front line ≡ false) lines → Good bad before lines
-never-good bad before [] all = refl
-never-good bad before (line ∷ lines) all = ap (λ (b : Bool). b || late bad (before ++ line ∷ []) lines) (all.0 before) ∙ never-good bad (before ++ line ∷ []) lines all.1
+-- THE ROWS OF AN INSTANCE
 
--- it is enough that the rows are good behind all lines before them
-pub by_rows : (bad : List Placed → Placed → Bool) (posted : Record) → ((line : Placed) → is_row line ≡ false → (front : List Placed) → bad front line ≡ false)
-    → Good bad (rows_base posted) (indexed race_row_places 0 posted.rows) → Good bad [] (places_in posted)
-unfolding places_in
-by_rows bad posted never good =
-    let rows : List Placed = indexed race_row_places 0 posted.rows in
-    subst (λ (l : List Placed). Good bad [] l) (sym (parted (head posted) (commit_places posted) (blocks posted) (result_places posted) (draw_place posted.draw) rows (seal_place 3 posted.seals) (claims posted)))
-    (good-append bad [] (rows_base posted) (rows ++ rows_end posted) (never-good bad [] (rows_base posted) (base-of (λ (line : Placed). (front : List Placed) → bad front line ≡ false) posted never))
-    (good-append bad (rows_base posted) rows (rows_end posted) good
-    (never-good bad (rows_base posted ++ rows) (rows_end posted) (end-of (λ (line : Placed). (front : List Placed) → bad front line ≡ false) posted never))))
+abbrev pub in_instance : ℕ → ℕ → Placed → Bool
+in_instance race instance (RowAt of within number opening) = of == race && within == instance
+in_instance race instance line = false
 
--- FROM LISTS TO NUMBERS
+no-row : (race instance : ℕ) (line : Placed) → part_of line ≢ 6 → in_instance race instance line ≡ false
+no-row race instance (RowAt of within number opening) other = absurd (other refl)
+no-row race instance line other = refl
 
--- the lines of a list that is made number by number
-indexed-range : {A B : Type 0} (g : ℕ → A → List B) (v : ℕ → A) (at count : ℕ) → indexed g at (map v (range_with_len at count)) ≡ numbered (λ k. g k (v k)) at count
-unfolding indexed numbered
-indexed-range g v at zero = refl
-indexed-range g v at (suc count) = ap (λ l. g at (v at) ++ l) (indexed-range g v (at + 1) count)
+draw-row : (race instance : ℕ) (draw : Draw) → in_instance race instance (draw_place draw) ≡ false
+draw-row race instance drawn.Full = refl
+draw-row race instance (drawn.Public bytes) = refl
 
-pub indexed-numbers : {A B : Type 0} (g : ℕ → A → List B) (v : ℕ → A) (count : ℕ) → indexed g 0 (map v (numbers_below count)) ≡ each (λ k. g k (v k)) 0 count
-unfolding numbers_below
-indexed-numbers g v count = indexed-range g v 0 count ∙ ap (numbered (λ k. g k (v k)) 0) (let same : count ≡ count - 0 = omega arith in same)
+module _ (plan : Plan) (seed : List ℕ) (fates : List Told) (draw : Draw) (claims_of : List Claimed) (race instance : ℕ) where
+  abbrev posted : Record
+  posted = posted_record plan seed fates draw claims_of
 
-pub each-same : {A : Type 0} (f g : ℕ → List A) (count : ℕ) → ((k : ℕ) → f k ≡ g k) → each f 0 count ≡ each g 0 count
-each-same f g count same = numbered-same f g 0 (count - 0) (λ k after. same k)
+  abbrev test : Placed → Bool
+  test = in_instance race instance
 
--- rows by race and instance
-unfoldable pub each_row : {A : Type 0} → Plan → (ℕ → ℕ → ℕ → List A) → List A
-each_row plan f = each (λ race. each (λ instance. each (f race instance) 0 (entries_of plan race)) 0 plan.instances) 0 (length plan.races)
+  abbrev pub opened : ℕ → Placed
+  opened number = RowAt race instance number (opened_row plan seed fates draw race instance number)
 
-pub by_row-lines : {A B : Type 0} (plan : Plan) (g : ℕ → ℕ → ℕ → A → List B) (v : ℕ → ℕ → ℕ → A)
-    → indexed (λ race instances. indexed (λ instance items. indexed (g race instance) 0 items) 0 instances) 0 (by_row plan v) ≡ each_row plan (λ race instance row. g race instance row (v race instance row))
-unfolding each_row
-by_row-lines plan g v =
-    indexed-numbers (λ race instances. indexed (λ instance items. indexed (g race instance) 0 items) 0 instances)
-    (λ race. map (λ instance. map (v race instance) (numbers_below (entries_of plan race))) (numbers_below plan.instances)) (length plan.races)
-    ∙ each-same (λ race. indexed (λ instance items. indexed (g race instance) 0 items) 0 (map (λ instance. map (v race instance) (numbers_below (entries_of plan race))) (numbers_below plan.instances)))
-    (λ race. each (λ instance. each (λ row. g race instance row (v race instance row)) 0 (entries_of plan race)) 0 plan.instances) (length plan.races)
-    (λ race. indexed-numbers (λ instance items. indexed (g race instance) 0 items) (λ instance. map (v race instance) (numbers_below (entries_of plan race))) plan.instances
-    ∙ each-same (λ instance. indexed (g race instance) 0 (map (v race instance) (numbers_below (entries_of plan race))))
-    (λ instance. each (λ row. g race instance row (v race instance row)) 0 (entries_of plan race)) plan.instances
-    (λ instance. indexed-numbers (g race instance) (v race instance) (entries_of plan race)))
+  passes : (number : ℕ) → test (opened number) ≡ true
+  passes number = rw (eq-eqb race race refl, eq-eqb instance instance refl) refl
 
-abbrev pub row_place : Plan → List ℕ → List Told → Draw → ℕ → ℕ → ℕ → List Placed
-row_place plan seed fates draw race instance row = RowAt race instance row (opened_row plan seed fates draw race instance row) ∷ []
+  rows-are : race < length plan.races → instance < plan.instances → filter test (places_in posted) ≡ map opened (numbers_below (entries_of plan race))
+  unfolding places_in numbers_below
+  rows-are in_race in_instances =
+      let v : ℕ → ℕ → ℕ → RowOpening = opened_row plan seed fates draw in
+      let rows : ℕ → ℕ → List RowOpening = λ r i. map (v r i) (numbers_below (entries_of plan r)) in
+      let instances : ℕ → List (List RowOpening) = λ r. map (rows r) (numbers_below plan.instances) in
+      let all : List Placed = indexed race_row_places 0 posted.rows in
+      let none : (part : ℕ) (xs : List Placed) → part ≢ 6 → EachOf (IsPart part) xs → EachOf (λ (line : Placed). test line ≡ false) xs
+      = λ part xs other are. of-into (IsPart part) (λ (line : Placed). test line ≡ false) xs (λ line is. no-row race instance line (λ e. other (let same : part ≡ 6 = omega (arith, is, e) in same))) are in
+      filter-behind test (head posted) _ (none 0 (head posted) (λ e. omega (arith, e)) (head_is posted))
+      ∙ (filter-behind test (commit_places posted) _ (none 2 (commit_places posted) (λ e. omega (arith, e)) (commits_are posted))
+      ∙ (filter-behind test (blocks posted) _ (none 3 (blocks posted) (λ e. omega (arith, e)) (blocks_are posted))
+      ∙ (filter-behind test (result_places posted) _ (none 4 (result_places posted) (λ e. omega (arith, e)) (results_are posted))
+      ∙ (filter-behind test (draw_place draw ∷ []) ((all ++ seal_place 3 posted.seals) ++ claims posted) (draw-row race instance draw, tt)
+      ∙ (filter-before test (all ++ seal_place 3 posted.seals) (claims posted) (disputes-of (λ line. test line ≡ false) posted.disputes (λ b r c w. refl) (λ b r c code. refl))
+      ∙ (filter-before test all (seal_place 3 posted.seals) (seals-of (λ line. test line ≡ false) 3 posted.seals (λ d. refl))
+      ∙ (ap (filter test) (indexed-numbers race_row_places instances (length plan.races))
+      ∙ (filter-at test (λ r. race_row_places r (instances r)) 0 (length plan.races - 0) race (omega arith) (omega (arith, in_race))
+      (λ r other. of-entries (λ line. test line ≡ false) (row_place r) (instances r) (λ i n o is. (and_left (r == race) (i == instance) (ne_eqb r race other), tt)))
+      ∙ (ap (filter test) (indexed-numbers (instance_row_places race) (rows race) plan.instances)
+      ∙ (filter-at test (λ i. instance_row_places race i (rows race i)) 0 (plan.instances - 0) instance (omega arith) (omega (arith, in_instances))
+      (λ i other. of-items (λ line. test line ≡ false) (row_place race i) (rows race i) (λ n o is. (and_right (race == race) (i == instance) (ne_eqb i instance other), tt)))
+      ∙ (ap (filter test) (indexed-numbers (row_place race instance) (v race instance) (entries_of plan race))
+      ∙ (filter-all test opened 0 (entries_of plan race - 0) passes ∙ ap (λ (n : ℕ). map opened (range_with_len 0 n)) (let same : entries_of plan race - 0 ≡ entries_of plan race = omega arith in same)))))))))))))
 
-unfoldable pub row_places : Plan → List ℕ → List Told → Draw → List Placed
-row_places plan seed fates draw = each_row plan (row_place plan seed fates draw)
+  -- those before a row are the earlier ones
+  module _ (before : List Placed) (number : ℕ) (opening : RowOpening) (front : IsFront (places_in posted) before (RowAt race instance number opening)) (within : IsHalfOf plan race instance number) where
+    earlier : filter test before ≡ map opened (numbers_below number)
+    unfolding numbers_below
+    earlier =
+        let row : Placed = RowAt race instance number opening in
+        let here : filter test (row ∷ front.rest) ≡ row ∷ filter test front.rest = ap (λ (b : Bool). cond b (row ∷ filter test front.rest) (filter test front.rest)) (passes number) in
+        let parts : map opened (numbers_below (entries_of plan race)) ≡ filter test before ++ row ∷ filter test front.rest
+        = sym (rows-are within.0 within.1) ∙ (ap (filter test) front.is ∙ (filter-append test before (row ∷ front.rest) ∙ ap (λ l. filter test before ++ l) here)) in
+        let split = split-range opened 0 (entries_of plan race) (filter test before) (filter test front.rest) row parts in
+        let same : number ≡ 0 + split.0 = number-of (split.2) in
+        split.1 ∙ ap (λ (n : ℕ). map opened (range_with_len 0 n)) (let all : split.0 ≡ number = omega (arith, same) in all)
+      where
+        number-of : {n k : ℕ} {o p : RowOpening} → RowAt race instance n o ≡ RowAt race instance k p → n ≡ k
+        number-of e = cc
 
--- the rows of a posted record
-pub rows-same : (plan : Plan) (seed : List ℕ) (fates : List Told) (draw : Draw) → indexed race_row_places 0 (by_row plan (opened_row plan seed fates draw)) ≡ row_places plan seed fates draw
-unfolding row_places
-rows-same plan seed fates draw = by_row-lines plan (λ (race instance row : ℕ) (opening : RowOpening). RowAt race instance row opening ∷ []) (opened_row plan seed fates draw)
+    -- a test that only rows of the instance pass
+    pub any-earlier : (p : Placed → Bool) → ((line : Placed) → test line ≡ false → p line ≡ false) → list_any p before ≡ list_any (λ n. p (opened n)) (numbers_below number)
+    any-earlier p only =
+        sym (any-filter p test before ∙ any-same (λ line. test line && p line) p before (λ line. at_test line (test line) refl))
+        ∙ (ap (list_any p) earlier ∙ any-map p opened (numbers_below number))
+      where
+        at_test : (line : Placed) (b : Bool) → test line ≡ b → (b && p line) ≡ p line
+        at_test line true is = refl
+        at_test line false is = sym (only line is)
 
--- THE ROWS BEFORE A ROW: those of earlier races, of earlier instances, and earlier ones of the instance
-
-abbrev pub rows_before : Plan → (ℕ → ℕ → ℕ → List Placed) → ℕ → ℕ → ℕ → List Placed
-rows_before plan f race instance number =
-    numbered (λ r. each (λ i. each (f r i) 0 (entries_of plan r)) 0 plan.instances) 0 race
-    ++ (numbered (λ i. each (f race i) 0 (entries_of plan race)) 0 instance ++ numbered (f race instance) 0 number)
-
--- a kind that holds at each row behind all rows before it, holds of all rows
-pub rows-good : (bad : List Placed → Placed → Bool) (base : List Placed) (plan : Plan) (f : ℕ → ℕ → ℕ → List Placed)
-    → ((race instance number : ℕ) → race < length plan.races → instance < plan.instances → number < entries_of plan race → Good bad (base ++ rows_before plan f race instance number) (f race instance number))
-    → Good bad base (each_row plan f)
-unfolding each_row
-rows-good bad base plan f at_row =
-    good-each bad base (λ r. each (λ i. each (f r i) 0 (entries_of plan r)) 0 plan.instances) (length plan.races - 0)
-    (λ race in_race. good-each bad (base ++ numbered (λ r. each (λ i. each (f r i) 0 (entries_of plan r)) 0 plan.instances) 0 race) (λ i. each (f race i) 0 (entries_of plan race)) (plan.instances - 0)
-    (λ instance in_instances. good-each bad ((base ++ numbered (λ r. each (λ i. each (f r i) 0 (entries_of plan r)) 0 plan.instances) 0 race) ++ numbered (λ i. each (f race i) 0 (entries_of plan race)) 0 instance)
-    (f race instance) (entries_of plan race - 0)
-    (λ number in_rows. subst (λ (l : List Placed). Good bad l (f race instance number))
-    (joined base (numbered (λ r. each (λ i. each (f r i) 0 (entries_of plan r)) 0 plan.instances) 0 race) (numbered (λ i. each (f race i) 0 (entries_of plan race)) 0 instance) (numbered (f race instance) 0 number))
-    (at_row race instance number (omega (arith, in_race)) (omega (arith, in_instances)) (omega (arith, in_rows))))))
-  where
-    joined : (a b c d : List Placed) → a ++ (b ++ (c ++ d)) ≡ ((a ++ b) ++ c) ++ d
-    joined a b c d = sym (append_assoc a b (c ++ d)) ∙ sym (append_assoc (a ++ b) c d)
+    -- a number that only they give
+    pub sum-earlier : (g : Placed → ℕ) → ((line : Placed) → test line ≡ false → g line ≡ 0) → sum_by g before ≡ sum_by (λ n. g (opened n)) (numbers_below number)
+    sum-earlier g only =
+        sym (sum-filter g test before ∙ sum-same (λ line. cond (test line) (g line) 0) g before (λ line. at_test line (test line) refl))
+        ∙ (ap (sum_by g) earlier ∙ sum-map g opened (numbers_below number))
+      where
+        at_test : (line : Placed) (b : Bool) → test line ≡ b → (cond b (g line) 0) ≡ g line
+        at_test line true is = refl
+        at_test line false is = sym (only line is)

@@ -1,50 +1,54 @@
 -- Kind rule: marks within the votes, different codes on a ballot, one code of an entry, and papers without a repeat.
-use Rattle.std.proofs.Common.{◌≡◌, ◌≢◌, ℕ, zero, suc, ◌+◌, ◌-◌, ◌*◌, ◌<◌, ◌≤◌, ◌==◌, nat_le, nat_lt, Bool, true, false, ◌&&◌, ◌||◌, not, cond, inl, inr, List, [], ◌∷◌, ◌++◌, length, map, filter, slice_get, Some, None, refl, sym, subst, ap, ◌∙◌, arith, append_assoc}
+use Rattle.std.proofs.Common.{◌≡◌, ℕ, zero, suc, ◌+◌, ◌*◌, ◌<◌, ◌≤◌, ◌==◌, nat_le, nat_lt, Bool, true, false, ◌&&◌, ◌||◌, not, cond, inl, inr, List, [], ◌∷◌, length, map, slice_get, Option, Some, None, refl, sym, subst, ap, ◌∙◌, arith}
+use Rattle.std.proofs.Math.Bool.{and-false, and-true}
 use Rattle.std.proofs.lemmas.Bool.{and_from, and_left, and_parts, and_right, cases_Bool, cases_eq, eq-eqb, eqb-true, lt-leb, ltb-true, ltb-false, ne_eqb, or_from, false_from_ne_true, true≢false}
 use Rattle.std.proofs.lemmas.List.Sums.{sum_by-append, sum_by-cons}
+use Rattle.std.proofs.lemmas.Option.{same_Some, slice_get_within}
 use Rattle.std.specs.List.{flat_map, list_all, list_any, range_with_len}
+use Rattle.std.specs.Option.{option_map_or}
 use Rattle.std.specs.Prelude.{count_by, sum_by}
+use Rattle.sg_plan.proofs.LimitLaws.{keeps_limits, passes_tests}
 use Rattle.sg_plan.proofs.PlanLaws.{entry_tells}
-use Rattle.sg_plan.specs.Ballots.{ballot_has, ballot_row, candidates_of, entry_at, is_over, marks_in, races_of_ballot, votes_of}
-use Rattle.sg_plan.specs.Limits.{fault_of}
+use Rattle.sg_plan.specs.Ballots.{ballot_has, ballot_row, candidates_of, entry_at, is_over, marks_in, races_of_ballot, races_of_style, style_of_ballot, votes_of}
+use Rattle.sg_plan.specs.Fates.{fate_fits, mark_fits}
+use Rattle.sg_plan.specs.Limits.{KeepsStyle, fault_of}
+use Rattle.sg_plan.specs.declared.plan.Draw.{Draw}
 use Rattle.sg_plan.specs.declared.plan.Fate.{Fate}
 use Rattle.sg_plan.specs.declared.plan.Fate.TheVariants as fate
 use Rattle.sg_plan.specs.declared.plan.Mark.{Mark}
 use Rattle.sg_plan.specs.declared.plan.Plan.{Plan}
+use Rattle.sg_plan.specs.declared.plan.Style.{Style}
 use Rattle.sg_streams.specs.Numbers.{numbers_below}
 use Rattle.sg_tables.proofs.TableLaws.{code_laws, entry_laws, opening_laws}
-use Rattle.sg_tables.specs.Laws.{CodesDiffer}
-use Rattle.sg_tables.specs.Tables.{code_beside, codes_of_row, shown_by}
-use Rattle.sg_forms.specs.Said.{Said}
-use Rattle.sg_forms.specs.Said.Said.{Code, Over, Paper}
+use Rattle.sg_tables.specs.Posts.{marked_columns}
+use Rattle.sg_tables.specs.Tables.{code_beside, codes_of_row, paper_of, shown_by}
 use Rattle.sg_forms.specs.declared.line.CodeLine.{CodeLine}
-use Rattle.sg_grammar.specs.Due.{each}
 use Rattle.sg_grammar.specs.Placed.{Placed}
 use Rattle.sg_grammar.specs.Placed.Placed.{CodeAt, OverAt, PaperAt}
 use Rattle.sg_grammar.specs.declared.state.Block.{Block}
 use Rattle.sg_grammar.specs.declared.state.Block.TheVariants as block
-use Rattle.sg_record.specs.Lines.{cast_race_lines, paper_lines}
-use Rattle.sg_record.specs.declared.record.BlockFate.TheVariants as posted
+use Rattle.sg_record.specs.Places.{code_place, paper_places, places_in}
+use Rattle.sg_record.specs.declared.record.Record.{Record}
 use Rattle.sg_check.specs.Facts.{marks_ballot}
 use Rattle.sg_check.specs.Kinds.{bad_rule, has_repeat, shows_against}
-use Rattle.sg_check.specs.Verdict.{late}
-use Rattle.sg_post.specs.Fits.{fates_fit}
-use Rattle.sg_post.specs.Posted.{audited_codes, code_in_row, code_line_of, told_blocks}
-use Rattle.sg_post.specs.declared.story.Told.{Told}
-use Rattle.sg_accepted.proofs.Late.{Good}
-use Rattle.sg_accepted.proofs.Blocks.{ShowsRight, audit_place, block-sum, fate_places, fates-right, fates_places, of-both, posted-blocks, sum-fates, told_places}
-use Rattle.sg_accepted.proofs.Holds.{holds-below, holds-filter, holds-none}
-use Rattle.sg_accepted.proofs.Posted.{HasBlock, fits-each, told-lines}
-use Rattle.sg_accepted.proofs.Sums.{count-one, sum-at, sum-filter, sum-flat, sum-map, sum-number, sum-others, sum-same, sum-zero, tally}
-use Rattle.sg_record.proofs.PlacedBlocks.{cast_place}
-use Rattle.sg_post.proofs.MarkedCodes.{cast-counted, cast_codes_of, cast_overs, counted_codes, shows_mark}
-use Rattle.sg_plan.specs.Fates.{fate_fits, mark_fits}
-use Rattle.sg_accepted.specs.Unaltered.{IsTrueFate, fate_of}
-use Rattle.sg_grammar.specs.Lines.{is_cast}
+use Rattle.sg_post.proofs.Each.{of-flat, of-passing}
+use Rattle.sg_post.proofs.MarkedCodes.{cast_overs, shows_mark}
+use Rattle.sg_post.proofs.OwnCodes.{HoldsOfOwn, marks-have}
 use Rattle.sg_post.proofs.StoryFits.{fits-later, fits_ballot}
-use Rattle.sg_post.proofs.Each.{EachOf, of-append, of-flat, of-into}
-use Rattle.sg_facts.proofs.Sections.{blocks-of, papers-of}
-use Rattle.sg_post.proofs.OwnCodes.{marks-have}
+use Rattle.sg_post.specs.Fits.{fates_fit}
+use Rattle.sg_post.specs.Posted.{code_in_row, code_line_of, posted_record, told_blocks}
+use Rattle.sg_post.specs.declared.story.Claimed.{Claimed}
+use Rattle.sg_post.specs.declared.story.Told.{Told}
+use Rattle.sg_facts.proofs.Each.{EachOf, of-into, of-none}
+use Rattle.sg_facts.proofs.Rising.{IsFront, is_plain, lines-of, record-good}
+use Rattle.sg_facts.proofs.Sections.{blocks-of}
+use Rattle.sg_accepted.proofs.Any.{any-count, any-place}
+use Rattle.sg_accepted.proofs.Codes.{audited-each, cast_code, codes-each, shows_in, sum-codes, sum-told, told_codes}
+use Rattle.sg_accepted.proofs.Late.{Good}
+use Rattle.sg_accepted.proofs.Posted.{HasBlock, SaysRight, all-right, claims-of, fits-each, of-both, of-parts, told-lines}
+use Rattle.sg_accepted.proofs.Sums.{count-one, sum-filter, sum-flat, sum-map, sum-of, sum-same, sum-zero, tally}
+use Rattle.sg_accepted.proofs.Unaltered.{IsTold, holds-all}
+use Rattle.sg_accepted.specs.Unaltered.{IsTrueFate, fate_of}
 
 -- CODES OF ONE BALLOT
 
@@ -82,9 +86,9 @@ codes-apart plan seed ballot race column other fine within has below less same =
     (sym (code-value plan seed ballot race column has below) ∙ (same ∙ code-value plan seed ballot race other has less)))
 
 -- so no line that is right shows anything against another that is
-against-not : (plan : Plan) (seed : List ℕ) (ballot race column : ℕ) (line : Placed) → fault_of plan ≡ None → race < length plan.races → ballot_has plan ballot race ≡ true → column < candidates_of plan race
-    → ShowsRight plan seed line → shows_against ballot race column (code_line_of plan seed ballot race column).code line ≡ false
-against-not plan seed ballot race column (CodeAt kind of in_race at shown) fine within has below is =
+against-not : (plan : Plan) (seed : List ℕ) (fates : List Told) (draw : Draw) (ballot race column : ℕ) (line : Placed) → fault_of plan ≡ None → race < length plan.races → ballot_has plan ballot race ≡ true → column < candidates_of plan race
+    → SaysRight plan seed fates draw line → shows_against ballot race column (code_line_of plan seed ballot race column).code line ≡ false
+against-not plan seed fates draw ballot race column (CodeAt kind of in_race at shown) fine within has below is =
     elim (cases_eq of ballot) [
       | inr other ↦ and_left (of == ballot && in_race == race) _ (and_left (of == ballot) _ (ne_eqb of ballot other))
       | inl same_ballot ↦
@@ -105,173 +109,30 @@ against-not plan seed ballot race column (CodeAt kind of in_race at shown) fine 
                 ]
           ]
     ]
-against-not plan seed ballot race column line fine within has below is = refl
+against-not plan seed fates draw ballot race column line fine within has below is = refl
 
 -- PAPERS
 
 -- codes that are told apart by their places have no repeat
-no-repeat : (list : List ℕ) → ((i j v : ℕ) → slice_get list i ≡ Some v → slice_get list j ≡ Some v → i ≡ j) → has_repeat list ≡ false
+pub no-repeat : (list : List ℕ) → ((i j v : ℕ) → slice_get list i ≡ Some v → slice_get list j ≡ Some v → i ≡ j) → has_repeat list ≡ false
 no-repeat [] one = refl
 no-repeat (x ∷ list) one =
     or_from (list_any (λ other. other == x) list) (has_repeat list)
-    (false_from_ne_true (list_any (λ other. other == x) list) (λ found. let at = some_place list found in let same : 0 ≡ suc at.0 = one 0 (suc at.0) x refl at.1 in omega (arith, same)))
+    (false_from_ne_true (list_any (λ other. other == x) list)
+    (λ found.
+    let at = any-place (λ other. other == x) list found in
+    let same : 0 ≡ suc at.at = one 0 (suc at.at) x refl (at.found ∙ ap (λ v. Some v) (eqb-true at.item x at.passes)) in
+    omega (arith, same)))
     (no-repeat list (λ i j v here there. let same : suc i ≡ suc j = one (suc i) (suc j) v here there in omega (arith, same)))
-  where
-    some_place : (l : List ℕ) → list_any (λ other. other == x) l ≡ true → (at : ℕ) × (slice_get l at ≡ Some x)
-    some_place [] e = cc
-    some_place (y ∷ l) e =
-        elim (cases_Bool (y == x)) [
-          | inl here ↦ (0, ap (λ v. Some v) (eqb-true y x here))
-          | inr differ ↦ let rest = some_place l (ap (λ (b : Bool). b || list_any (λ other. other == x) l) (sym differ) ∙ e) in (suc rest.0, rest.1)
-        ]
 
 paper-good : (plan : Plan) (seed : List ℕ) (race row : ℕ) → fault_of plan ≡ None → race < length plan.races → has_repeat (codes_of_row plan seed race row) ≡ false
 paper-good plan seed race row fine within =
     let differ = code_laws.differ plan seed race row fine within in
-    no-repeat (codes_of_row plan seed race row)
-    (λ i j v here there.
-    let i_below : i < candidates_of plan race = below differ i v here in
-    let j_below : j < candidates_of plan race = below differ j v there in
-    differ.one i j i_below j_below
-    (let same : Some (code_beside plan seed race row i) ≡ Some (code_beside plan seed race row j) = sym (differ.listed i i_below) ∙ (here ∙ (sym there ∙ differ.listed j j_below)) in cc))
-  where
-    shorter : (l : List ℕ) (k v : ℕ) → slice_get l k ≡ Some v → k < length l
-    shorter [] k v e = cc
-    shorter (x ∷ l) zero v e = omega arith
-    shorter (x ∷ l) (suc k) v e = let rest = shorter l k v e in omega (arith, rest)
-
-    below : CodesDiffer plan seed race row → (k v : ℕ) → slice_get (codes_of_row plan seed race row) k ≡ Some v → k < candidates_of plan race
-    below differ k v e = let short = shorter (codes_of_row plan seed race row) k v e in let many = differ.many in omega (arith, short, many)
-
--- HOW MANY MARKS A BALLOT HAS
-
--- the marks that are posted of a ballot with this fate
-abbrev pub marks_of : Plan → List ℕ → ℕ → ℕ → Fate → ℕ
-marks_of plan seed ballot race (fate.Cast marks) = cond (is_over plan marks race) 0 (count_by (shows_mark plan seed marks ballot race) (numbers_below (candidates_of plan race)))
-marks_of plan seed ballot race what = 0
-
-abbrev counts : ℕ → ℕ → Placed → ℕ
-counts ballot race line = cond (marks_ballot ballot race line) 1 0
-
-race-count : (ballot of race r : ℕ) (codes : List CodeLine) (overs : List ℕ)
-    → sum_by (λ (said : Said). counts ballot race (cast_place of said)) (cast_race_lines codes overs r) ≡ sum_by (λ code. cond (code.race == r) (tally (of == ballot && code.race == race)) 0) codes
-race-count ballot of race r codes overs =
-    let g = λ (said : Said). counts ballot race (cast_place of said) in
-    let over = no_over (list_any (λ over. over == r) overs) in
-    sum_by-append g (map Code (filter (λ code. code.race == r) codes)) (cond (list_any (λ over. over == r) overs) (Over r ∷ []) [])
-    ∙ (ap (λ (n : ℕ). sum_by g (map Code (filter (λ code. code.race == r) codes)) + n) over
-    ∙ (plus-zero (sum_by g (map Code (filter (λ code. code.race == r) codes)))
-    ∙ (sum-map g Code (filter (λ code. code.race == r) codes) ∙ sum-filter (λ code. tally (of == ballot && code.race == race)) (λ code. code.race == r) codes)))
-  where
-    plus-zero : (n : ℕ) → n + 0 ≡ n
-    plus-zero n = omega arith
-
-    no_over : (b : Bool) → sum_by (λ (said : Said). counts ballot race (cast_place of said)) (cond b (Over r ∷ []) []) ≡ 0
-    no_over true = refl
-    no_over false = refl
-
-other-race : (ballot of race r : ℕ) (code : CodeLine) → r ≢ race → (cond (code.race == r) (tally (of == ballot && code.race == race)) 0) ≡ 0
-other-race ballot of race r code other =
-    elim (cases_eq code.race r) [
-      | inl same ↦ rw (ne_eqb code.race race (λ e. other (sym same ∙ e)), and_right (of == ballot) false refl) (both (code.race == r))
-      | inr differ ↦ rw (ne_eqb code.race r differ) refl
-    ]
-  where
-    both : (b : Bool) → cond b (tally false) 0 ≡ 0
-    both true = refl
-    both false = refl
-
--- the codes of a race among a ballot's
-cast-count : (plan : Plan) (seed : List ℕ) (marks : List Mark) (ballot race : ℕ) → race < length plan.races
-    → sum_by (λ code. cond (code.race == race) (tally (ballot == ballot && code.race == race)) 0) (cast_codes_of plan seed marks ballot) ≡ marks_of plan seed ballot race (fate.Cast marks)
-unfolding code_in_row
-cast-count plan seed marks ballot race within =
-    let g = λ (code : CodeLine). cond (code.race == race) (tally (ballot == ballot && code.race == race)) 0 in
-    ap (sum_by g) (cast-counted plan seed marks ballot)
-    ∙ (sum-flat g (counted_codes plan seed marks ballot) (numbers_below (length plan.races))
-    ∙ (sum-number (λ r. sum_by g (counted_codes plan seed marks ballot r)) (length plan.races) race within (λ r below other. elsewhere r other (is_over plan marks r))
-    ∙ here (is_over plan marks race)))
-  where
-    elsewhere : (r : ℕ) → r ≢ race → (b : Bool)
-        → sum_by (λ (code : CodeLine). cond (code.race == race) (tally (ballot == ballot && code.race == race)) 0)
-        (cond b [] (map (code_line_of plan seed ballot r) (filter (shows_mark plan seed marks ballot r) (numbers_below (candidates_of plan r))))) ≡ 0
-    elsewhere r other true = refl
-    elsewhere r other false =
-        sum-map (λ (code : CodeLine). cond (code.race == race) (tally (ballot == ballot && code.race == race)) 0) (code_line_of plan seed ballot r) (filter (shows_mark plan seed marks ballot r) (numbers_below (candidates_of plan r)))
-        ∙ sum-zero (λ column. cond (r == race) (tally (ballot == ballot && r == race)) 0) (filter (shows_mark plan seed marks ballot r) (numbers_below (candidates_of plan r))) (λ column. rw (ne_eqb r race other) refl)
-
-    here : (b : Bool)
-        → sum_by (λ (code : CodeLine). cond (code.race == race) (tally (ballot == ballot && code.race == race)) 0)
-        (cond b [] (map (code_line_of plan seed ballot race) (filter (shows_mark plan seed marks ballot race) (numbers_below (candidates_of plan race)))))
-        ≡ cond b 0 (count_by (shows_mark plan seed marks ballot race) (numbers_below (candidates_of plan race)))
-    here true = refl
-    here false =
-        sum-map (λ (code : CodeLine). cond (code.race == race) (tally (ballot == ballot && code.race == race)) 0) (code_line_of plan seed ballot race) (filter (shows_mark plan seed marks ballot race) (numbers_below (candidates_of plan race)))
-        ∙ (sum-filter (λ column. cond (race == race) (tally (ballot == ballot && race == race)) 0) (shows_mark plan seed marks ballot race) (numbers_below (candidates_of plan race))
-        ∙ sum-same (λ column. cond (shows_mark plan seed marks ballot race column) (cond (race == race) (tally (ballot == ballot && race == race)) 0) 0) (λ column. cond (shows_mark plan seed marks ballot race column) 1 0)
-        (numbers_below (candidates_of plan race)) (λ column. rw (eq-eqb race race refl, eq-eqb ballot ballot refl) refl))
-
--- a block counts its ballot's marks
-told-marks : (plan : Plan) (seed : List ℕ) (ballot race : ℕ) (what : Fate) → race < length plan.races → sum_by (counts ballot race) (told_places plan seed ballot what) ≡ marks_of plan seed ballot race what
-unfolding told_places
-told-marks plan seed ballot race fate.Unused within = refl
-told-marks plan seed ballot race (fate.Cast marks) within =
-    let codes = cast_codes_of plan seed marks ballot in
-    let overs = cast_overs plan marks in
-    let lines = each (cast_race_lines codes overs) 0 (length plan.races) in
-    let g = λ (said : Said). counts ballot race (cast_place ballot said) in
-    let only = sum-at g (cast_race_lines codes overs) 0 (length plan.races - 0) race (omega arith) (omega (arith, within))
-    (λ r a b other. race-count ballot ballot race r codes overs ∙ sum-zero (λ (code : CodeLine). cond (code.race == r) (tally (ballot == ballot && code.race == race)) 0) codes (λ code. other-race ballot ballot race r code other)) in
-    block-sum (counts ballot race) ballot (cast_place ballot) lines refl
-    ∙ (only ∙ (race-count ballot ballot race race codes overs ∙ cast-count plan seed marks ballot race within))
-told-marks plan seed ballot race fate.Spoiled within = refl
-told-marks plan seed ballot race (fate.Audited paper) within =
-    let lines = paper_lines (races_of_ballot plan ballot) paper ++ map Code (audited_codes plan seed ballot) in
-    block-sum (counts ballot race) ballot (audit_place ballot) lines refl ∙ sum-zero (λ (said : Said). counts ballot race (audit_place ballot said)) lines never
-  where
-    never : (said : Said) → counts ballot race (audit_place ballot said) ≡ 0
-    never (Paper r list) = refl
-    never (Code code) = refl
-    never said = refl
-told-marks plan seed ballot race fate.Voided within = at_version (plan.version == 2)
-  where
-    at_version : (b : Bool) → sum_by (counts ballot race) (fate_places plan ballot (cond b posted.Voided posted.Spoiled) ++ []) ≡ 0
-    at_version true = refl
-    at_version false = refl
-
--- and none of another's
-told-others : (plan : Plan) (seed : List ℕ) (ballot race other : ℕ) (what : Fate) → other ≢ ballot → sum_by (counts ballot race) (told_places plan seed other what) ≡ 0
-unfolding told_places
-told-others plan seed ballot race other fate.Unused differ = refl
-told-others plan seed ballot race other (fate.Cast marks) differ =
-    let lines = each (cast_race_lines (cast_codes_of plan seed marks other) (cast_overs plan marks)) 0 (length plan.races) in
-    block-sum (counts ballot race) other (cast_place other) lines refl ∙ sum-zero (λ (said : Said). counts ballot race (cast_place other said)) lines never
-  where
-    never : (said : Said) → counts ballot race (cast_place other said) ≡ 0
-    never (Code code) = rw (ne_eqb other ballot differ) refl
-    never (Over r) = refl
-    never said = refl
-told-others plan seed ballot race other fate.Spoiled differ = refl
-told-others plan seed ballot race other (fate.Audited paper) differ =
-    let lines = paper_lines (races_of_ballot plan other) paper ++ map Code (audited_codes plan seed other) in
-    block-sum (counts ballot race) other (audit_place other) lines refl ∙ sum-zero (λ (said : Said). counts ballot race (audit_place other said)) lines never
-  where
-    never : (said : Said) → counts ballot race (audit_place other said) ≡ 0
-    never (Paper r list) = refl
-    never (Code code) = refl
-    never said = refl
-told-others plan seed ballot race other fate.Voided differ = at_version (plan.version == 2)
-  where
-    at_version : (b : Bool) → sum_by (counts ballot race) (fate_places plan other (cond b posted.Voided posted.Spoiled) ++ []) ≡ 0
-    at_version true = refl
-    at_version false = refl
-
--- in all blocks, a ballot's marks in a race are those of its fate
-pub fates-marks : (plan : Plan) (seed : List ℕ) (last : ℕ) (fates : List Told) (ballot race : ℕ) → race < length plan.races → fates_fit plan last fates ≡ true
-    → count_by (marks_ballot ballot race) (fates_places plan seed fates) ≡ marks_of plan seed ballot race (fate_of fates ballot)
-fates-marks plan seed last fates ballot race within fit =
-    sum-fates plan seed (counts ballot race) ballot (λ other what differ. told-others plan seed ballot race other what differ) last fates fit
-    ∙ told-marks plan seed ballot race (fate_of fates ballot) within
+    let codes : List ℕ = codes_of_row plan seed race row in
+    let below : (k v : ℕ) → slice_get codes k ≡ Some v → k < candidates_of plan race = λ k v e. omega (arith, slice_get_within codes k v e, differ.many) in
+    no-repeat codes
+    (λ i j v here there. differ.one i j (below i v here) (below j v there)
+    (same_Some (code_beside plan seed race row i) (code_beside plan seed race row j) (sym (differ.listed i (below i v here)) ∙ (here ∙ (sym there ∙ differ.listed j (below j v there))))))
 
 -- WITHIN THE VOTES
 
@@ -311,30 +172,62 @@ marks-enough plan seed ballot race (mark ∷ marks) has =
         (sym (eqb-true mark.candidate (shown_by plan seed race (entry_at plan race ballot j)) p) ∙ eqb-true mark.candidate (shown_by plan seed race (entry_at plan race ballot k)) q))
     at_race false e = let none = sum-zero (λ (column : ℕ). 0) (range_with_len 0 (candidates_of plan race)) (λ column. refl) in omega (arith, none)
 
+-- the marks that are posted of a ballot with this fate
+abbrev marks_posted : Plan → List ℕ → ℕ → ℕ → Fate → ℕ
+marks_posted plan seed ballot race what = count_by (marks_ballot ballot race) (told_codes plan seed race ballot what)
+
+cast-count : (plan : Plan) (seed : List ℕ) (ballot race : ℕ) (marks : List Mark)
+    → marks_posted plan seed ballot race (fate.Cast marks) ≡ count_by (λ column. shows_mark plan seed marks ballot race column && not (is_over plan marks race)) (numbers_below (candidates_of plan race))
+cast-count plan seed ballot race marks =
+    let g : Placed → ℕ = λ line. tally (marks_ballot ballot race line) in
+    let p : ℕ → Bool = λ column. shows_mark plan seed marks ballot race column && not (is_over plan marks race) in
+    let columns : List ℕ = numbers_below (candidates_of plan race) in
+    sum-map g (cast_code plan seed race ballot) (marked_columns plan seed race (ballot_row plan race ballot) (fate.Cast marks))
+    ∙ (sum-filter (λ c. g (cast_code plan seed race ballot c)) p columns
+    ∙ sum-same (λ c. cond (p c) (g (cast_code plan seed race ballot c)) 0) (λ c. tally (p c)) columns (λ c. rw (eq-eqb ballot ballot refl, eq-eqb race race refl) refl))
+
+over-none : (plan : Plan) (seed : List ℕ) (ballot race : ℕ) (marks : List Mark) → is_over plan marks race ≡ true → marks_posted plan seed ballot race (fate.Cast marks) ≡ 0
+over-none plan seed ballot race marks over =
+    cast-count plan seed ballot race marks
+    ∙ sum-zero (λ column. tally (shows_mark plan seed marks ballot race column && not (is_over plan marks race))) (numbers_below (candidates_of plan race))
+    (λ column. rw over (ap tally (and-false (shows_mark plan seed marks ballot race column))))
+
 -- what is posted of a ballot is within its votes
-pub marks-within : (plan : Plan) (seed : List ℕ) (ballot race : ℕ) (what : Fate) → fits_ballot plan ballot what → marks_of plan seed ballot race what ≤ votes_of plan race
-marks-within plan seed ballot race (fate.Cast marks) fit = at_over (is_over plan marks race) refl
+marks-within : (plan : Plan) (seed : List ℕ) (ballot race : ℕ) (what : Fate) → fits_ballot plan ballot what → marks_posted plan seed ballot race what ≤ votes_of plan race
+marks-within plan seed ballot race (fate.Cast marks) fit =
+    let counted = cast-count plan seed ballot race marks in
+    let few = at_over (is_over plan marks race) refl in
+    omega (arith, counted, few)
   where
-    at_over : (b : Bool) → is_over plan marks race ≡ b → (cond b 0 (count_by (shows_mark plan seed marks ballot race) (numbers_below (candidates_of plan race)))) ≤ votes_of plan race
-    at_over true over = omega arith
+    none : (p : ℕ → Bool) → ((column : ℕ) → p column ≡ false) → count_by p (numbers_below (candidates_of plan race)) ≤ votes_of plan race
+    none p fails = let zero = sum-zero (λ column. tally (p column)) (numbers_below (candidates_of plan race)) (λ column. ap tally (fails column)) in omega (arith, zero)
+
+    at_over : (b : Bool) → is_over plan marks race ≡ b → count_by (λ column. shows_mark plan seed marks ballot race column && not b) (numbers_below (candidates_of plan race)) ≤ votes_of plan race
+    at_over true over = none (λ column. shows_mark plan seed marks ballot race column && false) (λ column. and-false (shows_mark plan seed marks ballot race column))
     at_over false over =
         let few = ltb-false (votes_of plan race) (marks_in race marks) over in
         elim (cases_Bool (ballot_has plan ballot race)) [
-          | inl has ↦ let enough = marks-enough plan seed ballot race marks has in omega (arith, few, enough)
+          | inl has ↦
+              let enough = marks-enough plan seed ballot race marks has in
+              let same = sum-same (λ column. tally (shows_mark plan seed marks ballot race column && true)) (λ column. tally (shows_mark plan seed marks ballot race column)) (numbers_below (candidates_of plan race))
+              (λ column. ap tally (and-true (shows_mark plan seed marks ballot race column))) in
+              omega (arith, few, enough, same)
           | inr lacks ↦
               let fits = and_parts (list_all (mark_fits plan (races_of_ballot plan ballot)) marks) _ fit in
-              let none = sum-zero (λ (column : ℕ). cond (shows_mark plan seed marks ballot race column) 1 0) (numbers_below (candidates_of plan race))
-              (λ column. ap tally (false_from_ne_true (shows_mark plan seed marks ballot race column)
-              (λ shows. true≢false (sym (marks-have plan ballot race (shown_by plan seed race (entry_at plan race ballot column)) marks fits.0 shows) ∙ lacks)))) in
-              omega (arith, none)
+              none (λ column. shows_mark plan seed marks ballot race column && true)
+              (λ column. and_left (shows_mark plan seed marks ballot race column) true
+              (false_from_ne_true (shows_mark plan seed marks ballot race column)
+              (λ shows. true≢false (sym (marks-have plan ballot race (shown_by plan seed race (entry_at plan race ballot column)) marks fits.0 shows) ∙ lacks))))
         ]
+marks-within plan seed ballot race (fate.Audited paper) fit =
+    let none = sum-of (λ line. tally (marks_ballot ballot race line)) (told_codes plan seed race ballot (fate.Audited paper)) (audited-each (λ line. tally (marks_ballot ballot race line) ≡ 0) plan seed race ballot (λ column. refl) paper) in
+    omega (arith, none)
 marks-within plan seed ballot race fate.Unused fit = omega arith
 marks-within plan seed ballot race fate.Spoiled fit = omega arith
-marks-within plan seed ballot race (fate.Audited paper) fit = omega arith
 marks-within plan seed ballot race fate.Voided fit = omega arith
 
 -- the fate that is told of a ballot fits it
-pub told-fits : (plan : Plan) (last : ℕ) (fates : List Told) (ballot : ℕ) → fates_fit plan last fates ≡ true → fits_ballot plan ballot (fate_of fates ballot)
+told-fits : (plan : Plan) (last : ℕ) (fates : List Told) (ballot : ℕ) → fates_fit plan last fates ≡ true → fits_ballot plan ballot (fate_of fates ballot)
 told-fits plan last [] ballot fit = refl
 told-fits plan last (told ∷ fates) ballot fit =
     let parts = and_parts (nat_lt last told.ballot && fate_fits plan told.ballot told.fate) (fates_fit plan told.ballot fates) fit in
@@ -345,140 +238,135 @@ told-fits plan last (told ∷ fates) ballot fit =
     ]
 
 -- each that is told is that of its ballot
-abbrev pub IsToldAt : ℕ → List Told → Told → Type 0
+abbrev IsToldAt : ℕ → List Told → Told → Type 0
 IsToldAt last fates told = (last < told.ballot) × (fate_of fates told.ballot ≡ told.fate)
 
-pub told-is : (plan : Plan) (last : ℕ) (fates : List Told) → fates_fit plan last fates ≡ true → EachOf (IsToldAt last fates) fates
+told-is : (plan : Plan) (last : ℕ) (fates : List Told) → fates_fit plan last fates ≡ true → EachOf (IsToldAt last fates) fates
 told-is plan last [] fit = tt
 told-is plan last (told ∷ fates) fit =
     let parts = and_parts (nat_lt last told.ballot && fate_fits plan told.ballot told.fate) (fates_fit plan told.ballot fates) fit in
-    let later = fits-later plan last told.ballot told.fate parts.0 in
-    let less : last < told.ballot = ltb-true last told.ballot (and_parts (nat_lt last told.ballot) _ later.0).0 in (
+    let less : last < told.ballot = ltb-true last told.ballot (and_parts (nat_lt last told.ballot) (fate_fits plan told.ballot told.fate) parts.0).0 in (
       (less, rw (eq-eqb told.ballot told.ballot refl) refl),
       of-into (IsToldAt told.ballot fates) (IsToldAt last (told ∷ fates)) fates
           (λ other is. (omega (arith, less, is.0), rw (ne_eqb told.ballot other.ballot (λ e. let low = is.0 in omega (arith, e, low))) is.1))
           (told-is plan told.ballot fates parts.1),
     )
 
--- RACES THAT ARE OVER
+-- WHAT STANDS ON LINES OF BLOCKS
 
--- where a line says that a race is over, no mark of the ballot there is posted
-abbrev pub OverRight : Plan → List ℕ → List Told → Placed → Type 0
-OverRight plan seed fates (OverAt ballot race) = (race < length plan.races) × (marks_of plan seed ballot race (fate_of fates ballot) ≡ 0)
-OverRight plan seed fates line = Unit {0}
+-- a paper is its ballot row's, and where a race is over no mark of the ballot there is posted
+abbrev pub BlockRight : Plan → List ℕ → List Told → Placed → Type 0
+BlockRight plan seed fates (OverAt ballot race) = (race < length plan.races) × (marks_posted plan seed ballot race (fate_of fates ballot) ≡ 0)
+BlockRight plan seed fates (PaperAt ballot race list) = (race < length plan.races) × (list ≡ codes_of_row plan seed race (ballot_row plan race ballot))
+BlockRight plan seed fates line = Unit {0}
 
--- the races that are over on a ballot with this fate
-overs-right : (plan : Plan) (seed : List ℕ) (fates : List Told) (ballot : ℕ) (marks : List Mark) → fate_of fates ballot ≡ fate.Cast marks → EachOf (λ (race : ℕ). OverRight plan seed fates (OverAt ballot race)) (cast_overs plan marks)
-overs-right plan seed fates ballot marks is =
-    holds-filter (λ k. k < length plan.races) (λ (race : ℕ). OverRight plan seed fates (OverAt ballot race)) (is_over plan marks) (numbers_below (length plan.races)) (λ k below passes. (below, rw (is, passes) refl))
-    (holds-below (length plan.races))
-
-pub fates-over : (plan : Plan) (seed : List ℕ) (last : ℕ) (fates : List Told) → fault_of plan ≡ None → fates_fit plan last fates ≡ true → EachOf (OverRight plan seed fates) (fates_places plan seed fates)
-fates-over plan seed last fates fine fit =
-    let P : Placed → Type 0 = OverRight plan seed fates in
-    subst (λ (l : List Placed). EachOf P l) (posted-blocks plan seed fates)
-    (blocks-of P (λ ballot. tt) plan (flat_map (told_blocks plan seed) fates)
-    (of-flat (HasBlock P plan) (λ (told : Told). fits_ballot plan told.ballot told.fate × IsToldAt last fates told) (told_blocks plan seed) fates
-    (λ told is. told-lines P plan seed fine (λ kind ballot race column has within below. tt) told.ballot told.fate is.0 (λ marks cast. overs-right plan seed fates told.ballot marks (is.1.1 ∙ cast))
-    (λ paper audited. papers-of P (λ ballot race list. tt) told.ballot (races_of_ballot plan told.ballot) paper))
-    (of-both (λ (told : Told). fits_ballot plan told.ballot told.fate) (IsToldAt last fates) fates (fits-each plan last fates fit) (told-is plan last fates fit))))
-
--- THE KIND
-
--- what it asks of all lines: in each race a ballot's marks are those of its fate
-abbrev pub RuleFacts : Plan → List ℕ → List Told → List Placed → Type 0
-RuleFacts plan seed fates whole = (ballot race : ℕ) → race < length plan.races → count_by (marks_ballot ballot race) whole ≡ marks_of plan seed ballot race (fate_of fates ballot)
-
-none-marked : (ballot race : ℕ) (lines : List Placed) → count_by (marks_ballot ballot race) lines ≡ 0 → list_any (marks_ballot ballot race) lines ≡ false
-none-marked ballot race [] none = refl
-none-marked ballot race (line ∷ lines) none =
-    let first = sum_by-cons (λ (l : Placed). cond (marks_ballot ballot race l) 1 0) line lines in
-    elim (cases_Bool (marks_ballot ballot race line)) [
-      | inl marks ↦ let here : tally (marks_ballot ballot race line) ≡ tally true = ap tally marks in absurd (omega (arith, first, here, none))
-      | inr not_here ↦ or_from (marks_ballot ballot race line) _ not_here (none-marked ballot race lines (omega (arith, first, none)))
-    ]
-
--- a cast ballot's code has fewer marks before it than all lines have
-few-before : (plan : Plan) (seed : List ℕ) (last : ℕ) (fates : List Told) (before lines : List Placed) (kind : Block) (ballot race column : ℕ) (code : CodeLine) → fates_fit plan last fates ≡ true
-    → RuleFacts plan seed fates (before ++ CodeAt kind ballot race column code ∷ lines) → race < length plan.races
-    → (is_cast kind && nat_le (votes_of plan race) (count_by (marks_ballot ballot race) before)) ≡ false
-few-before plan seed last fates before lines block.Cast ballot race column code fit facts within =
-    let here = CodeAt block.Cast ballot race column code in
-    let total = facts ballot race within in
-    let limit = marks-within plan seed ballot race (fate_of fates ballot) (told-fits plan last fates ballot fit) in
-    let split = sum_by-append (λ (l : Placed). cond (marks_ballot ballot race l) 1 0) before (here ∷ lines) in
-    let first = sum_by-cons (λ (l : Placed). cond (marks_ballot ballot race l) 1 0) here lines in
-    let marked : tally (marks_ballot ballot race here) ≡ tally true = ap tally (and_from (ballot == ballot) (race == race) (eq-eqb ballot ballot refl) (eq-eqb race race refl)) in
-    lt-leb (votes_of plan race) (count_by (marks_ballot ballot race) before) (omega (arith, total, limit, split, first, marked))
-few-before plan seed last fates before lines block.Audited ballot race column code fit facts within = refl
-few-before plan seed last fates before lines block.Dispute ballot race column code fit facts within = refl
-
--- a line that is right is not bad in kind rule, where lines behind it are among all lines
-rule-line : (plan : Plan) (seed : List ℕ) (last : ℕ) (fates : List Told) (before lines : List Placed) (line : Placed) → fault_of plan ≡ None → fates_fit plan last fates ≡ true
-    → RuleFacts plan seed fates (before ++ line ∷ lines) → EachOf (ShowsRight plan seed) before → ShowsRight plan seed line → OverRight plan seed fates line → bad_rule plan before line ≡ false
-rule-line plan seed last fates before lines (CodeAt kind ballot race column code) fine fit facts all right over =
-    or_from (is_cast kind && nat_le (votes_of plan race) (count_by (marks_ballot ballot race) before)) (list_any (shows_against ballot race column code.code) before)
-    (few-before plan seed last fates before lines kind ballot race column code fit facts right.0)
-    (rw right.3 (holds-none (ShowsRight plan seed) (shows_against ballot race column (code_line_of plan seed ballot race column).code) before
-    (λ line is. against-not plan seed ballot race column line fine right.0 right.1 right.2 is) all))
-rule-line plan seed last fates before lines (OverAt ballot race) fine fit facts all right over =
-    none-marked ballot race before
-    (let total = facts ballot race over.0 in
-    let none = over.1 in
-    let split = sum_by-append (λ (l : Placed). cond (marks_ballot ballot race l) 1 0) before (OverAt ballot race ∷ lines) in
-    omega (arith, total, none, split))
-rule-line plan seed last fates before lines (PaperAt ballot race list) fine fit facts all right over = rw right.1 (paper-good plan seed race (ballot_row plan race ballot) fine right.0)
-rule-line plan seed last fates before lines line fine fit facts all right over = refl
-
--- all lines behind some
-pub rules-good : (plan : Plan) (seed : List ℕ) (last : ℕ) (fates : List Told) (before lines : List Placed) → fault_of plan ≡ None → fates_fit plan last fates ≡ true
-    → RuleFacts plan seed fates (before ++ lines) → EachOf (ShowsRight plan seed) before → EachOf (ShowsRight plan seed) lines → EachOf (OverRight plan seed fates) lines → Good (bad_rule plan) before lines
-rules-good plan seed last fates before [] fine fit facts all right over = refl
-rules-good plan seed last fates before (line ∷ lines) fine fit facts all right over =
-    or_from (bad_rule plan before line) (late (bad_rule plan) (before ++ line ∷ []) lines)
-    (rule-line plan seed last fates before lines line fine fit facts all right.0 over.0)
-    (rules-good plan seed last fates (before ++ line ∷ []) lines fine fit (subst (RuleFacts plan seed fates) (sym (append_assoc before (line ∷ []) lines)) facts)
-    (of-append (ShowsRight plan seed) before (line ∷ []) all (right.0, tt)) right.1 over.1)
-
--- no line of a cast ballot's block
-abbrev pub no_marks : Placed → Bool
-no_marks (CodeAt kind ballot race column code) = not (is_cast kind)
-no_marks (OverAt ballot race) = false
-no_marks line = true
-
-no_count : (ballot race : ℕ) (line : Placed) → no_marks line ≡ true → counts ballot race line ≡ 0
-no_count ballot race (CodeAt block.Cast of in_race column code) is = cc
-no_count ballot race (CodeAt block.Audited of in_race column code) is = refl
-no_count ballot race (CodeAt block.Dispute of in_race column code) is = refl
-no_count ballot race (OverAt of in_race) is = cc
-no_count ballot race line is = refl
-
-no-overs : (plan : Plan) (seed : List ℕ) (fates : List Told) (lines : List Placed) → list_all no_marks lines ≡ true → EachOf (OverRight plan seed fates) lines
-no-overs plan seed fates [] all = tt
-no-overs plan seed fates (line ∷ lines) all =
-    let parts = and_parts (no_marks line) (list_all no_marks lines) all in
-    (one line parts.0, no-overs plan seed fates lines parts.1)
+races-within : (plan : Plan) (ballot : ℕ) → fault_of plan ≡ None → EachOf (λ race. race < length plan.races) (races_of_ballot plan ballot)
+races-within plan ballot fine = at_style (style_of_ballot plan ballot)
   where
-    one : (l : Placed) → no_marks l ≡ true → OverRight plan seed fates l
-    one (OverAt ballot race) is = cc
-    one l is = tt
+    at_place : (styles : List Style) (k : ℕ) → EachOf (KeepsStyle (length plan.races)) styles → EachOf (λ race. race < length plan.races) (option_map_or (λ (s : Style). s.races) (slice_get styles k) [])
+    at_place [] k all = tt
+    at_place (style ∷ styles) zero all = holds-all (λ race. race < length plan.races) style.races all.0.races
+    at_place (style ∷ styles) (suc k) all = at_place styles k all.1
 
--- the lines of a posted record: no line of a cast ballot's block but in the blocks, and all of them show what the tables say
-pub rule-record : (plan : Plan) (seed : List ℕ) (last : ℕ) (fates : List Told) (base rest : List Placed) → fault_of plan ≡ None → fates_fit plan last fates ≡ true
-    → EachOf (λ told. IsTrueFate plan seed told.ballot told.fate) fates → list_all no_marks base ≡ true → list_all no_marks rest ≡ true
-    → EachOf (ShowsRight plan seed) base → EachOf (ShowsRight plan seed) rest → Good (bad_rule plan) [] (base ++ (fates_places plan seed fates ++ rest))
-rule-record plan seed last fates base rest fine fit true_fates quiet_base quiet_rest right_base right_rest =
-    let blocks = fates_places plan seed fates in
-    let facts : RuleFacts plan seed fates (base ++ (blocks ++ rest)) =
-    λ ballot race within.
-    let g = counts ballot race in
-    let a = sum-others g no_marks (no_count ballot race) base quiet_base in
-    let b = fates-marks plan seed last fates ballot race within fit in
-    let c = sum-others g no_marks (no_count ballot race) rest quiet_rest in
-    let d = sum_by-append g base (blocks ++ rest) in
-    let e = sum_by-append g blocks rest in
-    omega (arith, a, b, c, d, e) in
-    rules-good plan seed last fates [] (base ++ (blocks ++ rest)) fine fit facts tt
-    (of-append (ShowsRight plan seed) base (blocks ++ rest) right_base (of-append (ShowsRight plan seed) blocks rest (fates-right plan seed last fates fine fit true_fates) right_rest))
-    (of-append (OverRight plan seed fates) base (blocks ++ rest) (no-overs plan seed fates base quiet_base)
-    (of-append (OverRight plan seed fates) blocks rest (fates-over plan seed last fates fine fit) (no-overs plan seed fates rest quiet_rest)))
+    at_style : (o : Option ℕ) → EachOf (λ race. race < length plan.races) (option_map_or (races_of_style plan) o [])
+    at_style None = tt
+    at_style (Some style) = at_place plan.styles style (holds-all (KeepsStyle (length plan.races)) plan.styles (keeps_limits plan (passes_tests plan fine)).styles)
+
+module _ (plan : Plan) (seed : List ℕ) (fates : List Told) (draw : Draw) (claims : List Claimed) (told : IsTold plan seed fates claims) where
+  abbrev posted : Record
+  posted = posted_record plan seed fates draw claims
+
+  abbrev lines : List Placed
+  lines = places_in posted
+
+  plain-right : (line : Placed) → is_plain line ≡ true → BlockRight plan seed fates line
+  plain-right (OverAt ballot race) is = cc
+  plain-right (PaperAt ballot race list) is = cc
+  plain-right line is = tt
+
+  papers-right : (ballot : ℕ) (races : List ℕ) → EachOf (λ race. race < length plan.races) races
+      → EachOf (BlockRight plan seed fates) (paper_places ballot races (map (λ race. codes_of_row plan seed race (ballot_row plan race ballot)) races))
+  papers-right ballot [] all = tt
+  papers-right ballot (race ∷ races) all = ((all.0, refl), papers-right ballot races all.1)
+
+  true-paper : (ballot : ℕ) (paper : List (List ℕ)) → paper ≡ paper_of plan seed ballot → EachOf (BlockRight plan seed fates) (paper_places ballot (races_of_ballot plan ballot) paper)
+  unfolding paper_of
+  true-paper ballot paper is = rw is (papers-right ballot (races_of_ballot plan ballot) (races-within plan ballot told.fine))
+
+  overs-right : (ballot : ℕ) (marks : List Mark) → fate_of fates ballot ≡ fate.Cast marks → EachOf (λ (race : ℕ). BlockRight plan seed fates (OverAt ballot race)) (cast_overs plan marks)
+  unfolding numbers_below
+  overs-right ballot marks is =
+      of-passing (λ (race : ℕ). BlockRight plan seed fates (OverAt ballot race)) (is_over plan marks) 0 (length plan.races)
+      (λ race below over. (omega (arith, below), ap (marks_posted plan seed ballot race) is ∙ over-none plan seed ballot race marks over))
+
+  pub blocks-right : EachOf (BlockRight plan seed fates) lines
+  blocks-right =
+      let P : Placed → Type 0 = BlockRight plan seed fates in
+      let own : (kind : Block) (ballot : ℕ) → HoldsOfOwn (λ (code : CodeLine). P (code_place kind ballot code)) plan seed ballot = λ kind ballot race column has within below. tt in
+      lines-of P posted plain-right
+      (blocks-of P (λ ballot. tt) plan (flat_map (told_blocks plan seed) fates)
+      (of-flat (HasBlock P plan) (λ (one : Told). (fits_ballot plan one.ballot one.fate × IsTrueFate plan seed one.ballot one.fate) × IsToldAt 0 fates one) (told_blocks plan seed) fates
+      (λ one is. told-lines P plan seed told.fine own one.ballot one.fate is.0.0 (λ marks cast. overs-right one.ballot marks (is.1.1 ∙ cast))
+      (λ paper audited. true-paper one.ballot paper (subst (IsTrueFate plan seed one.ballot) audited is.0.1)))
+      (of-both (λ (one : Told). fits_ballot plan one.ballot one.fate × IsTrueFate plan seed one.ballot one.fate) (IsToldAt 0 fates) fates
+      (of-both (λ (one : Told). fits_ballot plan one.ballot one.fate) (λ (one : Told). IsTrueFate plan seed one.ballot one.fate) fates (fits-each plan 0 fates told.fit) told.papers) (told-is plan 0 fates told.fit))))
+      (λ race candidate count within there. tt) (λ race instance number opening there. tt)
+      (claims-of P plan seed told.fine own (λ ballot race code word. tt) claims told.claimed)
+
+  -- THE KIND
+
+  -- in each race a ballot's marks are those of its fate
+  marks-are : (ballot race : ℕ) → race < length plan.races → count_by (marks_ballot ballot race) lines ≡ marks_posted plan seed ballot race (fate_of fates ballot)
+  marks-are ballot race within =
+      let g : Placed → ℕ = λ line. tally (marks_ballot ballot race line) in
+      sum-codes plan seed race within g only fates draw claims
+      ∙ (sum-flat g (λ (one : Told). told_codes plan seed race one.ballot one.fate) fates
+      ∙ sum-told plan (λ of what. sum_by g (told_codes plan seed race of what)) ballot
+      (λ other what differ. sum-of g (told_codes plan seed race other what)
+      (codes-each (λ line. g line ≡ 0) plan seed race other (λ column. refl) (λ column. ap (λ (b : Bool). tally (b && race == race)) (ne_eqb other ballot differ)) what)) refl 0 fates told.fit)
+    where
+      only : (line : Placed) → shows_in race line ≡ false → tally (marks_ballot ballot race line) ≡ 0
+      only (CodeAt block.Cast of in_race column code) is = ap tally (and_right (of == ballot) (in_race == race) is)
+      only (CodeAt block.Audited of in_race column code) is = refl
+      only (CodeAt block.Dispute of in_race column code) is = refl
+      only line is = refl
+
+  -- what is marked before a line is no more
+  marks-split : (before : List Placed) (line : Placed) → IsFront lines before line → (ballot race : ℕ) → race < length plan.races
+      → count_by (marks_ballot ballot race) before + tally (marks_ballot ballot race line) ≤ marks_posted plan seed ballot race (fate_of fates ballot)
+  marks-split before line front ballot race within =
+      let g : Placed → ℕ = λ l. tally (marks_ballot ballot race l) in
+      omega (arith, marks-are ballot race within, ap (sum_by g) front.is, sum_by-append g before (line ∷ front.rest), sum_by-cons g line front.rest)
+
+  abbrev IsRight : Placed → Type 0
+  IsRight line = SaysRight plan seed fates draw line × BlockRight plan seed fates line
+
+  all-both : EachOf IsRight lines
+  all-both = of-both (SaysRight plan seed fates draw) (BlockRight plan seed fates) lines (all-right plan seed fates draw claims told.fine told.fit told.claimed) blocks-right
+
+  code-good : (before : List Placed) (kind : Block) (ballot race column : ℕ) (code : CodeLine) → IsFront lines before (CodeAt kind ballot race column code) → IsRight (CodeAt kind ballot race column code)
+      → list_any (shows_against ballot race column code.code) before ≡ false
+  code-good before kind ballot race column code front right =
+      let all : EachOf IsRight before = (of-parts IsRight before (CodeAt kind ballot race column code ∷ front.rest) (subst (λ (l : List Placed). EachOf IsRight l) front.is all-both)).0 in
+      rw right.0.3 (of-none (shows_against ballot race column (code_line_of plan seed ballot race column).code) before
+      (of-into IsRight (λ (line : Placed). shows_against ballot race column (code_line_of plan seed ballot race column).code line ≡ false) before
+      (λ line is. against-not plan seed fates draw ballot race column line told.fine right.0.0 right.0.1 right.0.2 is.0) all))
+
+  rule-good : (before : List Placed) (line : Placed) → IsFront lines before line → IsRight line → bad_rule plan before line ≡ false
+  rule-good before (CodeAt block.Cast ballot race column code) front right =
+      let split = marks-split before (CodeAt block.Cast ballot race column code) front ballot race right.0.0 in
+      let limit = marks-within plan seed ballot race (fate_of fates ballot) (told-fits plan 0 fates ballot told.fit) in
+      let marked : tally (marks_ballot ballot race (CodeAt block.Cast ballot race column code)) ≡ tally true = ap tally (and_from (ballot == ballot) (race == race) (eq-eqb ballot ballot refl) (eq-eqb race race refl)) in
+      or_from (nat_le (votes_of plan race) (count_by (marks_ballot ballot race) before)) _ (lt-leb (votes_of plan race) (count_by (marks_ballot ballot race) before) (omega (arith, split, limit, marked)))
+      (code-good before block.Cast ballot race column code front right)
+  rule-good before (CodeAt block.Audited ballot race column code) front right = code-good before block.Audited ballot race column code front right
+  rule-good before (CodeAt block.Dispute ballot race column code) front right = code-good before block.Dispute ballot race column code front right
+  rule-good before (OverAt ballot race) front right =
+      let split = marks-split before (OverAt ballot race) front ballot race right.1.0 in
+      let none : count_by (marks_ballot ballot race) before ≡ 0 = omega (arith, split, right.1.1) in
+      any-count (marks_ballot ballot race) before ∙ ap (nat_lt 0) none
+  rule-good before (PaperAt ballot race list) front right = rw right.1.1 (paper-good plan seed race (ballot_row plan race ballot) told.fine right.1.0)
+  rule-good before line front right = refl
+
+  pub rules-whole : Good (bad_rule plan) [] lines
+  rules-whole = record-good (bad_rule plan) IsRight posted rule-good all-both

@@ -1,6 +1,5 @@
 -- Kind seal: a seal over the bytes of all lines before it.
 use Rattle.std.proofs.Common.{◌≡◌, ℕ, Bool, true, false, not, List, [], ◌∷◌, ◌++◌, length, refl, sym, ap, ◌∙◌, arith}
-use Rattle.std.specs.List.{list_all}
 use Rattle.std.proofs.lemmas.List.{length-append}
 use Rattle.std.proofs.lemmas.Slice.Eq.{bytes_eq-Decides}
 use Rattle.sha2.specs.Sha256.{sha256}
@@ -16,7 +15,8 @@ use Rattle.sg_record.specs.Writing.{text_in}
 use Rattle.sg_check.specs.Kinds.{bad_seal, bytes_of, is_bad}
 use Rattle.sg_check.specs.declared.judged.Kind.TheVariants as kind
 use Rattle.sg_post.specs.Posted.{seal_over}
-use Rattle.sg_accepted.proofs.Late.{Good, good-append, good-one, good-others}
+use Rattle.sg_facts.proofs.Each.{EachOf, of-into}
+use Rattle.sg_accepted.proofs.Late.{Good, good-append, good-never, good-one}
 use Rattle.sg_record.specs.Places.{posts}
 
 -- the bytes of lines in their places are their text
@@ -43,8 +43,9 @@ no_seal plan before line other = at_line line.line other
     at_line p e = refl
 
 -- lines without a seal
-pub unsealed-good : (plan : Plan) (before lines : List Posted) → list_all (λ (l : Posted). not (is_seal l.line)) lines ≡ true → Good (is_bad kind.Seal plan) before lines
-unsealed-good plan before lines all = good-others (is_bad kind.Seal plan) (λ (l : Posted). not (is_seal l.line)) (no_seal plan) before lines all
+pub unsealed-good : (plan : Plan) (before lines : List Posted) → EachOf (λ (l : Posted). not (is_seal l.line) ≡ true) lines → Good (is_bad kind.Seal plan) before lines
+unsealed-good plan before lines all =
+    good-never (is_bad kind.Seal plan) before lines (of-into (λ (l : Posted). not (is_seal l.line) ≡ true) (λ (l : Posted). (front : List Posted) → is_bad kind.Seal plan front l ≡ false) lines (λ line is front. no_seal plan front line is) all)
 
 -- a seal over the text before it
 pub seal-good : (plan : Plan) (before : List Posted) (bytes : List ℕ) (number : ℕ) (digest : Digest) → digest.0 ≡ sha256 (bytes_of before)
@@ -54,7 +55,7 @@ seal-good plan before bytes number digest is =
 
 -- a section: its lines, and the seal over them and all lines before
 pub section-good : (plan : Plan) (version : ℕ) (before lines : List Said) (places_before places : List Placed) (number : ℕ)
-    → version ≡ plan.version → length before ≡ length places_before → length lines ≡ length places → list_all (λ (l : Posted). not (is_seal l.line)) (posts version lines places) ≡ true
+    → version ≡ plan.version → length before ≡ length places_before → length lines ≡ length places → EachOf (λ (l : Posted). not (is_seal l.line) ≡ true) (posts version lines places)
     → Good (is_bad kind.Seal plan) (posts version before places_before)
     (posts version lines places ++ record { bytes = spelling version (Seal number (seal_over plan (before ++ lines))); line = SealAt number (seal_over plan (before ++ lines)) } ∷ [])
 section-good plan version before lines places_before places number is first second all =

@@ -1,7 +1,7 @@
 -- Kind seal over a whole posted record: each of the three seals is over all lines before it.
 use Rattle.std.proofs.Common.{◌≡◌, ℕ, zero, suc, ◌+◌, ◌-◌, Bool, true, not, List, [], ◌∷◌, ◌++◌, length, map, slice_index_or, refl, sym, subst, ap, ◌∙◌, append_assoc, append-nil, arith}
 use Rattle.std.proofs.lemmas.List.{length-append, length-map}
-use Rattle.std.specs.List.{flat_map, list_all}
+use Rattle.std.specs.List.{flat_map}
 use Rattle.sg_plan.specs.declared.plan.Draw.{Draw}
 use Rattle.sg_plan.specs.declared.plan.Draw.TheVariants as drawn
 use Rattle.sg_plan.specs.declared.plan.Plan.{Plan}
@@ -23,15 +23,14 @@ use Rattle.sg_check.specs.declared.judged.Kind.TheVariants as kind
 use Rattle.sg_post.specs.Posted.{by_entry, by_row, code_commit_of, dispute_of, opened_row, posted_record, row_commit_of, seal_1, seal_2, seal_3, seal_over, told_blocks}
 use Rattle.sg_post.specs.declared.story.Claimed.{Claimed}
 use Rattle.sg_post.specs.declared.story.Told.{Told}
-use Rattle.sg_post.proofs.Each.{of-test}
 use Rattle.sg_facts.proofs.Each.{EachOf, of-append}
 use Rattle.sg_facts.proofs.Finding.{of-each}
 use Rattle.sg_facts.proofs.Sections.{ballots-of, codes-of, disputes-of, plan-of, race_results-of, row_commits-of, rows-of}
 use Rattle.sg_accepted.proofs.Late.{Good, good-append}
 use Rattle.sg_accepted.proofs.Seal.{is_seal, posts-append, section-good, unsealed-good}
-use Rattle.sg_record.specs.Places.{block_places as record_block_places, code_commit_place, dispute_places, draw_place, flag_place, flag_places, instance_row_commit_places, instance_row_places, places_in, posts, race_code_commit_places, race_result_places, race_row_commit_places, race_row_places, row_commit_place, row_place, set_place, set_places, total_place}
-use Rattle.sg_record.proofs.PlacedBlocks.{cast_place}
-use Rattle.sg_accepted.proofs.Blocks.{audit_place, fate-same, fate_places}
+use Rattle.sg_grammar.specs.declared.state.Block.TheVariants as block
+use Rattle.sg_record.specs.Places.{block_places as record_block_places, code_commit_place, code_place, dispute_places, draw_place, fate_places as record_fate_places, flag_place, flag_places, instance_row_commit_places, instance_row_places, paper_places, places_in, posts, race_code_commit_places, race_result_places, race_row_commit_places, race_row_places, row_commit_place, row_place, set_place, set_places, total_place}
+use Rattle.sg_record.proofs.PlacedBlocks.{cast-mapped, cast_place}
 use Rattle.sg_plan.specs.Ballots.{races_of_ballot}
 
 -- LISTS PUT TOGETHER OTHERWISE
@@ -57,13 +56,10 @@ group_lines p c r s b e t o u d =
 abbrev NoSeals : List Placed → Type 0
 NoSeals places = EachOf (λ (line : Placed). not (is_seal line) ≡ true) places
 
-no-seals : (version : ℕ) (lines : List Said) (places : List Placed) → NoSeals places → list_all (λ (l : Posted). not (is_seal l.line)) (posts version lines places) ≡ true
-no-seals version lines places none = of-test (λ (l : Posted). not (is_seal l.line)) (posts version lines places) (posted lines places none)
-  where
-    posted : (ls : List Said) (ps : List Placed) → NoSeals ps → EachOf (λ (l : Posted). not (is_seal l.line) ≡ true) (posts version ls ps)
-    posted [] ps all = tt
-    posted (s ∷ ls) [] all = tt
-    posted (s ∷ ls) (p ∷ ps) all = (all.0, posted ls ps all.1)
+no-seals : (version : ℕ) (lines : List Said) (places : List Placed) → NoSeals places → EachOf (λ (l : Posted). not (is_seal l.line) ≡ true) (posts version lines places)
+no-seals version [] places all = tt
+no-seals version (said ∷ lines) [] all = tt
+no-seals version (said ∷ lines) (placed ∷ places) all = (all.0, no-seals version lines places all.1)
 
 over-step : (plan : Plan) (before lines rest : List Said) (places_before places others : List Placed) (number : ℕ) (digest : Digest)
     → digest ≡ seal_over plan (before ++ lines) → length before ≡ length places_before → length lines ≡ length places → NoSeals places
@@ -98,10 +94,25 @@ unfolding numbered
 numbers-length g h at zero same = refl
 numbers-length g h at (suc count) same = omega (arith, length-append (g at) (numbered g (at + 1) count), length-append (h at) (numbered h (at + 1) count), same at, numbers-length g h (at + 1) count same)
 
-fate-length : (plan : Plan) (ballot : ℕ) (what : BlockFate) → length (fate_lines plan ballot what) ≡ length (fate_places plan ballot what)
-fate-length plan ballot (blocked.Cast codes overs) = omega (arith, length-map (each (cast_race_lines codes overs) 0 (length plan.races)) (cast_place ballot))
+papers-length : (ballot : ℕ) (races : List ℕ) (papers : List (List ℕ)) → length (paper_lines races papers) ≡ length (paper_places ballot races papers)
+papers-length ballot [] papers = refl
+papers-length ballot (race ∷ races) [] = refl
+papers-length ballot (race ∷ races) (list ∷ papers) = ap (λ (n : ℕ). suc n) (papers-length ballot races papers)
+
+fate-length : (plan : Plan) (ballot : ℕ) (what : BlockFate) → length (fate_lines plan ballot what) ≡ length (record_fate_places plan ballot what)
+fate-length plan ballot (blocked.Cast codes overs) =
+    ap (λ (n : ℕ). suc n) (sym (length-map (each (cast_race_lines codes overs) 0 (length plan.races)) (cast_place ballot)) ∙ ap length (cast-mapped plan ballot codes overs))
 fate-length plan ballot blocked.Spoiled = refl
-fate-length plan ballot (blocked.Audited papers codes) = omega (arith, length-map (paper_lines (races_of_ballot plan ballot) papers ++ map Code codes) (audit_place ballot))
+fate-length plan ballot (blocked.Audited papers codes) =
+    let races : List ℕ = races_of_ballot plan ballot in
+    omega (
+      arith,
+      length-append (paper_lines races papers) (map Code codes),
+      length-append (paper_places ballot races papers) (map (code_place block.Audited ballot) codes),
+      length-map codes Code,
+      length-map codes (code_place block.Audited ballot),
+      papers-length ballot races papers,
+    )
 fate-length plan ballot blocked.Voided = refl
 
 blocks-length : (plan : Plan) (blocks : List BallotBlock) → length (flat_map (block_lines plan) blocks) ≡ length (flat_map (record_block_places plan) blocks)
@@ -111,7 +122,7 @@ blocks-length plan (one ∷ blocks) =
       arith,
       length-append (block_lines plan one) (flat_map (block_lines plan) blocks),
       length-append (record_block_places plan one) (flat_map (record_block_places plan) blocks),
-      fate-length plan one.ballot one.fate ∙ ap length (sym (fate-same plan one.ballot one.fate)),
+      fate-length plan one.ballot one.fate,
       blocks-length plan blocks,
     )
 

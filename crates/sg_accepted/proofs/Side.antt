@@ -1,5 +1,6 @@
 -- Kind side: each row is opened on the sides that the draw says.
 use Rattle.std.proofs.Common.{◌≡◌, ℕ, Bool, true, false, ◌&&◌, ◌||◌, not, cond, List, [], Option, Some, None, refl, ap, ◌∙◌, arith}
+use Rattle.std.proofs.Math.Bool.{and-false}
 use Rattle.std.specs.List.{list_all}
 use Rattle.std.specs.Option.{option_map, option_map_or}
 use Rattle.sg_plan.specs.Limits.{fault_of}
@@ -25,7 +26,7 @@ use Rattle.sg_post.specs.Marks.{is_audited}
 use Rattle.sg_post.specs.Posted.{both_sides, one_side, opened_row, posted_record}
 use Rattle.sg_post.specs.declared.story.Claimed.{Claimed}
 use Rattle.sg_post.specs.declared.story.Told.{Told}
-use Rattle.sg_accepted.proofs.Late.{Good, and_false}
+use Rattle.sg_accepted.proofs.Late.{Good}
 use Rattle.sg_record.specs.Places.{draw_place, places_in}
 use Rattle.sg_facts.proofs.Facts.{digits_are, full_draw_is}
 use Rattle.sg_facts.proofs.Rising.{IsFront, digits-kept, full_draw-kept, record-good}
@@ -44,7 +45,7 @@ row-sided : (plan : Plan) (seed : List ℕ) (fates : List Told) (draw : Draw) (b
 unfolding opened_row
 row-sided plan seed fates drawn.Full before race instance number are full digits =
     let none : public_bytes before ≡ None = ap (option_map bytes_of_digits) digits in
-    ap (λ (b : Bool). b || option_map_or (is_off_coin race instance number (both_sides plan seed race instance number)) (public_bytes before) false) (and_false (is_full_draw before))
+    ap (λ (b : Bool). b || option_map_or (is_off_coin race instance number (both_sides plan seed race instance number)) (public_bytes before) false) (and-false (is_full_draw before))
     ∙ ap (λ (o : Option (List ℕ)). option_map_or (is_off_coin race instance number (both_sides plan seed race instance number)) o false) none
 row-sided plan seed fates (drawn.Public bytes) before race instance number are full digits =
     let opening : RowOpening = opened_row plan seed fates (drawn.Public bytes) race instance number in

@@ -1,11 +1,12 @@
 -- Sums and counts over lines that are put together from parts.
 use Rattle.std.proofs.Common.{◌≡◌, ◌≢◌, ℕ, zero, suc, ◌+◌, ◌<◌, ◌≤◌, Bool, true, false, cond, inl, inr, List, [], ◌∷◌, map, filter, refl, sym, ap, ◌∙◌, arith}
-use Rattle.std.proofs.lemmas.Bool.{and_parts, cases_Bool, cases_lt, false_from_ne_true}
+use Rattle.std.proofs.lemmas.Bool.{cases_Bool, cases_lt, false_from_ne_true}
 use Rattle.std.proofs.lemmas.List.Sums.{sum_by-append, sum_by-cons}
-use Rattle.std.specs.List.{flat_map, list_all, range_with_len}
+use Rattle.std.specs.List.{flat_map, range_with_len}
 use Rattle.std.specs.Prelude.{count_by, sum_by}
 use Rattle.sg_streams.specs.Numbers.{numbers_below}
 use Rattle.sg_grammar.specs.Due.{numbered}
+use Rattle.sg_facts.proofs.Each.{EachOf}
 
 -- 1 where it is so, else 0
 abbrev pub tally : Bool → ℕ
@@ -40,23 +41,10 @@ sum-at {A} g f at (suc count) number after before none =
           sum_by-append g (f at) (numbered f (at + 1) count) ∙ omega (arith, here, rest)
     ]
 
--- the sum of the sums of the lists
-pub sum-numbered : {A : Type 0} (g : A → ℕ) (f : ℕ → List A) (at count : ℕ) → sum_by g (numbered f at count) ≡ sum_by (λ k. sum_by g (f k)) (range_with_len at count)
-unfolding numbered
-sum-numbered g f at zero = refl
-sum-numbered {A} g f at (suc count) =
-    let rest = sum-numbered g f (at + 1) count in
-    let first = sum_by-cons (λ k. sum_by g (f k)) at (range_with_len (at + 1) count) in
-    sum_by-append g (f at) (numbered f (at + 1) count) ∙ omega (arith, rest, first)
-
--- lines of these forms give nothing
-pub sum-others : {A : Type 0} (g : A → ℕ) (is_other : A → Bool) → ((x : A) → is_other x ≡ true → g x ≡ 0) → (xs : List A) → list_all is_other xs ≡ true → sum_by g xs ≡ 0
-sum-others g is_other never [] all = refl
-sum-others {A} g is_other never (x ∷ xs) all =
-    let parts = and_parts (is_other x) (list_all is_other xs) all in
-    let here = never x parts.0 in
-    let rest = sum-others g is_other never xs parts.1 in
-    sum_by-cons g x xs ∙ omega (arith, here, rest)
+-- items that give nothing
+pub sum-of : {A : Type 0} (g : A → ℕ) (xs : List A) → EachOf (λ (x : A). g x ≡ 0) xs → sum_by g xs ≡ 0
+sum-of g [] all = refl
+sum-of {A} g (x ∷ xs) all = omega (arith, sum_by-cons g x xs, all.0, sum-of g xs all.1)
 
 -- SUMS OVER LISTS THAT ARE MADE FROM OTHERS
 
@@ -110,15 +98,6 @@ sum-range f g at (suc count) same =
     let rest = sum-range f g (at + 1) count (λ k a b. same k (omega (arith, a)) (omega (arith, b))) in
     let first = sum_by-cons g at (range_with_len (at + 1) count) in
     sum_by-cons f at (range_with_len (at + 1) count) ∙ omega (arith, here, rest, first)
-
-pub sum-range-le : (f g : ℕ → ℕ) (at count : ℕ) → ((k : ℕ) → at ≤ k → k < at + count → f k ≤ g k) → sum_by f (range_with_len at count) ≤ sum_by g (range_with_len at count)
-sum-range-le f g at zero same = omega arith
-sum-range-le f g at (suc count) same =
-    let here = same at (omega arith) (omega arith) in
-    let rest = sum-range-le f g (at + 1) count (λ k a b. same k (omega (arith, a)) (omega (arith, b))) in
-    let first = sum_by-cons g at (range_with_len (at + 1) count) in
-    let other = sum_by-cons f at (range_with_len (at + 1) count) in
-    omega (arith, here, rest, first, other)
 
 -- only this number counts
 pub sum-only : (g : ℕ → ℕ) (at count number : ℕ) → at ≤ number → number < at + count → ((k : ℕ) → at ≤ k → k < at + count → k ≢ number → g k ≡ 0) → sum_by g (range_with_len at count) ≡ g number

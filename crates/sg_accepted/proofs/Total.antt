@@ -1,5 +1,6 @@
 -- Kind total: the total of a candidate is the number of its places that are set.
 use Rattle.std.proofs.Common.{◌≡◌, ℕ, ◌<◌, ◌%◌, ◌==◌, Bool, true, false, ◌&&◌, not, List, [], length, None, refl, sym, subst, ap, ◌∙◌}
+use Rattle.std.proofs.Math.Bool.{and_comm}
 use Rattle.std.proofs.lemmas.Bool.{eq-eqb}
 use Rattle.std.specs.List.{list_all}
 use Rattle.sg_plan.specs.Ballots.{candidates_of, entries_of}
@@ -25,12 +26,6 @@ use Rattle.sg_accepted.proofs.Counted.{below_counts}
 use Rattle.sg_accepted.proofs.Late.{Good}
 use Rattle.sg_accepted.proofs.Posted.{SaysRight, all-right, set_is}
 
-turned : (a b : Bool) → (a && b) ≡ (b && a)
-turned true true = refl
-turned true false = refl
-turned false true = refl
-turned false false = refl
-
 module _ (plan : Plan) (seed : List ℕ) (fates : List Told) (draw : Draw) (claims : List Claimed) where
   abbrev lines : List Placed
   lines = places_in (posted_record plan seed fates draw claims)
@@ -44,7 +39,7 @@ module _ (plan : Plan) (seed : List ℕ) (fates : List Told) (draw : Draw) (clai
         votes-count plan race candidate lines apart (in_plan plan lines are_in)
         ∙ (count-same (is_vote plan race candidate lines) test (entries_of plan race)
         (λ place below. ap (λ (b : Bool). b && place % candidates_of plan race == candidate) (set_is plan seed fates draw claims race place within below)
-        ∙ turned (is_set plan seed fates race place) (place % candidates_of plan race == candidate))
+        ∙ and_comm (is_set plan seed fates race place) (place % candidates_of plan race == candidate))
         ∙ sym (below_counts test (entries_of plan race)))
 
     -- no places of its race stand behind a total

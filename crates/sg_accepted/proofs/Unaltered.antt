@@ -12,10 +12,23 @@ use Rattle.sg_post.specs.declared.story.Claimed.{Claimed}
 use Rattle.sg_post.specs.declared.story.Story.{Story}
 use Rattle.sg_post.specs.declared.story.Told.{Told}
 use Rattle.sg_facts.proofs.Each.{EachOf}
-use Rattle.sg_accepted.proofs.Dispute.{ClaimRight}
-use Rattle.sg_accepted.proofs.Holds.{holds-all}
-use Rattle.sg_accepted.proofs.RecordParts.{IsTold}
 use Rattle.sg_accepted.specs.Unaltered.{IsRightClaim, IsTrueFate, IsUnaltered}
+
+pub holds-all : {A : Type 0} (P : A → Type 0) (xs : List A) → All P xs → EachOf P xs
+holds-all P [] all = tt
+holds-all P (x ∷ xs) all = (All-head P x xs all, holds-all P xs (All-tail P x xs all))
+
+-- a claim that may stand, with the answer that is right
+pub record ClaimRight (plan : Plan) (seed : List ℕ) (fates : List Told) (claimed : Claimed) : Type 0 where
+  pub has : ballot_has plan claimed.ballot claimed.race ≡ true
+  pub word : IsRightClaim plan seed fates claimed
+
+pub record IsTold (plan : Plan) (seed : List ℕ) (fates : List Told) (claims : List Claimed) : Type 0 where
+  pub fine : fault_of plan ≡ None
+  pub fit : fates_fit plan 0 fates ≡ true
+  pub claimed : list_all (claim_fits plan) claims ≡ true
+  pub papers : EachOf (λ told. IsTrueFate plan seed told.ballot told.fate) fates
+  pub claims_right : EachOf (ClaimRight plan seed fates) claims
 
 claims-right : (plan : Plan) (seed : List ℕ) (fates : List Told) (claims : List Claimed) → list_all (claim_fits plan) claims ≡ true
     → All (IsRightClaim plan seed fates) claims → EachOf (ClaimRight plan seed fates) claims

@@ -1,7 +1,7 @@
 -- What is said of the command that was run is said of the one that the words ask for; and what is said where memory for the
 -- words was wanted.
 use Rattle.std.proofs.Common.{◌≡◌, ℕ, ◌+◌, Some, inl, inr, refl, subst}
-use Rattle.std.specs.Prelude.{Option}
+use Rattle.std.specs.Prelude.{List, Option}
 use Rattle.sg_plan.specs.Limits.{longest_election}
 use Rattle.sg_keeper.specs.declared.rows.Rows.{Rows}
 use Rattle.sg_clerk.proofs.Beginning.{took_nothing}
@@ -11,6 +11,12 @@ use Rattle.sg_app.specs.Outside.{Outside, input_at, output_at}
 use Rattle.sg_app.specs.Says.{CommandSays}
 use Rattle.sg_reports.proofs.Reporting.{memory_reports}
 use Rattle.sg_reports.specs.declared.report.Report.TheVariants.{Audit, Recount, Odds, County}
+use Rattle.sg_links.specs.Board.{Board}
+
+-- what stands outside, by its parts
+abbrev pub outside : Option (List ℕ) → Option Board → Option (List ℕ) → ℕ → ℕ → ℕ → ℕ → Outside
+outside left board written reads links writes keeps =
+    record { left = left; board = board; written = written; read_faults = reads; link_faults = links; write_faults = writes; keep_faults = keeps }
 
 -- they are one
 pub asked_is : (here asked : Command) (found : Option Command) → Some here ≡ found → found ≡ Some asked → here ≡ asked

@@ -7,11 +7,7 @@ mod commit;
 #[cfg(test)]
 mod forms;
 #[cfg(test)]
-mod grammar;
-#[cfg(test)]
 mod lines;
-#[cfg(test)]
-mod links;
 #[cfg(test)]
 mod outside;
 #[cfg(test)]
@@ -20,8 +16,6 @@ mod plan;
 mod plan_text;
 #[cfg(test)]
 mod report;
-#[cfg(test)]
-mod sheet;
 #[cfg(test)]
 mod streams;
 #[cfg(test)]

@@ -24,7 +24,9 @@ pub fn answer_scans<S: Source, K: Keeper, O: Sink>(
     match open_kept(alloc, keeper) {
         Ok(office) => {
             let mut office = office;
-            ending_status(do_scans(alloc, &mut office, input, keeper, out))
+            let ending = do_scans(alloc, &mut office, input, keeper, out);
+            drop(office);
+            ending_status(ending)
         }
         Err(why) => shown_status(show_closed(alloc, why, out)),
     }

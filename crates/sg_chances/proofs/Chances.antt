@@ -1,12 +1,9 @@
 -- All lists of coins get yes behind the first two sections of an unaltered run.
-use Rattle.std.proofs.Common.{◌≡◌, ◌≢◌, ℕ, true, ◌&&◌, List, [], ◌∷◌, ◌++◌, length, Option, Some, None, refl, sym, subst, ap, ◌∙◌, append-nil, arith}
+use Rattle.std.proofs.Common.{◌≡◌, ◌≢◌, ℕ, true, ◌&&◌, List, [], ◌∷◌, ◌++◌, length, Some, None, refl, sym, subst, ap, ◌∙◌, append-nil, arith}
 use Rattle.std.specs.List.{list_all, list_any}
-use Rattle.std.specs.Str.{bytes_eq}
 use Rattle.std.proofs.lemmas.Bool.{and_from, and_parts}
 use Rattle.std.proofs.lemmas.List.Elements.{All-nil}
 use Rattle.std.proofs.lemmas.Option.{same_Some}
-use Rattle.std.proofs.lemmas.Slice.Eq.{bytes_eq-Decides}
-use Rattle.sha2.specs.Sha256.{sha256}
 use Rattle.sg_outside.specs.TextLines.{lines_of}
 use Rattle.sg_plan.specs.Limits.{fault_of}
 use Rattle.sg_plan.specs.declared.plan.Draw.{Draw}
@@ -16,9 +13,7 @@ use Rattle.sg_plan.specs.declared.plan.Side.{Side}
 use Rattle.sg_plan.specs.declared.plan.Side.TheVariants as side
 use Rattle.sg_plan.specs.declared.plan.Stage.{Stage}
 use Rattle.sg_plan.specs.declared.plan.Stage.TheVariants as stage
-use Rattle.sg_commit.specs.Commitments.{commit_input}
 use Rattle.sg_commit.specs.declared.CommitKind.TheVariants as commit
-use Rattle.sg_commit.specs.declared.Digest.{Digest}
 use Rattle.sg_commit.specs.declared.Opening.{Opening}
 use Rattle.sg_tables.specs.Tables.{left_opening_of, right_opening_of}
 use Rattle.sg_forms.specs.Spelling.{IsOpening, IsRow}
@@ -49,7 +44,7 @@ use Rattle.sg_accepted.proofs.Law.{unaltered_is_accepted}
 use Rattle.sg_facts.proofs.Each.{EachOf, of-into}
 use Rattle.sg_facts.proofs.Facts.{full_draw_is}
 use Rattle.sg_facts.proofs.Rising.{IsPart, behind_ballots, behind_commits, behind_results, blocks, blocks_are, commits_are, head, head_is, part_of, results_are}
-use Rattle.sg_accepted.proofs.Opening.{OpensRow, opened-opens}
+use Rattle.sg_accepted.proofs.Opening.{OpensRow, opened-opens, opens-committed}
 use Rattle.sg_accepted.proofs.Posted.{SaysRight, all-right, committed_half}
 use Rattle.sg_accepted.proofs.StoryWalks.{Walks, story-walks, walked_as}
 use Rattle.sg_accepted.specs.Unaltered.{IsRightClaim, IsUnaltered}
@@ -123,9 +118,6 @@ both_right plan seed on race instance row (opened.Right r) right both range = cc
 both_right plan seed side.Left race instance row (opened.Both l r) right both range = subst IsOpening right.0 range.0
 both_right plan seed side.Right race instance row (opened.Both l r) right both range = subst IsOpening right.1 range.1
 
-same_bytes : (d : List ℕ) → bytes_eq d d ≡ true
-same_bytes d = (bytes_eq-Decides d d).1 refl
-
 module _ (plan : Plan) (seed : List ℕ) (fates : List Told) (draw : Draw) (claims : List Claimed) (fine : fault_of plan ≡ None) (fit : fates_fit plan 0 fates ≡ true) (claimed : list_all (claim_fits plan) claims ≡ true) where
   abbrev places : List Placed
   places = places_in (posted_record plan seed fates draw claims)
@@ -143,13 +135,9 @@ module _ (plan : Plan) (seed : List ℕ) (fates : List Told) (draw : Draw) (clai
   tables_open : (on : Side) (race instance row : ℕ) → IsHalfOf plan race instance row → opens_digest (half_commitment places on race instance row) (half_kind on) race instance row (table_half plan seed on race instance row) ≡ true
   unfolding row_commit_of
   tables_open side.Left race instance row within =
-      let o = left_opening_of plan seed race instance row in
-      ap (λ (d : Option Digest). opens_digest d commit.L race instance row o) (committed_half plan seed fates draw claims side.Left race instance row within)
-      ∙ same_bytes (sha256 (commit_input commit.L race instance row o))
+      opens-committed (half_commitment places side.Left race instance row) commit.L race instance row (left_opening_of plan seed race instance row) (committed_half plan seed fates draw claims side.Left race instance row within)
   tables_open side.Right race instance row within =
-      let o = right_opening_of plan seed race instance row in
-      ap (λ (d : Option Digest). opens_digest d commit.R race instance row o) (committed_half plan seed fates draw claims side.Right race instance row within)
-      ∙ same_bytes (sha256 (commit_input commit.R race instance row o))
+      opens-committed (half_commitment places side.Right race instance row) commit.R race instance row (right_opening_of plan seed race instance row) (committed_half plan seed fates draw claims side.Right race instance row within)
 
 -- THE SAME STORY, ALL DRAWN
 

@@ -1,11 +1,12 @@
 -- What is due of the lines that an office hands to a court: no altered row, even sums, and exponents of 0.
-use Rattle.std.proofs.Common.{◌≡◌, ℕ, zero, suc, ◌+◌, ◌-◌, ◌<◌, ◌≤◌, Bool, true, false, cond, inl, inr, List, [], ◌∷◌, ◌++◌, codes, length, None, refl, sym, subst, ap, ◌∙◌, arith}
+use Rattle.std.proofs.Common.{◌≡◌, ℕ, ◌-◌, ◌<◌, Bool, true, cond, inl, inr, List, [], ◌∷◌, codes, length, None, refl, sym, subst, ap, ◌∙◌}
+use Rattle.std.proofs.lemmas.Bool.{true≢false}
 use Rattle.std.specs.List.{list_all}
 use Rattle.sg_plan.specs.Ballots.{candidates_of, entries_of}
 use Rattle.sg_plan.specs.Limits.{fault_of}
 use Rattle.sg_plan.specs.declared.plan.Draw.{Draw}
 use Rattle.sg_plan.specs.declared.plan.Plan.{Plan}
-use Rattle.sg_grammar.specs.Due.{each, numbered}
+use Rattle.sg_grammar.specs.Due.{each}
 use Rattle.sg_grammar.specs.Placed.{Placed}
 use Rattle.sg_record.specs.Formed.{is_formed}
 use Rattle.sg_record.specs.Laws.{HasWords}
@@ -17,6 +18,7 @@ use Rattle.sg_check.specs.Printings.{Printing}
 use Rattle.sg_check.specs.Verdict.{IsVerdict}
 use Rattle.sg_check.specs.declared.judged.Judged.TheVariants as judged
 use Rattle.sg_check.specs.declared.judged.Total.{Total}
+use Rattle.sg_post.proofs.Numbered.{each-no, each-same}
 use Rattle.sg_post.specs.Fits.{claim_fits, fates_fit}
 use Rattle.sg_post.specs.Posted.{posted_record}
 use Rattle.sg_post.specs.declared.story.Claimed.{Claimed}
@@ -41,24 +43,8 @@ use Rattle.sg_cleared.specs.Laws.{clear_exponents, clear_findings, even_sum, no_
 
 -- LISTS THAT ARE MADE NUMBER BY NUMBER
 
-numbered_within : {A : Type 0} (f g : ℕ → List A) (at count : ℕ) → ((k : ℕ) → at ≤ k → k < at + count → f k ≡ g k) → numbered f at count ≡ numbered g at count
-unfolding numbered
-numbered_within f g at zero same = refl
-numbered_within f g at (suc count) same =
-    ap (λ l. l ++ numbered f (at + 1) count) (same at (omega arith) (omega arith))
-    ∙ ap (λ l. g at ++ l) (numbered_within f g (at + 1) count (λ k after before. same k (omega (arith, after)) (omega (arith, before))))
-
-each_within : {A : Type 0} (f g : ℕ → List A) (count : ℕ) → ((k : ℕ) → k < count → f k ≡ g k) → each f 0 count ≡ each g 0 count
-each_within f g count same = numbered_within f g 0 (count - 0) (λ k after before. same k (omega (arith, before)))
-
-numbered_none : (f : ℕ → List ℕ) (at count : ℕ) → ((k : ℕ) → at ≤ k → k < at + count → f k ≡ []) → numbered f at count ≡ []
-unfolding numbered
-numbered_none f at zero none = refl
-numbered_none f at (suc count) none =
-    ap (λ l. l ++ numbered f (at + 1) count) (none at (omega arith) (omega arith)) ∙ numbered_none f (at + 1) count (λ k after before. none k (omega (arith, after)) (omega (arith, before)))
-
 each_none : (f : ℕ → List ℕ) (count : ℕ) → ((k : ℕ) → k < count → f k ≡ []) → each f 0 count ≡ []
-each_none f count none = numbered_none f 0 (count - 0) (λ k after before. none k (omega (arith, before)))
+each_none f count none = each-same f (λ k. []) count none ∙ each-no (λ k. []) count (λ k. refl)
 
 module _ (plan : Plan) (seed : List ℕ) (fates : List Told) (draw : Draw) (claims : List Claimed) (fine : fault_of plan ≡ None) (fit : fates_fit plan 0 fates ≡ true) (claimed : list_all (claim_fits plan) claims ≡ true)
     (words : HasWords (posted_record plan seed fates draw claims)) (formed : is_formed (posted_record plan seed fates draw claims) ≡ true) (totals : List Total)
@@ -76,9 +62,9 @@ module _ (plan : Plan) (seed : List ℕ) (fates : List Told) (draw : Draw) (clai
 
   pub altered_none : (completion : Completion) → HasTables plan seed completion → (printing : Printing) → PrintsTables plan seed printing → all_altered plan lines completion printing ≡ (clear_findings plan seed fates).altered
   altered_none completion has printing prints =
-      each_within (λ race. race_altered plan lines completion printing race ∷ []) (λ race. each (λ instance. no_rows ∷ []) 0 plan.instances ∷ []) (length plan.races)
+      each-same (λ race. race_altered plan lines completion printing race ∷ []) (λ race. each (λ instance. no_rows ∷ []) 0 plan.instances ∷ []) (length plan.races)
       (λ race in_race. ap (λ (l : List (List ℕ)). l ∷ [])
-      (each_within (λ instance. altered_in plan lines completion printing race instance ∷ []) (λ instance. no_rows ∷ []) plan.instances
+      (each-same (λ instance. altered_in plan lines completion printing race instance ∷ []) (λ instance. no_rows ∷ []) plan.instances
       (λ instance in_instances. ap (λ (l : List ℕ). l ∷ [])
       (each_none (altered_row plan lines completion printing race instance) (entries_of plan race)
       (λ number below. ap (λ (b : Bool). cond b (number ∷ []) [])
@@ -86,9 +72,9 @@ module _ (plan : Plan) (seed : List ℕ) (fates : List Told) (draw : Draw) (clai
 
   pub sums_even : (printing : Printing) → PrintsTables plan seed printing → all_sums plan lines printing ≡ (clear_findings plan seed fates).sums
   sums_even printing prints =
-      each_within (λ race. race_sums plan lines printing race ∷ []) (λ race. each (λ candidate. even_sum plan seed fates race candidate ∷ []) 0 (candidates_of plan race) ∷ []) (length plan.races)
+      each-same (λ race. race_sums plan lines printing race ∷ []) (λ race. each (λ candidate. even_sum plan seed fates race candidate ∷ []) 0 (candidates_of plan race) ∷ []) (length plan.races)
       (λ race in_race. ap (λ (l : List Sum). l ∷ [])
-      (each_within (λ candidate. sum_of plan lines printing race candidate ∷ []) (λ candidate. even_sum plan seed fates race candidate ∷ []) (candidates_of plan race)
+      (each-same (λ candidate. sum_of plan lines printing race candidate ∷ []) (λ candidate. even_sum plan seed fates race candidate ∷ []) (candidates_of plan race)
       (λ candidate low. ap (λ (s : Sum). s ∷ [])
       (same_sum _ _ _ _ (total_is plan seed fates draw claims fine fit claimed race candidate in_race low) (count_is plan seed fates draw claims fine fit claimed printing prints race candidate in_race low)))))
 
@@ -117,7 +103,7 @@ module _ (plan : Plan) (seed : List ℕ) (fates : List Told) (draw : Draw) (clai
 
   pub exponents_none : (completion : Completion) → HasTables plan seed completion → each (λ race. numbers_line (codes "exponent") (race ∷ exponent plan lines completion race ∷ [])) 0 (length plan.races) ≡ clear_exponents plan
   exponents_none completion has =
-      each_within (λ race. numbers_line (codes "exponent") (race ∷ exponent plan lines completion race ∷ [])) (λ race. numbers_line (codes "exponent") (race ∷ 0 ∷ [])) (length plan.races)
+      each-same (λ race. numbers_line (codes "exponent") (race ∷ exponent plan lines completion race ∷ [])) (λ race. numbers_line (codes "exponent") (race ∷ 0 ∷ [])) (length plan.races)
       (λ race in_race. ap (λ n. numbers_line (codes "exponent") (race ∷ n ∷ [])) (exponent_none plan seed fates draw claims fine fit claimed completion has race in_race))
 
   exponents_are : (text : List ℕ) (finds : FindsOdds all text) → text ≡ clear_exponents plan
@@ -136,10 +122,7 @@ module _ (plan : Plan) (seed : List ℕ) (fates : List Told) (draw : Draw) (clai
       let within : IsHalfOf plan lacks.race lacks.instance lacks.row = subst (λ (p : Record). IsHalfOf p.plan lacks.race lacks.instance lacks.row) told.posted lacks.first.within in
       let lacking : is_lacking plan (completion_of given.rows) lacks.race lacks.instance lacks.row ≡ true
       = subst (λ (p : Record). is_lacking p.plan (completion_of given.rows) lacks.race lacks.instance lacks.row ≡ true) told.posted lacks.first.lacking in
-      no (sym lacking ∙ row_there plan seed (completion_of given.rows) (told_tables given told) lacks.race lacks.instance lacks.row within)
-    where
-      no : true ≡ false → ⊥
-      no e = cc
+      true≢false (sym lacking ∙ row_there plan seed (completion_of given.rows) (told_tables given told) lacks.race lacks.instance lacks.row within)
 
   pub odds_due : (status : ℕ) (text : List ℕ) → OddsDue all status text → (status ≡ 0) × (text ≡ clear_exponents plan)
   odds_due status text (inl finds) = (finds.0, exponents_are text finds.1)

@@ -1,10 +1,10 @@
 -- Each count of posted codes is the total.
-use Rattle.std.proofs.Common.{◌≡◌, ℕ, zero, suc, ◌/◌, ◌%◌, ◌<◌, ◌==◌, Bool, true, false, ◌&&◌, cond, count_by, inl, inr, List, [], ◌∷◌, length, map, Option, Some, None, is_some, refl, sym, ap, ◌∙◌, arith}
+use Rattle.std.proofs.Common.{◌≡◌, ℕ, ◌/◌, ◌%◌, ◌<◌, ◌==◌, Bool, true, false, ◌&&◌, inl, inr, List, length, map, Option, Some, None, is_some, refl, sym, ap, ◌∙◌}
+use Rattle.std.proofs.Math.Bool.{and-false, and-true}
 use Rattle.std.specs.List.{list_all}
 use Rattle.std.specs.Option.{option_map_or}
 use Rattle.std.proofs.lemmas.Bool.{cases_eq, eq-eqb, ne_eqb}
 use Rattle.std.proofs.lemmas.List.Sorted.{sum_by-IsPermutation}
-use Rattle.std.proofs.lemmas.List.Sums.{sum_by-cons}
 use Rattle.sg_plan.specs.Ballots.{candidates_of, entries_of}
 use Rattle.sg_plan.specs.Limits.{fault_of}
 use Rattle.sg_plan.specs.declared.plan.Draw.{Draw}
@@ -16,6 +16,7 @@ use Rattle.sg_tables.specs.Tables.{code_beside, path_of, shown_by}
 use Rattle.sg_grammar.specs.Placed.{Placed}
 use Rattle.sg_record.specs.Places.{places_in}
 use Rattle.sg_check.proofs.Bounding.{marked_is as code_there}
+use Rattle.sg_check.proofs.Counting.{count-same}
 use Rattle.sg_check.specs.Printings.{Printing, count_below, is_posted_for, marked_code, posted_codes}
 use Rattle.sg_post.specs.Fits.{claim_fits, fates_fit}
 use Rattle.sg_post.specs.Marks.{is_marked, total_of}
@@ -25,35 +26,18 @@ use Rattle.sg_post.specs.declared.story.Told.{Told}
 use Rattle.sg_accepted.proofs.Counted.{below_counts}
 use Rattle.sg_accepted.proofs.Votes.{totals_count_marks}
 use Rattle.sg_accepted.proofs.Posted.{marked_is}
+use Rattle.sg_accepted.proofs.Sums.{sum-map, tally}
 use Rattle.sg_cleared.proofs.Posted.{mark_is}
 use Rattle.sg_cleared.proofs.Unaltered.{PrintsTables, entry_row}
 
 -- COUNTS
 
-abbrev one_if : Bool → ℕ
-one_if b = cond b 1 0
-
-pub same_counts : (p q : ℕ → Bool) (count : ℕ) → ((k : ℕ) → k < count → p k ≡ q k) → count_below p count ≡ count_below q count
-same_counts p q zero same = refl
-same_counts p q (suc count) same =
-    let here : one_if (p count) ≡ one_if (q count) = ap one_if (same count (omega arith)) in
-    let rest = same_counts p q count (λ k less. same k (omega (arith, less))) in
-    omega (arith, here, rest)
-
-mapped_counts : (p : ℕ → Bool) (f : ℕ → ℕ) (xs : List ℕ) → count_by p (map f xs) ≡ count_by (λ x. p (f x)) xs
-mapped_counts p f [] = refl
-mapped_counts p f (x ∷ xs) =
-    let a = sum_by-cons (λ (y : ℕ). one_if (p y)) (f x) (map f xs) in
-    let b = sum_by-cons (λ (y : ℕ). one_if (p (f y))) x xs in
-    let rest = mapped_counts p f xs in
-    omega (arith, a, b, rest)
-
 -- as many pass where the numbers are exchanged
 pub moved_counts : (test : ℕ → Bool) (f : ℕ → ℕ) (count : ℕ) → Permutes count f → count_below (λ k. test (f k)) count ≡ count_below test count
 moved_counts test f count moves =
     sym (below_counts (λ k. test (f k)) count)
-    ∙ (sym (mapped_counts test f (numbers_below count))
-    ∙ (sum_by-IsPermutation (λ (k : ℕ). one_if (test k)) (numbers_below count) (map f (numbers_below count)) moves.listed ∙ below_counts test count))
+    ∙ (sym (sum-map (λ (k : ℕ). tally (test k)) f (numbers_below count))
+    ∙ (sum_by-IsPermutation (λ (k : ℕ). tally (test k)) (numbers_below count) (map f (numbers_below count)) moves.listed ∙ below_counts test count))
 
 -- TOTALS
 
@@ -63,14 +47,6 @@ leads_to plan seed fates race candidate entry = path_of plan seed race entry % c
 
 pub total_counts : (plan : Plan) (seed : List ℕ) (fates : List Told) (race candidate : ℕ) → total_of plan seed fates race candidate ≡ count_below (leads_to plan seed fates race candidate) (entries_of plan race)
 total_counts plan seed fates race candidate = totals_count_marks plan seed fates race candidate ∙ below_counts (leads_to plan seed fates race candidate) (entries_of plan race)
-
-and_false : (b : Bool) → (b && false) ≡ false
-and_false true = refl
-and_false false = refl
-
-and_true : (b : Bool) → (b && true) ≡ b
-and_true true = refl
-and_true false = refl
 
 module _ (plan : Plan) (seed : List ℕ) (fates : List Told) (draw : Draw) (claims : List Claimed) (fine : fault_of plan ≡ None) (fit : fates_fit plan 0 fates ≡ true) (claimed : list_all (claim_fits plan) claims ≡ true)
     (printing : Printing) (prints : PrintsTables plan seed printing) where
@@ -103,7 +79,7 @@ module _ (plan : Plan) (seed : List ℕ) (fates : List Told) (draw : Draw) (clai
       by_code None e =
           let unmarked : is_marked plan seed fates race entry ≡ false = sym mark ∙ ap is_some e in
           ap (λ (o : Option ℕ). option_map_or (λ code. printing race at candidate == code) o false) e
-          ∙ sym (ap (λ (b : Bool). path_of plan seed race entry % candidates_of plan race == candidate && b) unmarked ∙ and_false (path_of plan seed race entry % candidates_of plan race == candidate))
+          ∙ sym (ap (λ (b : Bool). path_of plan seed race entry % candidates_of plan race == candidate && b) unmarked ∙ and-false (path_of plan seed race entry % candidates_of plan race == candidate))
       by_code (Some shown) e =
           let marked : is_marked plan seed fates race entry ≡ true = sym mark ∙ ap is_some e in
           let leads = entry_leads plan seed race entry below in
@@ -114,10 +90,10 @@ module _ (plan : Plan) (seed : List ℕ) (fates : List Told) (draw : Draw) (clai
           ∙ (ap (λ n. code_beside plan seed race at candidate == n) code
           ∙ (same_beside race at candidate (shown_by plan seed race entry) in_race low leads.shows
           ∙ (ap (λ n. n == candidate) (sym leads.column)
-          ∙ sym (ap (λ (b : Bool). path_of plan seed race entry % candidates_of plan race == candidate && b) marked ∙ and_true (path_of plan seed race entry % candidates_of plan race == candidate))))))
+          ∙ sym (ap (λ (b : Bool). path_of plan seed race entry % candidates_of plan race == candidate && b) marked ∙ and-true (path_of plan seed race entry % candidates_of plan race == candidate))))))
 
   -- the count of posted codes is the total
   pub count_is : (race candidate : ℕ) → race < length plan.races → candidate < candidates_of plan race → posted_codes plan lines printing race candidate ≡ total_of plan seed fates race candidate
   count_is race candidate in_race low =
-      same_counts (is_posted_for plan lines printing race candidate) (leads_to plan seed fates race candidate) (entries_of plan race) (λ entry below. counts_alike race candidate entry in_race low below)
+      count-same (is_posted_for plan lines printing race candidate) (leads_to plan seed fates race candidate) (entries_of plan race) (λ entry below. counts_alike race candidate entry in_race low below)
       ∙ sym (total_counts plan seed fates race candidate)

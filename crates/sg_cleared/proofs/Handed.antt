@@ -1,10 +1,11 @@
 -- What an office hands to a court, as a record, a printing and a completion: the lines spell it.
-use Rattle.std.proofs.Common.{◌≡◌, ℕ, zero, suc, ◌+◌, ◌<◌, ◌==◌, ◌||◌, Bool, true, false, inl, inr, List, [], ◌∷◌, ◌++◌, All, length, map, Option, Some, None, refl, sym, subst, ap, ◌∙◌, arith}
-use Rattle.std.specs.List.{concat, list_all, list_any, range_with_len}
+use Rattle.std.proofs.Common.{◌≡◌, ℕ, zero, suc, ◌+◌, ◌<◌, ◌==◌, Bool, true, List, [], ◌∷◌, ◌++◌, All, length, map, Option, Some, None, refl, sym, subst, ap, ◌∙◌, arith}
+use Rattle.std.specs.List.{concat, list_all, range_with_len}
 use Rattle.std.specs.Option.{option_and_then, option_map_or}
 use Rattle.std.specs.Prelude.{slice_get}
-use Rattle.std.proofs.lemmas.Bool.{and_from, eq-eqb, eqb-true, or_cases}
+use Rattle.std.proofs.lemmas.Bool.{and_from, eq-eqb}
 use Rattle.std.proofs.lemmas.List.Elements.{All-cons, All-nil}
+use Rattle.std.proofs.lemmas.Option.{none-some}
 use Rattle.sg_outside.proofs.LineLemmas.{lines_of-concat, lines_of-line, lines_of-lines}
 use Rattle.sg_outside.specs.TextLines.{AreLines, lines_of}
 use Rattle.sg_plan.proofs.PlanLaws.{bounds}
@@ -29,7 +30,6 @@ use Rattle.sg_record.specs.Laws.{HasWords}
 use Rattle.sg_record.specs.Lines.{lines_in, text_of, texts_in}
 use Rattle.sg_record.specs.declared.record.Record.{Record}
 use Rattle.sg_check.specs.Completions.{IsHalfOf}
-use Rattle.sg_check.specs.Kinds.{has_repeat}
 use Rattle.sg_post.proofs.Bytes.{key-bytes}
 use Rattle.sg_post.proofs.Each.{EachOf, of-map, of-range}
 use Rattle.sg_post.specs.Posted.{both_sides, by_row, posted_record}
@@ -40,6 +40,7 @@ use Rattle.sg_facts.specs.Items.{item_in, row_in}
 use Rattle.sg_parts.specs.Given.{AreCodes, AreOpenings, ArePrinted, Given, IsGiven, IsRowGiven, completion_line, completion_of, completion_texts, half_given, joined, printed_of, printing_line, row_text, sheet_texts}
 use Rattle.sg_parts.specs.declared.parts.RowGiven.{RowGiven}
 use Rattle.sg_accepted.proofs.Posted.{item_get, row_get}
+use Rattle.sg_accepted.proofs.Rule.{no-repeat}
 use Rattle.sg_cleared.proofs.Posted.{opening_on}
 use Rattle.sg_cleared.proofs.Shapes.{each_joined, made_texts, passes}
 use Rattle.sg_cleared.proofs.SheetTexts.{Agree, AreOfVersion, same_sheet, sheet_are_lines}
@@ -131,24 +132,6 @@ rows_are {A} plan value =
 
 -- CODES
 
-no_repeat : (list : List ℕ) → ((i j v : ℕ) → slice_get list i ≡ Some v → slice_get list j ≡ Some v → i ≡ j) → has_repeat list ≡ false
-no_repeat [] one = refl
-no_repeat (x ∷ list) one = by_test (list_any (λ other. other == x) list) refl (no_repeat list (λ i j v here there. let same : suc i ≡ suc j = one (suc i) (suc j) v here there in omega (arith, same)))
-  where
-    some_place : (l : List ℕ) → list_any (λ other. other == x) l ≡ true → (at : ℕ) × (slice_get l at ≡ Some x)
-    some_place [] e = cc
-    some_place (y ∷ l) e = elim (or_cases (y == x) (list_any (λ other. other == x) l) e) [
-      | inl here ↦ (0, ap (λ v. Some v) (eqb-true y x here))
-      | inr behind ↦ let rest = some_place l behind in (suc rest.0, rest.1)
-    ]
-
-    by_test : (b : Bool) → list_any (λ other. other == x) list ≡ b → has_repeat list ≡ false → (list_any (λ other. other == x) list || has_repeat list) ≡ false
-    by_test false e rest = ap (λ (b : Bool). b || has_repeat list) e ∙ rest
-    by_test true e rest =
-        let at = some_place list e in
-        let same : 0 ≡ suc at.0 = one 0 (suc at.0) x refl at.1 in
-        absurd (omega (arith, same))
-
 module _ (plan : Plan) (seed : List ℕ) (fine : fault_of plan ≡ None) where
   -- a code that is listed is the one beside its candidate
   code_at : (race row k v : ℕ) → race < length plan.races → slice_get (codes_of_row plan seed race row) k ≡ Some v → MadeAt (code_beside plan seed race row) (candidates_of plan race) k v
@@ -166,7 +149,7 @@ module _ (plan : Plan) (seed : List ℕ) (fine : fault_of plan ≡ None) where
         long = differ.many;
         below = all_listed (λ code. code < codes_of plan.version) (codes_of_row plan seed race row)
             (λ k v is. let at = code_at race row k v in_race is in subst (λ code. code < codes_of plan.version) at.is (differ.below k at.below));
-        differ = no_repeat (codes_of_row plan seed race row)
+        differ = no-repeat (codes_of_row plan seed race row)
             (λ i j v here there.
             let a = code_at race row i v in_race here in
             let b = code_at race row j v in_race there in
@@ -190,10 +173,7 @@ module _ (plan : Plan) (seed : List ℕ) (fine : fault_of plan ≡ None) where
   }
     where
       code_in : (race row : ℕ) (list : List ℕ) → item_in (office_codes plan seed) race row ≡ Some list → (o : Option (List (List ℕ))) → slice_get (office_codes plan seed) race ≡ o → AreCodes plan race list
-      code_in race row list is None e = absurd (no (sym (ap (option_and_then (λ (items : List (List ℕ)). slice_get items row)) e) ∙ is))
-        where
-          no : None ≡ Some list → ⊥
-          no d = cc
+      code_in race row list is None e = absurd (none-some list (sym (ap (option_and_then (λ (items : List (List ℕ)). slice_get items row)) e) ∙ is))
       code_in race row list is (Some rows) e =
           let at = made_at (λ r. map (codes_of_row plan seed r) (numbers_below (rows_of plan r))) (length plan.races) race rows e in
           let here : slice_get rows row ≡ Some list = sym (ap (option_and_then (λ (items : List (List ℕ)). slice_get items row)) e) ∙ is in

@@ -1,5 +1,7 @@
 -- The rows lead as many marked entries to a candidate as its total says, so that each exponent is 0.
-use Rattle.std.proofs.Common.{◌≡◌, ℕ, ◌*◌, ◌%◌, ◌<◌, ◌≤◌, ◌==◌, nat_le, Bool, true, false, ◌&&◌, ◌||◌, List, length, Option, None, refl, sym, ap, ◌∙◌, arith}
+use Rattle.std.proofs.Common.{◌≡◌, ℕ, ◌*◌, ◌%◌, ◌<◌, ◌≤◌, ◌==◌, nat_le, Bool, true, false, ◌&&◌, ◌||◌, List, length, Option, None, sym, ap, ◌∙◌, arith}
+use Rattle.std.proofs.Math.Bool.{and_comm}
+use Rattle.std.proofs.lemmas.Bool.{lt-leb, or_from}
 use Rattle.std.specs.List.{list_all}
 use Rattle.std.specs.Option.{option_map_or}
 use Rattle.sg_plan.proofs.PlanLaws.{bounds}
@@ -14,6 +16,7 @@ use Rattle.sg_tables.proofs.TableLaws.{opening_laws, pointer_laws}
 use Rattle.sg_tables.specs.Tables.{left_of, path_of}
 use Rattle.sg_grammar.specs.Placed.{Placed}
 use Rattle.sg_record.specs.Places.{places_in}
+use Rattle.sg_check.proofs.Counting.{count-same}
 use Rattle.sg_check.specs.Completions.{Completion, IsHalfOf, any_below}
 use Rattle.sg_check.specs.Facts.{is_marked as posted_marked, points_to}
 use Rattle.sg_facts.specs.Totals.{total_of as posted_total}
@@ -24,10 +27,10 @@ use Rattle.sg_post.specs.declared.story.Claimed.{Claimed}
 use Rattle.sg_post.specs.declared.story.Told.{Told}
 use Rattle.sg_odds.proofs.Gapping.{greatest_most, least_most}
 use Rattle.sg_odds.specs.Odds.{distance, exponent, gap, half_of, is_half_lacking, is_lacking, is_led, least_gap, led, no_opening}
-use Rattle.sg_cleared.proofs.Counting.{leads_to, moved_counts, same_counts, total_counts}
+use Rattle.sg_cleared.proofs.Counting.{leads_to, moved_counts, total_counts}
 use Rattle.sg_accepted.proofs.Posted.{marked_is}
 use Rattle.sg_cleared.proofs.Posted.{opening_on, total_is}
-use Rattle.sg_cleared.proofs.Unaltered.{HasTables, neither_of, none_below, not_within, pointer_below, points_elsewhere}
+use Rattle.sg_cleared.proofs.Unaltered.{HasTables, none_below, pointer_below, points_elsewhere}
 
 -- NO ROW IS LACKING
 
@@ -35,23 +38,17 @@ half_there : (plan : Plan) (seed : List ℕ) (completion : Completion) → HasTa
 half_there plan seed completion has on race instance number within =
     let one : Opening = opening_on plan seed on race instance number in
     ap (λ (o : Option Opening). option_map_or (λ opening. nat_le (entries_of plan race) opening.value || any_below (λ earlier. points_to opening.value (completion on race instance earlier)) number) o true) (has on race instance number within)
-    ∙ neither_of (nat_le (entries_of plan race) one.value) (any_below (λ earlier. points_to one.value (completion on race instance earlier)) number)
-    (not_within one.value (entries_of plan race) (pointer_below plan seed on race instance number within))
+    ∙ or_from (nat_le (entries_of plan race) one.value) (any_below (λ earlier. points_to one.value (completion on race instance earlier)) number)
+    (lt-leb (entries_of plan race) one.value (pointer_below plan seed on race instance number within))
     (none_below (λ earlier. points_to one.value (completion on race instance earlier)) number
     (λ earlier less. points_elsewhere plan seed completion has on race instance number earlier within (let below = within.2 in omega (arith, less, below)) (λ same. omega (arith, same, less))))
 
 pub row_there : (plan : Plan) (seed : List ℕ) (completion : Completion) → HasTables plan seed completion → (race instance number : ℕ) → IsHalfOf plan race instance number → is_lacking plan completion race instance number ≡ false
 row_there plan seed completion has race instance number within =
-    neither_of (is_half_lacking plan completion side.Left race instance number) (is_half_lacking plan completion side.Right race instance number) (half_there plan seed completion has side.Left race instance number within)
+    or_from (is_half_lacking plan completion side.Left race instance number) (is_half_lacking plan completion side.Right race instance number) (half_there plan seed completion has side.Left race instance number within)
     (half_there plan seed completion has side.Right race instance number within)
 
 -- WHERE THE ROWS LEAD
-
-turned : (a b : Bool) → (a && b) ≡ (b && a)
-turned true true = refl
-turned true false = refl
-turned false true = refl
-turned false false = refl
 
 no_distance : (a b : ℕ) → a ≡ b → distance a b ≡ 0
 no_distance a b same = omega (arith, same)
@@ -75,12 +72,12 @@ module _ (plan : Plan) (seed : List ℕ) (fates : List Told) (draw : Draw) (clai
       ap (λ e. posted_marked plan race e lines && (half_of completion side.Right race instance number).value % candidates_of plan race == candidate) left
       ∙ (ap (λ s. posted_marked plan race entry lines && s % candidates_of plan race == candidate) right
       ∙ (ap (λ (b : Bool). b && path_of plan seed race entry % candidates_of plan race == candidate) (marked_is plan seed fates draw claims fine fit race entry within.0)
-      ∙ turned (is_marked plan seed fates race entry) (path_of plan seed race entry % candidates_of plan race == candidate)))
+      ∙ and_comm (is_marked plan seed fates race entry) (path_of plan seed race entry % candidates_of plan race == candidate)))
 
   -- as many as the total says
   pub led_is : (race instance candidate : ℕ) → race < length plan.races → instance < plan.instances → led plan lines completion race instance candidate ≡ total_of plan seed fates race candidate
   led_is race instance candidate in_race in_instances =
-      same_counts (is_led plan lines completion race instance candidate) (λ number. leads_to plan seed fates race candidate (left_of plan seed race instance number)) (entries_of plan race)
+      count-same (is_led plan lines completion race instance candidate) (λ number. leads_to plan seed fates race candidate (left_of plan seed race instance number)) (entries_of plan race)
       (λ number below. leads_alike race instance candidate number (in_race, in_instances, below))
       ∙ (moved_counts (leads_to plan seed fates race candidate) (left_of plan seed race instance) (entries_of plan race) (pointer_laws.lefts plan seed race instance)
       ∙ sym (total_counts plan seed fates race candidate))

@@ -1,17 +1,14 @@
 -- What a posted record says at each coordinate: what the tables and the fates of the ballots say there.
 use Rattle.std.proofs.Common.{◌≡◌, ℕ, ◌<◌, true, List, [], ◌∷◌, ◌++◌, length, Option, Some, None, refl, sym, subst, ap, ◌∙◌}
+use Rattle.std.proofs.lemmas.Option.{none-some, same_Some}
 use Rattle.std.specs.List.{list_all}
 use Rattle.std.specs.Option.{option_and_then, option_map_or}
-use Rattle.std.proofs.lemmas.Slice.Eq.{bytes_eq-Decides}
-use Rattle.sha2.specs.Sha256.{sha256}
 use Rattle.sg_plan.specs.Ballots.{candidates_of, entry_at}
 use Rattle.sg_plan.specs.Limits.{fault_of}
 use Rattle.sg_plan.specs.declared.plan.Draw.{Draw}
 use Rattle.sg_plan.specs.declared.plan.Plan.{Plan}
 use Rattle.sg_plan.specs.declared.plan.Side.{Side}
 use Rattle.sg_plan.specs.declared.plan.Side.TheVariants as side
-use Rattle.sg_commit.specs.Commitments.{commit_input}
-use Rattle.sg_commit.specs.declared.CommitKind.{CommitKind}
 use Rattle.sg_commit.specs.declared.Digest.{Digest}
 use Rattle.sg_commit.specs.declared.Opening.{Opening}
 use Rattle.sg_tables.proofs.TableLaws.{opening_laws}
@@ -34,7 +31,7 @@ use Rattle.sg_post.specs.Marks.{total_of}
 use Rattle.sg_post.specs.Posted.{code_in_row, committed, opened_row, posted_record, row_commit_of}
 use Rattle.sg_post.specs.declared.story.Claimed.{Claimed}
 use Rattle.sg_post.specs.declared.story.Told.{Told}
-use Rattle.sg_accepted.proofs.Opening.{OpensRow, opened-opens}
+use Rattle.sg_accepted.proofs.Opening.{OpensRow, opened-opens, opens-committed}
 use Rattle.sg_accepted.proofs.Posted.{SaysRight, all-right, committed_half, item_get, row_get}
 use Rattle.sg_facts.proofs.Each.{EachOf}
 use Rattle.sg_facts.proofs.Facts.{are_listed}
@@ -58,35 +55,12 @@ opening_on plan seed side.Right race instance number = right_opening_of plan see
 -- what is opened of a half is that
 opened_is : (plan : Plan) (seed : List ℕ) (on : Side) (race instance number : ℕ) (opening : RowOpening) (one : Opening) → OpensRow plan seed race instance number opening → opened_on on opening ≡ Some one
     → opening_on plan seed on race instance number ≡ one
-opened_is plan seed side.Left race instance number (row.Left l) one is e = sym is ∙ some_same e
-  where
-    some_same : Some l ≡ Some one → l ≡ one
-    some_same d = cc
-opened_is plan seed side.Left race instance number (row.Right r) one is e = absurd (no e)
-  where
-    no : None ≡ Some one → ⊥
-    no d = cc
-opened_is plan seed side.Left race instance number (row.Both l r) one is e = sym is.0 ∙ some_same e
-  where
-    some_same : Some l ≡ Some one → l ≡ one
-    some_same d = cc
-opened_is plan seed side.Right race instance number (row.Left l) one is e = absurd (no e)
-  where
-    no : None ≡ Some one → ⊥
-    no d = cc
-opened_is plan seed side.Right race instance number (row.Right r) one is e = sym is ∙ some_same e
-  where
-    some_same : Some r ≡ Some one → r ≡ one
-    some_same d = cc
-opened_is plan seed side.Right race instance number (row.Both l r) one is e = sym is.1 ∙ some_same e
-  where
-    some_same : Some r ≡ Some one → r ≡ one
-    some_same d = cc
-
-opens_committed : (digest : Option Digest) (kind : CommitKind) (race instance place : ℕ) (opening : Opening) → digest ≡ Some (committed kind race instance place opening)
-    → opens_digest digest kind race instance place opening ≡ true
-opens_committed digest kind race instance place opening is =
-    ap (λ (d : Option Digest). opens_digest d kind race instance place opening) is ∙ (bytes_eq-Decides (sha256 (commit_input kind race instance place opening)) (sha256 (commit_input kind race instance place opening))).1 refl
+opened_is plan seed side.Left race instance number (row.Left l) one is e = sym is ∙ same_Some l one e
+opened_is plan seed side.Left race instance number (row.Right r) one is e = absurd (none-some one e)
+opened_is plan seed side.Left race instance number (row.Both l r) one is e = sym is.0 ∙ same_Some l one e
+opened_is plan seed side.Right race instance number (row.Left l) one is e = absurd (none-some one e)
+opened_is plan seed side.Right race instance number (row.Right r) one is e = sym is ∙ same_Some r one e
+opened_is plan seed side.Right race instance number (row.Both l r) one is e = sym is.1 ∙ same_Some r one e
 
 commits_on : (plan : Plan) (seed : List ℕ) (on : Side) (race instance number : ℕ) → digest_on on (row_commit_of plan seed race instance number) ≡ committed (half_kind on) race instance number (opening_on plan seed on race instance number)
 unfolding row_commit_of
@@ -116,7 +90,7 @@ module _ (plan : Plan) (seed : List ℕ) (fates : List Told) (draw : Draw) (clai
   pub half_opens : (on : Side) (race instance number : ℕ) → IsHalfOf plan race instance number
       → opens_digest (half_commitment lines on race instance number) (half_kind on) race instance number (opening_on plan seed on race instance number) ≡ true
   half_opens on race instance number within =
-      opens_committed (half_commitment lines on race instance number) (half_kind on) race instance number (opening_on plan seed on race instance number) (commitment_is on race instance number within)
+      opens-committed (half_commitment lines on race instance number) (half_kind on) race instance number (opening_on plan seed on race instance number) (commitment_is on race instance number within)
 
   -- what is posted of a half is that opening
   pub half_posted : (on : Side) (race instance number : ℕ) (one : Opening) → IsHalfOf plan race instance number → posted_half lines on race instance number ≡ Some one → opening_on plan seed on race instance number ≡ one

@@ -1,49 +1,27 @@
 -- Lists of one shape: they are the same where their items are, one after another.
-use Rattle.std.proofs.Common.{◌≡◌, ℕ, suc, ◌+◌, ◌*◌, ◌==◌, ◌&&◌, Bool, true, List, [], ◌∷◌, ◌++◌, length, map, Some, refl, sym, ap, ◌∙◌, append_assoc, length-append, arith}
+use Rattle.std.proofs.Common.{◌≡◌, ℕ, suc, ◌+◌, ◌*◌, ◌==◌, ◌&&◌, Bool, true, List, [], ◌∷◌, ◌++◌, drop, length, map, take, Some, refl, sym, ap, ◌∙◌, arith}
+use Rattle.std.proofs.Math.Seq.{drop-append_seam, take-append_seam}
 use Rattle.std.specs.List.{flat_map, list_all}
 use Rattle.std.specs.Prelude.{slice_get}
 use Rattle.std.proofs.lemmas.Bool.{and_parts, eqb-true}
+use Rattle.std.proofs.lemmas.List.{map-append}
 use Rattle.sg_plan.specs.Ballots.{entries_of}
 use Rattle.sg_plan.specs.declared.plan.Plan.{Plan}
 use Rattle.sg_record.specs.Formed.{each_passes, has_rows}
 use Rattle.sg_post.proofs.Each.{EachOf, of-append}
+use Rattle.sg_parts.proofs.RowLines.{all_long}
+use Rattle.sg_parts.proofs.Wholes.{joined_both}
 use Rattle.sg_parts.specs.Given.{joined}
+use Rattle.sg_court.proofs.Given.{head_same, tail_same}
 
 -- ONE AFTER ANOTHER
 
 -- fronts of one length at the front of a list are the same
 pub fronts_are_same : {A : Type 0} (xs ys us vs : List A) → length xs ≡ length ys → xs ++ us ≡ ys ++ vs → (xs ≡ ys) × (us ≡ vs)
-fronts_are_same [] [] us vs long same = (refl, same)
-fronts_are_same [] (y ∷ ys) us vs long same = absurd (omega (arith, long))
-fronts_are_same (x ∷ xs) [] us vs long same = absurd (omega (arith, long))
-fronts_are_same {A} (x ∷ xs) (y ∷ ys) us vs long same =
-    let rest = fronts_are_same xs ys us vs (omega (arith, long)) (tail_same same) in
-    (both (head_same same) rest.0, rest.1)
-  where
-    head_same : x ∷ (xs ++ us) ≡ y ∷ (ys ++ vs) → x ≡ y
-    head_same e = cc
-
-    tail_same : x ∷ (xs ++ us) ≡ y ∷ (ys ++ vs) → xs ++ us ≡ ys ++ vs
-    tail_same e = cc
-
-    both : x ≡ y → xs ≡ ys → x ∷ xs ≡ y ∷ ys
-    both e d = cc
-
-pub joined_both : {A : Type 0} (xs ys : List (List A)) → joined (xs ++ ys) ≡ joined xs ++ joined ys
-joined_both [] ys = refl
-joined_both (x ∷ xs) ys = ap (λ l. x ++ l) (joined_both xs ys) ∙ sym (append_assoc x (joined xs) (joined ys))
-
-joined_long : {A : Type 0} (count : ℕ) (lists : List (List A)) → list_all (λ items. length items == count) lists ≡ true → length (joined lists) ≡ length lists * count
-joined_long count [] all = omega arith
-joined_long count (x ∷ lists) all =
-    let parts = and_parts (length x == count) (list_all (λ items. length items == count) lists) all in
-    let rest = joined_long count lists parts.1 in
-    let here = eqb-true (length x) count parts.0 in
-    let step : suc (length lists) * count ≡ count + length lists * count = one_more (length lists) count in
-    omega (arith, length-append x (joined lists), rest, here, step)
-  where
-    one_more : (n c : ℕ) → suc n * c ≡ c + n * c
-    one_more n c = grind arith
+fronts_are_same {A} xs ys us vs long same = (
+  sym (take-append_seam xs us) ∙ (ap (take (length xs)) same ∙ (ap (λ (k : ℕ). take k (ys ++ vs)) long ∙ take-append_seam ys vs)),
+  sym (drop-append_seam xs us) ∙ (ap (drop (length xs)) same ∙ (ap (λ (k : ℕ). drop k (ys ++ vs)) long ∙ drop-append_seam ys vs)),
+)
 
 -- ITEMS OF ONE SHAPE
 
@@ -72,7 +50,7 @@ races_same {A} plan at (x ∷ a) (y ∷ b) long all all' same =
     let here = and_parts (length x == plan.instances) (list_all (λ (items : List A). length items == n) x) parts.0 in
     let here' = and_parts (length y == plan.instances) (list_all (λ (items : List A). length items == n) y) parts'.0 in
     let counts : length x ≡ length y = eqb-true (length x) plan.instances here.0 ∙ sym (eqb-true (length y) plan.instances here'.0) in
-    let longs : length (joined x) ≡ length (joined y) = joined_long n x here.1 ∙ (ap (λ k. k * n) counts ∙ sym (joined_long n y here'.1)) in
+    let longs : length (joined x) ≡ length (joined y) = all_long n x here.1 ∙ (ap (λ k. k * n) counts ∙ sym (all_long n y here'.1)) in
     let both = fronts_are_same (joined x) (joined y) (joined (joined a)) (joined (joined b)) longs (sym (joined_both x (joined a)) ∙ (same ∙ joined_both y (joined b))) in
     ap (λ (l : List (List A)). l ∷ a) (lists_same n x y counts here.1 here'.1 both.0)
     ∙ ap (λ (l : List (List (List A))). y ∷ l) (races_same plan (at + 1) a b (omega (arith, long)) parts.1 parts'.1 both.1)
@@ -107,18 +85,8 @@ images_same f P Q one (x ∷ xs) [] p q same = absurd (no same)
     no e = cc
 images_same {A} f P Q one (x ∷ xs) (y ∷ ys) p q same =
     ap (λ (z : A). z ∷ xs) (one x y p.0 q.0 (head_same same)) ∙ ap (λ (l : List A). y ∷ l) (images_same f P Q one xs ys p.1 q.1 (tail_same same))
-  where
-    head_same : {u v : List ℕ} {us vs : List (List ℕ)} → u ∷ us ≡ v ∷ vs → u ≡ v
-    head_same e = cc
-
-    tail_same : {u v : List ℕ} {us vs : List (List ℕ)} → u ∷ us ≡ v ∷ vs → us ≡ vs
-    tail_same e = cc
 
 -- TEXTS OF ITEMS THAT ARE MADE NUMBER BY NUMBER
-
-map_both : {A B : Type 0} (f : A → B) (xs ys : List A) → map f (xs ++ ys) ≡ map f xs ++ map f ys
-map_both f [] ys = refl
-map_both f (x ∷ xs) ys = ap (λ l. f x ∷ l) (map_both f xs ys)
 
 module _ {A B : Type 0} (f : A → List ℕ) (g : B → List ℕ) where
   items_texts : (v : ℕ → A) (w : ℕ → B) → ((k : ℕ) → f (v k) ≡ g (w k)) → (ks : List ℕ) → map f (map v ks) ≡ map g (map w ks)
@@ -128,17 +96,17 @@ module _ {A B : Type 0} (f : A → List ℕ) (g : B → List ℕ) where
   lists_texts : (v : ℕ → List A) (w : ℕ → List B) → ((k : ℕ) → map f (v k) ≡ map g (w k)) → (ks : List ℕ) → map f (joined (map v ks)) ≡ map g (flat_map w ks)
   lists_texts v w same [] = refl
   lists_texts v w same (k ∷ ks) =
-      map_both f (v k) (joined (map v ks))
+      map-append f (v k) (joined (map v ks))
       ∙ (ap (λ (l : List (List ℕ)). l ++ map f (joined (map v ks))) (same k)
-      ∙ (ap (λ (l : List (List ℕ)). map g (w k) ++ l) (lists_texts v w same ks) ∙ sym (map_both g (w k) (flat_map w ks))))
+      ∙ (ap (λ (l : List (List ℕ)). map g (w k) ++ l) (lists_texts v w same ks) ∙ sym (map-append g (w k) (flat_map w ks))))
 
   rows_texts : (v : ℕ → List (List A)) (w : ℕ → List B) → ((k : ℕ) → map f (joined (v k)) ≡ map g (w k)) → (ks : List ℕ) → map f (joined (joined (map v ks))) ≡ map g (flat_map w ks)
   rows_texts v w same [] = refl
   rows_texts v w same (k ∷ ks) =
       ap (map f) (joined_both (v k) (joined (map v ks)))
-      ∙ (map_both f (joined (v k)) (joined (joined (map v ks)))
+      ∙ (map-append f (joined (v k)) (joined (joined (map v ks)))
       ∙ (ap (λ (l : List (List ℕ)). l ++ map f (joined (joined (map v ks)))) (same k)
-      ∙ (ap (λ (l : List (List ℕ)). map g (w k) ++ l) (rows_texts v w same ks) ∙ sym (map_both g (w k) (flat_map w ks)))))
+      ∙ (ap (λ (l : List (List ℕ)). map g (w k) ++ l) (rows_texts v w same ks) ∙ sym (map-append g (w k) (flat_map w ks)))))
 
   -- of three depths
   pub made_texts : (v : (race instance row : ℕ) → A) (w : (race instance row : ℕ) → B) → ((race instance row : ℕ) → f (v race instance row) ≡ g (w race instance row))

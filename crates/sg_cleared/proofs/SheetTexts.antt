@@ -1,12 +1,12 @@
 -- The text of a sheet: each line of it is a line, and tells the codes that stand on it.
-use Rattle.std.proofs.Common.{◌≡◌, ◌≢◌, ℕ, zero, suc, ◌+◌, ◌-◌, ◌/◌, ◌%◌, ◌^◌, ◌<◌, ◌≤◌, ◌==◌, ◌||◌, not, Bool, true, false, inl, inr, List, [], ◌∷◌, ◌++◌, All, codes, length, map, replicate, Option, Some, None, refl, sym, subst, ap, ◌∙◌, append_assoc, arith}
+use Rattle.std.proofs.Common.{◌≡◌, ◌≢◌, ℕ, zero, suc, ◌+◌, ◌-◌, ◌/◌, ◌%◌, ◌^◌, ◌<◌, ◌≤◌, ◌==◌, ◌||◌, not, Bool, true, false, inl, inr, List, [], ◌∷◌, ◌++◌, All, codes, length, map, Option, Some, None, refl, sym, subst, ap, ◌∙◌, append_assoc, arith}
 use Rattle.std.specs.List.{list_all, list_any}
 use Rattle.std.specs.Option.{option_map_or}
 use Rattle.std.specs.Prelude.{decimal, slice_get}
-use Rattle.std.proofs.lemmas.Bool.{agree_below_at, and_parts, eq-eqb, eqb-true, or_cases}
+use Rattle.std.proofs.lemmas.Bool.{agree_below_at, and_parts, eq-eqb, eqb-true, or_cases, or_right, true≢false}
 use Rattle.std.proofs.lemmas.List.{append_cancel_left}
 use Rattle.std.proofs.lemmas.List.Elements.{All-head, All-tail}
-use Rattle.std.proofs.lemmas.Option.{slice_get_within}
+use Rattle.std.proofs.lemmas.Option.{same_Some, slice_get_within}
 use Rattle.sg_outside.proofs.LineLemmas.{HasNoFeed-append, IsLine-append}
 use Rattle.sg_outside.specs.TextLines.{AreLines, HasNoFeed, IsLine}
 use Rattle.sg_lines.proofs.Numbers.{decimal-digits_only}
@@ -17,9 +17,8 @@ use Rattle.sg_plan.proofs.PlanLaws.{ballot_has-true, row_filled, rows_are_one}
 use Rattle.sg_plan.specs.Laws.{InRow}
 use Rattle.sg_plan.specs.Ballots.{ballot_has, ballot_styles, races_of_style, rows_of, style_has, style_of_ballot}
 use Rattle.sg_plan.specs.Codes.{codes_of}
-use Rattle.sg_plan.specs.Limits.{KeepsRun, fault_of}
+use Rattle.sg_plan.specs.Limits.{fault_of}
 use Rattle.sg_plan.specs.declared.plan.Plan.{Plan}
-use Rattle.sg_plan.specs.declared.plan.Run.{Run}
 use Rattle.sg_sheet.proofs.Listing.{place_style, sheet_printed, style_place}
 use Rattle.sg_sheet.proofs.Styles.{has-in_plan}
 use Rattle.sg_sheet.specs.Sheet.{Printed, SheetLine, ballot_text, code_words, codes_text, line_text, sheet_lines}
@@ -28,6 +27,9 @@ use Rattle.sg_sheet.specs.inside.Listed.{ballot_due, codes_due, due_from, line_d
 use Rattle.sg_sheet.specs.declared.due.Due.{Due}
 use Rattle.sg_sheet.specs.declared.due.Due.TheVariants as line
 use Rattle.sg_post.proofs.Each.{EachOf, of-append}
+use Rattle.sg_cleared.proofs.Shapes.{fronts_are_same}
+use Rattle.sg_court.proofs.Given.{head_same, tail_same}
+use Rattle.sg_court.proofs.Lines.{AreBelow, styles_below}
 
 -- BYTES WITHOUT A LINE FEED
 
@@ -55,10 +57,7 @@ sign_unfed : (value : ℕ) → value < 32 → sign_of value ≢ 10
 unfolding sign_of
 sign_unfed value fits same =
     let other : (sign_of value == 10) ≡ false = agree_below_at (λ v. sign_of v == 10) (λ v. false) 32 value refl fits in
-    no (sym (eq-eqb (sign_of value) 10 same) ∙ other)
-  where
-    no : true ≡ false → ⊥
-    no e = cc
+    true≢false (sym (eq-eqb (sign_of value) 10 same) ∙ other)
 
 code_unfed : (version code : ℕ) → code < codes_of version → HasNoFeed (code_word version code)
 unfolding code_word
@@ -89,57 +88,21 @@ codes_is_line version race list a all =
 
 -- THE CODES THAT A LINE TELLS
 
--- two words of one length at the front of a text are the same
-fronts_same : (xs ys us vs : List ℕ) → length xs ≡ length ys → xs ++ us ≡ ys ++ vs → (xs ≡ ys) × (us ≡ vs)
-fronts_same [] [] us vs long same = (refl, same)
-fronts_same [] (y ∷ ys) us vs long same = absurd (omega (arith, long))
-fronts_same (x ∷ xs) [] us vs long same = absurd (omega (arith, long))
-fronts_same (x ∷ xs) (y ∷ ys) us vs long same =
-    let rest = fronts_same xs ys us vs (omega (arith, long)) (tail_same same) in
-    (joined (head_same same) rest.0, rest.1)
-  where
-    head_same : x ∷ (xs ++ us) ≡ y ∷ (ys ++ vs) → x ≡ y
-    head_same e = cc
-
-    tail_same : x ∷ (xs ++ us) ≡ y ∷ (ys ++ vs) → xs ++ us ≡ ys ++ vs
-    tail_same e = cc
-
-    joined : x ≡ y → xs ≡ ys → x ∷ xs ≡ y ∷ ys
-    joined e d = cc
-
 words_same : (version : ℕ) (a b : List ℕ) → All (λ code. code < codes_of version) a → All (λ code. code < codes_of version) b → code_words version a ++ 10 ∷ [] ≡ code_words version b ++ 10 ∷ [] → a ≡ b
 words_same version [] [] all all' same = refl
-words_same version [] (y ∷ b) all all' same = absurd (other same)
-  where
-    other : 10 ∷ [] ≡ 32 ∷ ((code_word version y ++ code_words version b) ++ 10 ∷ []) → ⊥
-    other e = let no : 10 ≡ 32 = first e in absurd (omega (arith, no))
-      where
-        first : {u v : ℕ} {us vs : List ℕ} → u ∷ us ≡ v ∷ vs → u ≡ v
-        first d = cc
-words_same version (x ∷ a) [] all all' same = absurd (other same)
-  where
-    other : 32 ∷ ((code_word version x ++ code_words version a) ++ 10 ∷ []) ≡ 10 ∷ [] → ⊥
-    other e = let no : 32 ≡ 10 = first e in absurd (omega (arith, no))
-      where
-        first : {u v : ℕ} {us vs : List ℕ} → u ∷ us ≡ v ∷ vs → u ≡ v
-        first d = cc
+words_same version [] (y ∷ b) all all' same = let no : 10 ≡ 32 = head_same same in absurd (omega (arith, no))
+words_same version (x ∷ a) [] all all' same = let no : 32 ≡ 10 = head_same same in absurd (omega (arith, no))
 words_same version (x ∷ a) (y ∷ b) all all' same =
     let P : ℕ → Type 0 = λ (c : ℕ). c < codes_of version in
     let below = All-head P x a all in
     let below' = All-head P y b all' in
     let parts =
-    fronts_same (32 ∷ code_word version x) (32 ∷ code_word version y) (code_words version a ++ 10 ∷ []) (code_words version b ++ 10 ∷ [])
+    fronts_are_same (32 ∷ code_word version x) (32 ∷ code_word version y) (code_words version a ++ 10 ∷ []) (code_words version b ++ 10 ∷ [])
     (omega (arith, length-code_word version x below, length-code_word version y below'))
     (sym (append_assoc (32 ∷ code_word version x) (code_words version a) (10 ∷ [])) ∙ (same ∙ append_assoc (32 ∷ code_word version y) (code_words version b) (10 ∷ []))) in
-    let first : x ≡ y = codes_differ version x y below below' (tail_of parts.0) in
+    let first : x ≡ y = codes_differ version x y below below' (tail_same parts.0) in
     let rest : a ≡ b = words_same version a b (All-tail P x a all) (All-tail P y b all') parts.1 in
-    joined first rest
-  where
-    tail_of : {us vs : List ℕ} → 32 ∷ us ≡ 32 ∷ vs → us ≡ vs
-    tail_of e = cc
-
-    joined : x ≡ y → a ≡ b → x ∷ a ≡ y ∷ b
-    joined e d = cc
+    ap (λ (c : ℕ). c ∷ a) first ∙ ap (λ (l : List ℕ). y ∷ l) rest
 
 pub codes_same : (version race : ℕ) (a b : List ℕ) → All (λ code. code < codes_of version) a → All (λ code. code < codes_of version) b → codes_text version race a ≡ codes_text version race b → a ≡ b
 codes_same version race a b all all' same =
@@ -154,31 +117,9 @@ abbrev pub IsPlaced : Plan → Due → Type 0
 IsPlaced plan (line.Ballot ballot style) = (ballot < 2 ^ 32) × (style < 2 ^ 32)
 IsPlaced plan (line.Codes race row) = (race < length plan.races) × (row < rows_of plan race)
 
-abbrev AreBelow : ℕ → List ℕ → Type 0
-AreBelow end [] = Unit {0}
-AreBelow end (x ∷ xs) = (x < end) × AreBelow end xs
-
-below_both : (end : ℕ) (xs ys : List ℕ) → AreBelow end xs → AreBelow end ys → AreBelow end (xs ++ ys)
-below_both end [] ys a b = b
-below_both end (x ∷ xs) ys a b = (a.0, below_both end xs ys a.1 b)
-
-below_again : (end count x : ℕ) → x < end → AreBelow end (replicate count x)
-below_again end zero x less = tt
-below_again end (suc count) x less = (less, below_again end count x less)
-
-styles_below : (end : ℕ) (runs : List Run) → All (KeepsRun end) runs → AreBelow end (ballot_styles runs)
-styles_below end [] all = tt
-styles_below end (run ∷ runs) all =
-    below_both end (replicate run.count run.style) (ballot_styles runs) (below_again end run.count run.style (All-head (KeepsRun end) run runs all).style)
-    (styles_below end runs (All-tail (KeepsRun end) run runs all))
-
 split_each : {A : Type 0} (P : A → Type 0) (xs ys : List A) → EachOf P (xs ++ ys) → EachOf P xs × EachOf P ys
 split_each P [] ys all = (tt, all)
 split_each P (x ∷ xs) ys all = let rest = split_each P xs ys all.1 in ((all.0, rest.0), rest.1)
-
-or_right : (a b : Bool) → b ≡ true → (a || b) ≡ true
-or_right true b e = refl
-or_right false b e = e
 
 module _ (plan : Plan) (fine : fault_of plan ≡ None) where
   has_ballot : (ballot style race : ℕ) → style_of_ballot plan ballot ≡ Some style → style_has plan race style ≡ true → ballot_has plan ballot race ≡ true
@@ -223,11 +164,8 @@ of_ballot : (P : Due → Type 0) (plan : Plan) (ballot : ℕ) (styles : List ℕ
 of_ballot P plan ballot [] k style is all = absurd (omega (arith, slice_get_within [] k style is))
 of_ballot P plan ballot (s ∷ styles) zero style is all =
     let here : ballot ≡ ballot + 0 = omega arith in
-    let same : s ≡ style = some_same is in
+    let same = same_Some s style is in
     subst (λ n. EachOf P (ballot_due plan n style)) here (subst (λ x. EachOf P (ballot_due plan ballot x)) same (split_each P (ballot_due plan ballot s) (due_from plan (ballot + 1) styles) all).0)
-  where
-    some_same : Some s ≡ Some style → s ≡ style
-    some_same e = cc
 of_ballot P plan ballot (s ∷ styles) (suc k) style is all =
     let next : (ballot + 1) + k ≡ ballot + suc k = omega arith in
     subst (λ n. EachOf P (ballot_due plan n style)) next (of_ballot P plan (ballot + 1) styles k style is (split_each P (ballot_due plan ballot s) (due_from plan (ballot + 1) styles) all).1)
@@ -238,11 +176,8 @@ of_row P plan race row below all = by_style (style_of_ballot plan found.ballot) 
     found : InRow plan race row
     found = row_filled plan race row below
 
-    none : true ≡ false → ⊥
-    none e = cc
-
     by_style : (o : Option ℕ) → style_of_ballot plan found.ballot ≡ o → P (line.Codes race row)
-    by_style None e = absurd (none (sym found.has ∙ ap (λ (o : Option ℕ). option_map_or (style_has plan race) o false) e))
+    by_style None e = absurd (true≢false (sym found.has ∙ ap (λ (o : Option ℕ). option_map_or (style_has plan race) o false) e))
     by_style (Some style) e =
         let first = (ballot_has-true plan found.ballot race found.has).first in
         let at : ℕ = found.ballot - 1 in
@@ -293,12 +228,6 @@ due_told plan p q [] more other same = (tt, same)
 due_told plan p q (one ∷ due) more other same =
     let rest = due_told plan p q due more other (tail_same same) in
     ((head_same same, rest.0), rest.1)
-  where
-    head_same : {x y : List ℕ} {xs ys : List (List ℕ)} → x ∷ xs ≡ y ∷ ys → x ≡ y
-    head_same e = cc
-
-    tail_same : {x y : List ℕ} {xs ys : List (List ℕ)} → x ∷ xs ≡ y ∷ ys → xs ≡ ys
-    tail_same e = cc
 
 -- lines that begin with two sheets: what follows is the same, and the codes
 pub record SameSheets (plan : Plan) (p q : Printed) (more other : List (List ℕ)) : Type 0 where

@@ -1,10 +1,10 @@
 -- No row of a completion with the tables' openings is altered, and none is lacking.
 use Rattle.std.proofs.Common.{◌≡◌, ◌≢◌, ℕ, zero, suc, ◌/◌, ◌%◌, ◌<◌, ◌==◌, nat_le, nat_lt, Bool, true, false, ◌&&◌, ◌||◌, not, inl, inr, List, length, Option, Some, None, refl, sym, ap, ◌∙◌, arith}
+use Rattle.std.proofs.Math.Bool.{and-false}
 use Rattle.std.specs.Prelude.{is_none}
 use Rattle.std.specs.List.{list_all}
 use Rattle.std.specs.Option.{option_map_or}
-use Rattle.std.proofs.lemmas.Bool.{cases_eq, eq-eqb, ne_eqb}
-use Rattle.std.proofs.lemmas.Bool.Decides.{nat_tests}
+use Rattle.std.proofs.lemmas.Bool.{cases_eq, eq-eqb, lt-leb, ne_eqb, or_from}
 use Rattle.sg_plan.proofs.PlanLaws.{entry_filled, rows_are_one}
 use Rattle.sg_plan.specs.Ballots.{candidates_of, entries_of, rows_of}
 use Rattle.sg_plan.specs.Limits.{fault_of}
@@ -20,14 +20,13 @@ use Rattle.sg_grammar.specs.Placed.{Placed}
 use Rattle.sg_record.specs.Places.{places_in}
 use Rattle.sg_check.specs.Completions.{Completion, IsHalfOf, any_below, is_altered, is_counted, is_half_altered, is_misprinted, is_repeated, is_row_misprinted, is_unopened, is_wrong_pointer, posted_half}
 use Rattle.sg_check.specs.Facts.{is_flagged, is_marked as posted_marked, is_set as posted_set, points_to}
-use Rattle.sg_check.specs.Kinds.{differ}
 use Rattle.sg_check.specs.Printings.{Printing, marked_code}
 use Rattle.sg_post.specs.Fits.{claim_fits, fates_fit}
 use Rattle.sg_post.specs.Marks.{flag_of}
 use Rattle.sg_post.specs.Posted.{posted_record}
 use Rattle.sg_post.specs.declared.story.Claimed.{Claimed}
 use Rattle.sg_post.specs.declared.story.Told.{Told}
-use Rattle.sg_accepted.proofs.Flag.{set-marked}
+use Rattle.sg_accepted.proofs.Flag.{same-differ, set-marked}
 use Rattle.sg_accepted.proofs.Posted.{flag_is, marked_is, set_is}
 use Rattle.sg_cleared.proofs.Posted.{mark_is, opening_on}
 
@@ -37,21 +36,6 @@ pub none_below : (test : ℕ → Bool) (count : ℕ) → ((k : ℕ) → k < coun
 none_below test zero none = refl
 none_below test (suc count) none =
     ap (λ (b : Bool). b || test count) (none_below test count (λ k less. none k (omega (arith, less)))) ∙ none count (omega arith)
-
-and_false : (b : Bool) → (b && false) ≡ false
-and_false true = refl
-and_false false = refl
-
-pub neither_of : (a b : Bool) → a ≡ false → b ≡ false → (a || b) ≡ false
-neither_of true b e d = e
-neither_of false b e d = d
-
-same_differ : (a b : Bool) → a ≡ b → differ a b ≡ false
-same_differ true b e = ap not (sym e)
-same_differ false b e = sym e
-
-pub not_within : (a n : ℕ) → a < n → nat_le n a ≡ false
-not_within a n less = grind (arith, nat_tests, less)
 
 -- POINTERS
 
@@ -113,7 +97,7 @@ module _ (plan : Plan) (seed : List ℕ) (fates : List Told) (draw : Draw) (clai
       at_other other low = elim (cases_eq other number) [
         | inl same ↦ ap (λ (b : Bool). not b && points_to (opening_on plan seed on race instance number).value (completion on race instance other)) (eq-eqb other number same)
         | inr differs ↦
-            ap (λ (b : Bool). not (other == number) && b) (points_elsewhere plan seed completion has on race instance number other within low differs) ∙ and_false (not (other == number))
+            ap (λ (b : Bool). not (other == number) && b) (points_elsewhere plan seed completion has on race instance number other within low differs) ∙ and-false (not (other == number))
       ]
 
   counts_so : (on : Side) (race instance number : ℕ) → IsHalfOf plan race instance number → is_flagged race instance number lines ≡ is_counted plan lines on race (opening_on plan seed on race instance number).value
@@ -137,11 +121,11 @@ module _ (plan : Plan) (seed : List ℕ) (fates : List Told) (draw : Draw) (clai
   half_right on race instance number within =
       let one = opening_on plan seed on race instance number in
       let right : is_wrong_pointer plan lines completion on race instance number one.value ≡ false =
-      neither_of (nat_le (entries_of plan race) one.value) _ (not_within one.value (entries_of plan race) (pointer_below plan seed on race instance number within))
-      (neither_of (is_repeated plan completion on race instance number one.value) _ (repeats_none on race instance number within)
-      (same_differ (is_flagged race instance number lines) (is_counted plan lines on race one.value) (counts_so on race instance number within))) in
+      or_from (nat_le (entries_of plan race) one.value) _ (lt-leb (entries_of plan race) one.value (pointer_below plan seed on race instance number within))
+      (or_from (is_repeated plan completion on race instance number one.value) _ (repeats_none on race instance number within)
+      (same-differ (is_flagged race instance number lines) (is_counted plan lines on race one.value) (counts_so on race instance number within))) in
       ap (λ (o : Option Opening). is_none (posted_half lines on race instance number) && option_map_or (λ opening. is_wrong_pointer plan lines completion on race instance number opening.value) o true) (has on race instance number within)
-      ∙ (ap (λ (b : Bool). is_none (posted_half lines on race instance number) && b) right ∙ and_false (is_none (posted_half lines on race instance number)))
+      ∙ (ap (λ (b : Bool). is_none (posted_half lines on race instance number) && b) right ∙ and-false (is_none (posted_half lines on race instance number)))
 
   -- PRINTS
 
@@ -169,7 +153,7 @@ module _ (plan : Plan) (seed : List ℕ) (fates : List Told) (draw : Draw) (clai
       ap (λ (o : Option Opening). option_map_or (λ l. option_map_or (λ r. is_misprinted plan lines printing race l r) (completion side.Right race instance number) false) o false) (has side.Left race instance number within)
       ∙ (ap (λ (o : Option Opening). option_map_or (λ r. is_misprinted plan lines printing race left r) o false) (has side.Right race instance number within)
       ∙ (ap (λ (b : Bool). (nat_lt left.value (entries_of plan race) && nat_lt right.value (entries_of plan race)) && b) (by_code (marked_code plan race left.value lines) refl)
-      ∙ and_false (nat_lt left.value (entries_of plan race) && nat_lt right.value (entries_of plan race))))
+      ∙ and-false (nat_lt left.value (entries_of plan race) && nat_lt right.value (entries_of plan race))))
     where
       left_one : Opening
       left_one = left_opening_of plan seed race instance number
@@ -188,8 +172,8 @@ module _ (plan : Plan) (seed : List ℕ) (fates : List Told) (draw : Draw) (clai
 
   pub row_right : (race instance number : ℕ) → IsHalfOf plan race instance number → is_altered plan lines completion printing race instance number ≡ false
   row_right race instance number within =
-      neither_of (is_half_altered plan lines completion side.Left race instance number || is_half_altered plan lines completion side.Right race instance number)
+      or_from (is_half_altered plan lines completion side.Left race instance number || is_half_altered plan lines completion side.Right race instance number)
       (is_unopened lines race instance number && is_row_misprinted plan lines completion printing race instance number)
-      (neither_of (is_half_altered plan lines completion side.Left race instance number) (is_half_altered plan lines completion side.Right race instance number) (half_right side.Left race instance number within)
+      (or_from (is_half_altered plan lines completion side.Left race instance number) (is_half_altered plan lines completion side.Right race instance number) (half_right side.Left race instance number within)
       (half_right side.Right race instance number within))
-      (ap (λ (b : Bool). is_unopened lines race instance number && b) (print_right race instance number within) ∙ and_false (is_unopened lines race instance number))
+      (ap (λ (b : Bool). is_unopened lines race instance number && b) (print_right race instance number within) ∙ and-false (is_unopened lines race instance number))

@@ -1,5 +1,5 @@
 -- A talk of the office keeps what was accepted and posted.
-use Rattle.std.proofs.Common.{◌≡◌, ℕ, List, ◌++◌, ap, sym, subst, ◌∙◌}
+use Rattle.std.proofs.Common.{List, ap, subst, ◌∙◌}
 use Rattle.sg_keeper.specs.declared.setup.Setup.{Setup}
 use Rattle.sg_histories.specs.Histories.{Entry}
 use Rattle.sg_histories.specs.Lawful.{Lawful}

@@ -2,5 +2,6 @@
 pub mod Beginning
 pub mod Hearing
 pub mod Opening
+pub mod Posted
 pub mod Printing
 pub mod Steps

@@ -26,7 +26,9 @@ pub fn answer_asks<S: Source, K: Keeper, O: Sink>(
     match open_kept(alloc, keeper) {
         Ok(office) => {
             let mut office = office;
-            ending_status(do_lines(alloc, &mut office, input, keeper, out))
+            let ending = do_lines(alloc, &mut office, input, keeper, out);
+            drop(office);
+            ending_status(ending)
         }
         Err(why) => shown_status(show_closed(alloc, why, out)),
     }

@@ -3,30 +3,62 @@ ghost use Rattle.std.specs.Prelude.{◌≡◌, ◌≤◌};
 ghost use Rattle.sg_outside.specs.Streams.{seen};
 ghost use Rattle.sg_clerk.specs.Shown.{posted_of};
 ghost use Rattle.sg_clerk.specs.Opening.{OfficeEnds, ShowEnds};
+ghost use Rattle.sg_clerk.specs.inside.Posted.{IsToldBy};
+ghost use Rattle.sg_post.specs.Posting.{IsPosting};
 
 use crate::opened::open_kept;
 use crate::shown::{Shown, show_closed};
 use sg_keeper::Keeper;
 use sg_office::Office;
 use sg_outside::Sink;
-use sg_post::{Posting, write_posted};
+use sg_plan::NoMemory;
+use sg_post::{Posting, Story, write_posted};
 use sg_record::Wrote;
 use std::alloc::Global;
+
+/// Writes the text of a posting, each line in one put, and lets the posting go.
+fn write_posting<O: Sink>(
+    alloc: Global,
+    office: &Office,
+    story: &Story,
+    posting: Posting,
+    out: &mut O,
+) -> Shown
+    requires story { IsToldBy story.now office.now }
+    requires posting { IsPosting office.now.setup.plan office.now.setup.seed.0 story.now.fates posting }
+    ensures { OfficeEnds posted_of result office.now (seen (O.written out.old) (O.faults out.old)) (seen (O.written out.new) (O.faults out.new)) }
+{
+    let wrote = write_posted(alloc, office.tables(), &posting, story, out);
+    drop(posting);
+    match wrote {
+        Wrote::Written => Shown::Done,
+        Wrote::SinkFailed => Shown::WriteFault,
+        Wrote::NoMemory => Shown::NoMemory,
+    }
+}
+
+/// Posts what the office tells.
+fn post_story<O: Sink>(alloc: Global, office: &Office, story: &Story, out: &mut O) -> Shown
+    requires { IsToldBy story.now office.now }
+    ensures { OfficeEnds posted_of result office.now (seen (O.written out.old) (O.faults out.old)) (seen (O.written out.new) (O.faults out.new)) }
+{
+    match Posting::make(alloc, office.tables(), story) {
+        Ok(posting) => write_posting(alloc, office, story, posting, out),
+        Err(NoMemory) => Shown::NoMemory,
+    }
+}
 
 /// Writes the text that the office posts at its stage: each line in one put.
 fn write_story<O: Sink>(alloc: Global, office: &Office, out: &mut O) -> Shown
     ensures { OfficeEnds posted_of result office.now (seen (O.written out.old) (O.faults out.old)) (seen (O.written out.new) (O.faults out.new)) }
 {
-    let Ok(story) = office.story(alloc) else {
-        return Shown::NoMemory;
-    };
-    let Ok(posting) = Posting::make(alloc, office.tables(), &story) else {
-        return Shown::NoMemory;
-    };
-    match write_posted(alloc, office.tables(), &posting, &story, out) {
-        Wrote::Written => Shown::Done,
-        Wrote::SinkFailed => Shown::WriteFault,
-        Wrote::NoMemory => Shown::NoMemory,
+    match office.story(alloc) {
+        Ok(story) => {
+            let shown = post_story(alloc, office, &story, out);
+            drop(story);
+            shown
+        }
+        Err(NoMemory) => Shown::NoMemory,
     }
 }
 
@@ -40,7 +72,11 @@ pub fn record<K: Keeper, O: Sink>(alloc: Global, keeper: &mut K, out: &mut O) ->
     ensures later { K.faults keeper.old ≤ K.faults keeper.new }
 {
     match open_kept(alloc, keeper) {
-        Ok(office) => write_story(alloc, &office, out),
+        Ok(office) => {
+            let shown = write_story(alloc, &office, out);
+            drop(office);
+            shown
+        }
         Err(why) => show_closed(alloc, why, out),
     }
 }

@@ -283,7 +283,11 @@ pub fn sheet<K: Keeper, O: Sink>(alloc: Global, keeper: &mut K, out: &mut O) -> 
     ensures later { K.faults keeper.old ≤ K.faults keeper.new }
 {
     match open_kept(alloc, keeper) {
-        Ok(office) => write_sheet(alloc, &office, out),
+        Ok(office) => {
+            let shown = write_sheet(alloc, &office, out);
+            drop(office);
+            shown
+        }
         Err(why) => show_closed(alloc, why, out),
     }
 }

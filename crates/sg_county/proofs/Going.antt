@@ -1,15 +1,15 @@
 -- A line `next`: the last part ends, and one more begins.
-use Rattle.std.proofs.Common.{◌≡◌, ℕ, ◌+◌, ◌==◌, Bool, true, false, not, List, [], ◌∷◌, ◌++◌, length, Option, Some, None, refl, sym, subst, ap, ◌∙◌, append_assoc, arith}
+use Rattle.std.proofs.Common.{◌≡◌, ℕ, ◌+◌, ◌==◌, Bool, true, false, List, [], ◌∷◌, ◌++◌, length, Option, Some, None, refl, sym, subst, ap, ◌∙◌, append_assoc, arith}
 use Rattle.std.specs.Prelude.{if◌then◌else◌}
-use Rattle.std.proofs.lemmas.Bool.{eq-eqb, eqb-true}
-use Rattle.std.proofs.lemmas.List.{length_push}
+use Rattle.std.proofs.lemmas.Bool.{eq-eqb, eqb-true, not-true}
+use Rattle.std.proofs.lemmas.List.{length_push, same_from_push}
 use Rattle.sg_check.proofs.OneMore.{fine-empty}
 use Rattle.sg_check.specs.Verdict.{IsVerdict, totals_of}
 use Rattle.sg_check.specs.declared.judged.Judged.{Judged}
 use Rattle.sg_check.specs.declared.judged.Total.{Total}
 use Rattle.sg_county.proofs.Closing.{closes, good_behind}
 use Rattle.sg_county.proofs.One.{counts_settles}
-use Rattle.sg_county.proofs.PartLists.{Records, parts_behind, parts_next, parts_some, same_last}
+use Rattle.sg_county.proofs.PartLists.{Records, parts_behind, parts_next, parts_some}
 use Rattle.sg_county.proofs.Settling.{all_count, last_counts, settles_lines}
 use Rattle.sg_county.proofs.Small.{fits_behind}
 use Rattle.sg_county.proofs.SumLists.{sums_more}
@@ -31,11 +31,7 @@ use Rattle.sg_pass.specs.declared.pass.Step.TheVariants.{More, Over}
 -- A TALLY IN WHICH NOTHING IS SETTLED
 
 open_not_over : (tally : Tally) → is_open tally ≡ true → tally.over ≡ false
-open_not_over tally still = off tally.over still
-  where
-    off : (b : Bool) → not b ≡ true → b ≡ false
-    off false e = refl
-    off true e = cc
+open_not_over tally still = not-true tally.over still
 
 none_settled : (settled : Option CountyVerdict) (tally : Tally) (lines : List (List ℕ)) → tally.over ≡ false → Judges settled tally lines → settled ≡ None
 none_settled None tally lines off judges = refl
@@ -114,7 +110,7 @@ module _ (tally : Tally) (fresh : Pass) (noted : Kept) (found : Found) (answer :
         settles_lines ((lines ++ line ∷ []) ++ later) old.before old.last (some.0 ∷ some.1) verdict
         (parts_behind lines line later old.before old.last some.0 some.1 next old.are_parts.parts some.2 ∙ append_assoc old.before (old.last ∷ []) (some.0 ∷ some.1)) old.are_parts.count settles;
     settles = λ unsettled.
-        let same = same_last unsettled.before (old.before ++ old.last ∷ []) unsettled.last [] (sym unsettled.are_parts.parts ∙ parts_next lines line old.before old.last next old.are_parts.parts) in
+        let same = same_from_push unsettled.before (old.before ++ old.last ∷ []) unsettled.last [] (sym unsettled.are_parts.parts ∙ parts_next lines line old.before old.last next old.are_parts.parts) in
         counts_settles old.before old.last verdict (last_counts old.before old.last (subst (λ (b : Records). AllCount [] b) same.0 unsettled.are_parts.count)) settles;
   }
 
@@ -127,7 +123,7 @@ module _ (tally : Tally) (fresh : Pass) (noted : Kept) (found : Found) (answer :
         settles_lines ((lines ++ line ∷ []) ++ later) (old.before ++ old.last ∷ []) some.0 some.1 Parts
         (parts_behind lines line later old.before old.last some.0 some.1 next old.are_parts.parts some.2) (all_count old.before old.last old.are_parts.count counts) full;
     settles = λ unsettled.
-        let same = same_last unsettled.before (old.before ++ old.last ∷ []) unsettled.last [] (sym unsettled.are_parts.parts ∙ parts_next lines line old.before old.last next old.are_parts.parts) in
+        let same = same_from_push unsettled.before (old.before ++ old.last ∷ []) unsettled.last [] (sym unsettled.are_parts.parts ∙ parts_next lines line old.before old.last next old.are_parts.parts) in
         let few = unsettled.are_parts.few in
         let long = ap length same.0 in
         omega (arith, few, long, full);

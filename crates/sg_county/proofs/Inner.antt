@@ -1,11 +1,13 @@
 -- A line inside a part.
-use Rattle.std.proofs.Common.{◌≡◌, ℕ, ◌+◌, Bool, true, false, not, List, [], ◌∷◌, ◌++◌, length, Option, Some, None, refl, sym, subst, ap, ◌∙◌}
+use Rattle.std.proofs.Common.{◌≡◌, ℕ, ◌+◌, true, false, not, List, [], ◌∷◌, ◌++◌, length, Option, Some, None, refl, sym, subst, ap, ◌∙◌}
+use Rattle.std.proofs.Math.Bool.{not-not}
+use Rattle.std.proofs.lemmas.List.{same_from_push}
 use Rattle.std.specs.Option.{is_none}
 use Rattle.sg_check.proofs.OneMore.{verdict-more}
 use Rattle.sg_check.specs.Verdict.{AreFine, IsFirstBad}
 use Rattle.sg_check.specs.declared.judged.Kind.{Kind}
 use Rattle.sg_county.proofs.Going.{open_kept, open_settled}
-use Rattle.sg_county.proofs.PartLists.{parts_inner, parts_more, parts_some, same_last}
+use Rattle.sg_county.proofs.PartLists.{parts_inner, parts_more, parts_some}
 use Rattle.sg_county.proofs.Settling.{settles_lines}
 use Rattle.sg_county.specs.County.{is_next}
 use Rattle.sg_county.specs.Tally.{AreKept, AreParts, IsSettled, Judges, Says, StandsFor, is_more, is_open}
@@ -16,10 +18,6 @@ use Rattle.sg_pass.specs.Pass.{Judges as PassJudges, SaysBehind, StandsFor as Ha
 use Rattle.sg_pass.specs.declared.pass.Pass.{Pass}
 use Rattle.sg_pass.specs.declared.pass.Step.{Step}
 use Rattle.sg_pass.specs.declared.pass.Step.TheVariants.{More, Over, Ready}
-
-not_not : (b : Bool) → b ≡ not (not b)
-not_not true = refl
-not_not false = refl
 
 -- a pass that has found a bad line knows it
 bad_known : (pass : Pass) (part : List (List ℕ)) → HasTaken pass part → is_fine_so_far pass ≡ false → (k : Kind) × IsFirstBad part pass.number k
@@ -53,7 +51,7 @@ module _ (tally : Tally) (pass : Pass) (step : Step) (line : List ℕ) (inner : 
     last = old.last ++ line ∷ [];
     are_parts = are_parts;
     stands = adds old.last old.stands;
-    fine = open_still ∙ not_not (is_fine step);
+    fine = open_still ∙ sym (not-not (is_fine step));
     keeps = old.keeps;
   }
 
@@ -71,7 +69,7 @@ module _ (tally : Tally) (pass : Pass) (step : Step) (line : List ℕ) (inner : 
         (parts_more (lines ++ line ∷ []) later old.before (old.last ++ line ∷ []) some.0 some.1 are_parts.parts some.2) old.are_parts.count
         (record { few = old.are_parts.few; number_is = refl; bad = verdict-more (old.last ++ line ∷ []) some.0 number k bad });
     settles = λ unsettled.
-        let same = same_last unsettled.before old.before unsettled.last (old.last ++ line ∷ []) (sym unsettled.are_parts.parts ∙ are_parts.parts) in
+        let same = same_from_push unsettled.before old.before unsettled.last (old.last ++ line ∷ []) (sym unsettled.are_parts.parts ∙ are_parts.parts) in
         let fine : AreFine (old.last ++ line ∷ []) = subst (λ (l : List (List ℕ)). AreFine l) same.1 unsettled.fine in
         let both : None ≡ Some k = sym (fine number) ∙ bad.broken in
         let none : ⊥ = cc in none;

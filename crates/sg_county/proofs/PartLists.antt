@@ -65,17 +65,3 @@ parts_next lines line before last next e =
 pub parts_behind : (lines : List (List ℕ)) (line : List ℕ) (more : List (List ℕ)) (before : Records) (last first : List (List ℕ)) (rest : Records) → is_next line ≡ true → parts_of lines ≡ before ++ last ∷ []
     → parts_of more ≡ first ∷ rest → parts_of ((lines ++ line ∷ []) ++ more) ≡ (before ++ last ∷ []) ++ first ∷ rest
 parts_behind lines line more before last first rest next e f = parts_more (lines ++ line ∷ []) more (before ++ last ∷ []) [] first rest (parts_next lines line before last next e) f
-
--- lists with the same last part have the same parts before it
-pub same_last : (before other : Records) (last end : List (List ℕ)) → before ++ last ∷ [] ≡ other ++ end ∷ [] → (before ≡ other) × (last ≡ end)
-same_last [] [] last end e = (refl, cc)
-same_last [] (o ∷ []) last end e = absurd (let none : ⊥ = cc in none)
-same_last [] (o ∷ p ∷ other) last end e = absurd (let none : ⊥ = cc in none)
-same_last (b ∷ []) [] last end e = absurd (let none : ⊥ = cc in none)
-same_last (b ∷ c ∷ before) [] last end e = absurd (let none : ⊥ = cc in none)
-same_last (b ∷ before) (o ∷ other) last end e =
-    let tails : before ++ last ∷ [] ≡ other ++ end ∷ [] = cc in
-    let heads : b ≡ o = cc in
-    let rest = same_last before other last end tails in
-    let rests : before ≡ other = rest.0 in
-    (cc, rest.1)

@@ -1,5 +1,5 @@
 -- How far the bytes of a county are read.
-use Rattle.std.proofs.Common.{◌≡◌, ℕ, ◌≤◌, inl, inr, true, false, not, Bool, List, [], ◌∷◌, ◌++◌, length, drop, slice_range, refl, sym, subst, ap, ◌∙◌, append_assoc, append-nil, arith}
+use Rattle.std.proofs.Common.{◌≡◌, ℕ, ◌≤◌, inl, inr, true, false, List, [], ◌∷◌, ◌++◌, length, drop, slice_range, refl, sym, subst, ap, ◌∙◌, append_assoc, append-nil, arith}
 use Rattle.std.proofs.lemmas.List.{drop_all}
 use Rattle.sg_county.specs.County.{IsCounty}
 use Rattle.sg_county.specs.Tally.{StandsFor, StandsForSome, is_open}
@@ -56,13 +56,3 @@ taken_answer tally lines verdict (inr front) all over = subst (λ (l : List (Lis
 pub taken_some : (tally : Tally) (lines : List (List ℕ)) → HasTakenLines tally lines → StandsForSome tally
 taken_some tally lines (inl stands) = (lines, stands)
 taken_some tally lines (inr front) = (front.front, front.stands)
-
--- where more may come
-pub more_is : (b : Bool) → not b ≡ false → b ≡ true
-more_is true e = refl
-more_is false e = cc
-
--- and where not
-pub over_is : (b : Bool) → not b ≡ true → b ≡ false
-over_is true e = cc
-over_is false e = refl

@@ -108,7 +108,7 @@ pub small_short : (version : ℕ) (line : SheetLine) → IsSmall version line �
 small_short version (Ballot ballot style) small = ballot_short ballot style small.0 small.1
 small_short version (Codes race list) small = codes_short version race list small.0 small.1
 
-abbrev AreBelow : ℕ → List ℕ → Type 0
+abbrev pub AreBelow : ℕ → List ℕ → Type 0
 AreBelow end [] = Unit {0}
 AreBelow end (x ∷ xs) = (x < end) × AreBelow end xs
 
@@ -120,7 +120,7 @@ below_again : (end count x : ℕ) → x < end → AreBelow end (replicate count 
 below_again end zero x less = tt
 below_again end (suc count) x less = (less, below_again end count x less)
 
-styles_below : (end : ℕ) (runs : List Run) → All (KeepsRun end) runs → AreBelow end (ballot_styles runs)
+pub styles_below : (end : ℕ) (runs : List Run) → All (KeepsRun end) runs → AreBelow end (ballot_styles runs)
 styles_below end [] all = tt
 styles_below end (run ∷ runs) all =
     below_both end (replicate run.count run.style) (ballot_styles runs) (below_again end run.count run.style (all 0 run (omega arith)).style) (styles_below end runs (λ k d within. all (suc k) d (omega (arith, within))))

@@ -1,5 +1,5 @@
 //! What no clause says of a sink: that it writes in time, that each way of it writes what it is given, and which cause it keeps.
-use sg_outside::{Failed, Sink};
+use sg_outside::Sink;
 use sg_system::StdSink;
 use std::cell::Cell;
 use std::io::{self, ErrorKind, Write};
@@ -34,6 +34,18 @@ fn kind_of(sink: &StdSink<Disk<'_>>) -> Option<ErrorKind> {
     sink.cause().map(|error| error.kind())
 }
 
+/// What is held fails at the flush, which tells the cause, and again at the next.
+fn fails_at_flush(sink: &mut StdSink<Disk<'_>>) -> [bool; 6] {
+    [
+        sink.put(b"yes\n").is_ok(),
+        sink.put(b"total 0 0 1\n").is_ok(),
+        kind_of(sink).is_none(),
+        sink.flush().is_err(),
+        kind_of(sink) == Some(ErrorKind::StorageFull),
+        sink.flush().is_err(),
+    ]
+}
+
 #[test]
 fn what_is_held_fails_at_the_flush(rt: HostRuntime) -> Result<(), Fail> {
     let (room, writes) = (Cell::new(3), Cell::new(0));
@@ -42,13 +54,20 @@ fn what_is_held_fails_at_the_flush(rt: HostRuntime) -> Result<(), Fail> {
         writes: &writes,
     };
     let mut sink = StdSink::held(rt.alloc(), disk)?;
-    assert_eq!(rt; sink.put(b"yes\n"), Ok(()));
-    assert_eq!(rt; sink.put(b"total 0 0 1\n"), Ok(()));
-    assert_eq!(rt; kind_of(&sink), None);
-    assert_eq!(rt; sink.flush(), Err(Failed));
-    assert_eq!(rt; kind_of(&sink), Some(ErrorKind::StorageFull));
-    assert_eq!(rt; sink.flush(), Err(Failed));
+    let found = fails_at_flush(&mut sink);
+    drop(sink);
+    assert!(rt; found == [true; 6]);
     Ok(())
+}
+
+/// Puts the same line so many times, and tells how many of them were put.
+fn put_lines(sink: &mut StdSink<Disk<'_>>, count: u32) -> u32 {
+    for at in 0..count {
+        if sink.put(b"total 0 0 1\n").is_err() {
+            return at;
+        }
+    }
+    count
 }
 
 #[test]
@@ -59,14 +78,13 @@ fn what_is_held_is_written_when_it_is_full(rt: HostRuntime) -> Result<(), Fail> 
         writes: &writes,
     };
     let mut sink = StdSink::held(rt.alloc(), disk)?;
-    for _ in 0..10_000 {
-        assert_eq!(rt; sink.put(b"total 0 0 1\n"), Ok(()));
-    }
-    assert_eq!(rt; writes.get(), 1);
-    assert_eq!(rt; sink.flush(), Ok(()));
-    assert_eq!(rt; writes.get(), 2);
-    assert_eq!(rt; room.get(), 880_000);
-    assert_eq!(rt; kind_of(&sink), None);
+    let lines = put_lines(&mut sink, 10_000);
+    let early = writes.get();
+    let is_flushed = sink.flush().is_ok() && kind_of(&sink).is_none();
+    drop(sink);
+    assert!(rt; is_flushed);
+    assert!(rt; [lines, early, writes.get()] == [10_000, 1, 2]);
+    assert!(rt; room.get() == 880_000);
     Ok(())
 }
 
@@ -78,15 +96,11 @@ fn a_full_disk_fails_at_the_put_that_fills_it(rt: HostRuntime) -> Result<(), Fai
         writes: &writes,
     };
     let mut sink = StdSink::held(rt.alloc(), disk)?;
-    let mut lines = 0;
-    for at in 0..20_000 {
-        if sink.put(b"total 0 0 1\n").is_err() {
-            break;
-        }
-        lines = at + 1;
-    }
-    assert_eq!(rt; lines, 10_922);
-    assert_eq!(rt; kind_of(&sink), Some(ErrorKind::StorageFull));
+    let lines = put_lines(&mut sink, 20_000);
+    let kind = kind_of(&sink);
+    drop(sink);
+    assert!(rt; lines == 10_922);
+    assert!(rt; kind == Some(ErrorKind::StorageFull));
     Ok(())
 }
 
@@ -98,10 +112,12 @@ fn at_once_is_before_the_put_returns(rt: HostRuntime) -> Result<(), Fail> {
         writes: &writes,
     };
     let mut sink = StdSink::at_once(rt.alloc(), disk);
-    assert_eq!(rt; sink.put(b"yes\n"), Ok(()));
-    assert_eq!(rt; room.get(), 1);
-    assert_eq!(rt; sink.put(b"total\n"), Err(Failed));
-    assert_eq!(rt; room.get(), 0);
-    assert_eq!(rt; kind_of(&sink), Some(ErrorKind::StorageFull));
+    let are_put = [sink.put(b"yes\n").is_ok(), sink.put(b"total\n").is_ok()];
+    let left = room.get();
+    let kind = kind_of(&sink);
+    drop(sink);
+    assert!(rt; are_put == [true, false]);
+    assert!(rt; left == 0);
+    assert!(rt; kind == Some(ErrorKind::StorageFull));
     Ok(())
 }

@@ -49,7 +49,9 @@ fn is_drawn(alloc: Global, office: &Office) -> Result<bool, NoMemory>
 {
     office.office_law();
     let story = office.story(alloc)?;
-    Ok(is_drawn_stage(&story.stage))
+    let drawn = is_drawn_stage(&story.stage);
+    drop(story);
+    Ok(drawn)
 }
 
 /// Writes what opens the rows of an office whose draw is made.
@@ -104,7 +106,11 @@ fn openings<K: Keeper, O: Sink>(alloc: Global, keeper: &mut K, out: &mut O) -> H
     ensures later { K.faults keeper.old ≤ K.faults keeper.new }
 {
     match open_kept(alloc, keeper) {
-        Ok(office) => hand_over(alloc, &office, out),
+        Ok(office) => {
+            let handed = hand_over(alloc, &office, out);
+            drop(office);
+            handed
+        }
         Err(why) => Handed::Shown(show_closed(alloc, why, out)),
     }
 }

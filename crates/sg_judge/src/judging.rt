@@ -1,10 +1,10 @@
 //! The verdict on a text in memory, in one pass.
-ghost use Rattle.std.specs.Prelude.{◌≡◌, ◌≤◌, List, IfOk, length, true};
+ghost use Rattle.std.specs.Prelude.{◌≡◌, ◌≤◌, List, IfNone, IfOk, IfSome, false, length, true};
 ghost use Rattle.sg_outside.specs.TextLines.{lines_of};
 ghost use Rattle.sg_check.specs.Bounds.{IsSoundIfYes};
 ghost use Rattle.sg_check.specs.Verdict.{IsVerdict};
 ghost use Rattle.sg_pass.specs.Pass.{is_ready};
-ghost use Rattle.sg_judge.specs.inside.Feeding.{IsFed};
+ghost use Rattle.sg_judge.specs.inside.Feeding.{IsFed, IsSettled};
 
 use sg_check::Judged;
 use sg_outside::line_end;
@@ -28,18 +28,39 @@ fn judge_lines(alloc: Global, text: &[u8]) -> Result<Judged, NoMemory>
     ensures { IfOk result (λ judged. IsVerdict (lines_of text.now) judged) }
 {
     let mut pass = Pass::new(alloc)?;
+    match feed_header(&mut pass, text) {
+        Ok(Some(start)) => Ok(judge_behind(pass, text, start)),
+        Ok(None) => Ok(pass.end()),
+        Err(NoMemory) => Err(dropped(pass)),
+    }
+}
+
+/// Lets the pass go, for want of memory.
+fn dropped(pass: Pass) -> NoMemory {
+    drop(pass);
+    NoMemory
+}
+
+/// Feeds a new pass the lines of the plan and the first behind them. It answers where the next line begins, or none where the
+/// verdict stands.
+fn feed_header(pass: &mut Pass, text: &[u8]) -> Result<Option<usize>, NoMemory>
+    requires fed { IsFed pass.old text.now 0 }
+    requires before { is_ready pass.old ≡ false }
+    ensures goes_on { IfOk result (λ start. IfSome start (λ at. IsFed pass.new text.now at × (is_ready pass.new ≡ true))) }
+    ensures settled { IfOk result (λ start. IfNone start (IsSettled pass.new text.now)) }
+{
     let mut at = 0;
     while at < text.len() {
         let end = line_end(text, at);
         match pass.header_line(&text[at..end]) {
             Ok(Step::More) => {}
-            Ok(Step::Ready) => return Ok(judge_behind(pass, text, end)),
-            Ok(Step::Over) => return Ok(pass.end()),
+            Ok(Step::Ready) => return Ok(Some(end)),
+            Ok(Step::Over) => return Ok(None),
             Err(NoMemory) => return Err(NoMemory),
         }
         at = end;
     }
-    Ok(pass.end())
+    Ok(None)
 }
 
 /// The verdict, where the lines before `start` were fed to the pass.

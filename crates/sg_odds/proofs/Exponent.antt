@@ -1,5 +1,5 @@
 -- The exponent that is computed from the totals and a completion is one of the law of the odds.
-use Rattle.std.proofs.Common.{◌≡◌, ℕ, zero, suc, ◌*◌, ◌<◌, ◌≤◌, ◌⊎◌, max, inl, inr, List, refl, sym, subst, ap, ◌∙◌, arith}
+use Rattle.std.proofs.Common.{◌≡◌, ℕ, zero, suc, ◌*◌, ◌<◌, ◌≤◌, ◌⊎◌, max, inl, inr, List, refl, sym, subst, ap, ◌∙◌, mul_comm, arith}
 use Rattle.std.proofs.lemmas.Bool.{cases_eq, cases_lt}
 use Rattle.sg_plan.specs.Ballots.{candidates_of}
 use Rattle.sg_plan.specs.declared.plan.Plan.{Plan}
@@ -58,7 +58,4 @@ exponent_bound lines walked walks whole completion full race race_in =
         let off : IsOffBy plan all completion race k (total_of all race k) (least_gap plan all completion race k)
         = λ instance within. least_below (gap plan all completion race k 0) (gap plan all completion race k) plan.instances instance within in
         let bound = odds_bound lines walked walks completion full race k (total_of all race k) (least_gap plan all completion race k) (total_there all race k stands.count stands.among) off in
-        subst (λ (e : ℕ). FewGetYes plan (before_draw all) completion e) (turned (least_gap plan all completion race k) plan.instances ∙ ap (λ (d : ℕ). plan.instances * d) (sym is)) bound
-      where
-        turned : (a b : ℕ) → a * b ≡ b * a
-        turned a b = grind arith
+        subst (λ (e : ℕ). FewGetYes plan (before_draw all) completion e) (mul_comm (least_gap plan all completion race k) plan.instances ∙ ap (λ (d : ℕ). plan.instances * d) (sym is)) bound

@@ -1,8 +1,9 @@
 -- What is noted of the pointers of an instance, row by row.
-use Rattle.std.proofs.Common.{◌≡◌, ℕ, zero, suc, ◌+◌, ◌<◌, nat_le, Bool, true, false, ◌||◌, inl, inr, List, length, replicate, Option, Some, None, refl, sym, ap, ◌∙◌, arith}
+use Rattle.std.proofs.Common.{◌≡◌, ℕ, suc, ◌+◌, nat_le, Bool, true, false, ◌||◌, inl, inr, List, length, replicate, Option, Some, None, refl, sym, ap, ◌∙◌, arith}
 use Rattle.std.specs.Option.{option_map_or}
 use Rattle.std.specs.Prelude.{slice_get}
 use Rattle.std.proofs.lemmas.Bool.{cases_eq, cases_lt, le-leb}
+use Rattle.std.proofs.lemmas.List.{length-replicate}
 use Rattle.sg_commit.specs.declared.Opening.{Opening}
 use Rattle.sg_plan.specs.Ballots.{entries_of}
 use Rattle.sg_plan.specs.declared.plan.Plan.{Plan}
@@ -13,22 +14,14 @@ use Rattle.sg_check.specs.Facts.{points_to}
 use Rattle.sg_odds.specs.Odds.{is_half_lacking, is_lacking}
 use Rattle.sg_odds.specs.inside.Lacking.{IsFullBefore, is_earlier, lacks_in}
 use Rattle.sg_odds.specs.inside.Values.{HasValues}
+use Rattle.sg_facts.proofs.Tabling.{fill_get}
 
 -- LISTS OF ONE VALUE
 
-filled_get : {A : Type 0} (n at : ℕ) (x : A) → at < n → slice_get (replicate n x) at ≡ Some x
-filled_get zero at x less = absurd (omega (arith, less))
-filled_get (suc n) zero x less = refl
-filled_get (suc n) (suc at) x less = filled_get n at x (omega (arith, less))
-
-filled_long : {A : Type 0} (n : ℕ) (x : A) → length (replicate n x) ≡ n
-filled_long zero x = refl
-filled_long (suc n) x = ap suc (filled_long n x)
-
 pub values_filled : {A : Type 0} (n : ℕ) (x : A) (list : List A) → list ≡ replicate n x → HasValues n (λ at. x) list
 values_filled n x list is = record {
-  long = ap length is ∙ filled_long n x;
-  are = λ at less. ap (λ l. slice_get l at) is ∙ filled_get n at x less;
+  long = ap length is ∙ length-replicate n x;
+  are = λ at less. ap (λ l. slice_get l at) is ∙ fill_get x n at less;
 }
 
 -- THE POINTERS OF A SIDE

@@ -1,8 +1,9 @@
 -- How the counts of led entries grow, row by row, and the table of these counts.
-use Rattle.std.proofs.Common.{◌≡◌, ℕ, zero, suc, ◌+◌, ◌%◌, ◌<◌, ◌≤◌, ◌==◌, Bool, ◌&&◌, cond, inl, inr, List, [], ◌∷◌, ◌++◌, length, replicate, Some, sym, ap, ◌∙◌, arith}
+use Rattle.std.proofs.Common.{◌≡◌, ℕ, suc, ◌+◌, ◌%◌, ◌≤◌, ◌==◌, Bool, ◌&&◌, cond, inl, inr, List, [], ◌∷◌, ◌++◌, length, replicate, Some, refl, sym, ap, ◌∙◌, arith}
 use Rattle.std.specs.Option.{option_and_then}
 use Rattle.std.specs.Prelude.{slice_get}
 use Rattle.std.proofs.lemmas.Bool.{cases_eq}
+use Rattle.std.proofs.lemmas.List.{length_push}
 use Rattle.std.proofs.lemmas.Option.{same_Some, slice_get_within}
 use Rattle.sg_plan.specs.Ballots.{candidates_of}
 use Rattle.sg_plan.specs.declared.plan.Plan.{Plan}
@@ -10,6 +11,7 @@ use Rattle.sg_plan.specs.declared.plan.Side.TheVariants as side
 use Rattle.sg_grammar.specs.Placed.{Placed}
 use Rattle.sg_check.specs.Completions.{Completion}
 use Rattle.sg_check.specs.Facts.{is_marked}
+use Rattle.sg_facts.proofs.Tabling.{push_get, push_last}
 use Rattle.sg_facts.specs.Items.{item_in}
 use Rattle.sg_recount.proofs.Counting.{count_most}
 use Rattle.sg_odds.proofs.Lacks.{values_filled}
@@ -45,32 +47,19 @@ module _ (plan : Plan) (lines : List Placed) (completion : Completion) (race ins
 
 -- THE TABLE
 
-get_before : {A : Type 0} (xs : List A) (x : A) (at : ℕ) → at < length xs → slice_get (xs ++ x ∷ []) at ≡ slice_get xs at
-get_before [] x at less = absurd (omega (arith, less))
-get_before (y ∷ xs) x zero less = cc
-get_before (y ∷ xs) x (suc at) less = get_before xs x at (omega (arith, less))
-
-get_last : {A : Type 0} (xs : List A) (x : A) → slice_get (xs ++ x ∷ []) (length xs) ≡ Some x
-get_last [] x = cc
-get_last (y ∷ xs) x = get_last xs x
-
-length_one : {A : Type 0} (xs : List A) (x : A) → length (xs ++ x ∷ []) ≡ length xs + 1
-length_one [] x = omega arith
-length_one (y ∷ xs) x = omega (arith, length_one xs x)
-
 pub table_more : (plan : Plan) (lines : List Placed) (completion : Completion) (race instance : ℕ) (table new : List (List ℕ)) (counts : List ℕ) → HasLed plan lines completion race instance table
     → HasValues (candidates_of plan race) (led plan lines completion race instance) counts → new ≡ table ++ counts ∷ [] → HasLed plan lines completion race (instance + 1) new
 table_more plan lines completion race instance table new counts has here is = record {
-  long = ap (λ (l : List (List ℕ)). length l) is ∙ (length_one table counts ∙ ap (λ (n : ℕ). n + 1) has.long);
+  long = ap (λ (l : List (List ℕ)). length l) is ∙ (length_push table counts ∙ ap (λ (n : ℕ). n + 1) has.long);
   are = λ at candidate less within. elim (cases_eq at instance) [
     | inl same ↦
         ap (λ (l : List (List ℕ)). item_in l at candidate) is
         ∙ (ap (λ (n : ℕ). item_in (table ++ counts ∷ []) n candidate) (same ∙ sym has.long)
-        ∙ (ap (option_and_then (λ (l : List ℕ). slice_get l candidate)) (get_last table counts)
+        ∙ (ap (option_and_then (λ (l : List ℕ). slice_get l candidate)) (push_last table counts (length table) refl)
         ∙ (here.are candidate within ∙ ap (λ (n : ℕ). Some (led plan lines completion race n candidate)) (sym same))))
     | inr other ↦
         ap (λ (l : List (List ℕ)). item_in l at candidate) is
-        ∙ (ap (option_and_then (λ (l : List ℕ). slice_get l candidate)) (get_before table counts at (omega (arith, less, other, has.long)))
+        ∙ (ap (option_and_then (λ (l : List ℕ). slice_get l candidate)) (push_get table counts at (omega (arith, less, other, has.long)))
         ∙ has.are at candidate (omega (arith, less, other)) within)
   ];
 }

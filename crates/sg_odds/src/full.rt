@@ -6,8 +6,8 @@ ghost use Rattle.sg_parts.specs.Given.{completion_of};
 ghost use Rattle.sg_plan.specs.Limits.{fault_of};
 
 use sg_commit::Opening;
+use sg_parts::{At, RowGiven, given_half};
 use sg_plan::{Items, NoMemory, Plan, Side};
-use sg_recount::{RowGiven, given_half};
 use std::alloc::Global;
 
 /// A row of a race.
@@ -51,14 +51,13 @@ fn first_of_instance(
     let mut lefts = Items::filled(alloc, false, count as usize)?;
     let mut rights = Items::filled(alloc, false, count as usize)?;
     for row in 0..count {
-        let left = note_pointer(
-            &mut lefts,
-            given_half(rows, Side::Left, race, instance, row),
-        );
-        let right = note_pointer(
-            &mut rights,
-            given_half(rows, Side::Right, race, instance, row),
-        );
+        let at = At {
+            race,
+            instance,
+            row,
+        };
+        let left = note_pointer(&mut lefts, given_half(rows, at.on(Side::Left)));
+        let right = note_pointer(&mut rights, given_half(rows, at.on(Side::Right)));
         if left || right {
             return Ok(Some(row));
         }

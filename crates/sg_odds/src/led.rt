@@ -11,22 +11,16 @@ ghost use Rattle.sg_plan.specs.Ballots.{candidates_of};
 ghost use Rattle.sg_plan.specs.Limits.{fault_of, most_rows};
 ghost use Rattle.sg_record.specs.Places.{places_in};
 
+use sg_parts::{At, Half, RowGiven, entry_code, given_half};
 use sg_plan::{Items, NoMemory, Side};
 use sg_record::Record;
-use sg_recount::{RowGiven, given_half, marked_code};
 use std::alloc::Global;
 
 /// The pointer of a half, or 0 where there is none.
-fn pointer_of(
-    rows: &Items<Items<Items<RowGiven>>>,
-    on: Side,
-    race: u32,
-    instance: u32,
-    row: u32,
-) -> u32
-    ensures { result ≡ (half_of (completion_of rows.now) on race instance row).value }
+fn pointer_of(rows: &Items<Items<Items<RowGiven>>>, half: Half) -> u32
+    ensures { result ≡ (half_of (completion_of rows.now) half.side half.at.race half.at.instance half.at.row).value }
 {
-    match given_half(rows, on, race, instance, row) {
+    match given_half(rows, half) {
         Some(opening) => opening.value,
         None => 0,
     }
@@ -64,9 +58,14 @@ fn instance_led(
     let candidates = posted.plan.candidates(race) as u32;
     let mut counts = Items::filled(alloc, 0, candidates as usize)?;
     for row in 0..posted.plan.entries(race) {
-        let left = pointer_of(rows, Side::Left, race, instance, row);
-        let right = pointer_of(rows, Side::Right, race, instance, row);
-        let is_marked = marked_code(marked, race, left).is_some();
+        let at = At {
+            race,
+            instance,
+            row,
+        };
+        let left = pointer_of(rows, at.on(Side::Left));
+        let right = pointer_of(rows, at.on(Side::Right));
+        let is_marked = entry_code(marked, race, left).is_some();
         note_row(&mut counts, is_marked, right % candidates);
     }
     Ok(counts)

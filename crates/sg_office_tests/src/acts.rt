@@ -1,116 +1,100 @@
-//! A list of several hundred rows that come in different orders.
-ghost use Rattle.std.specs.Prelude.{◌≡◌, pos, IfOk};
-
-use sg_acts::DoneList;
-use sg_keeper::DoneRow;
-use sg_plan::{Items, NoMemory, Word};
+//! Texts of acts, and texts that are none, by another program's reader.
+use sg_desks::act_of;
+use sg_plan::NoMemory;
 use std::alloc::Global;
-use std::process::Abort;
-use std::test::Fail;
 
-/// How many rows a list has. It is a prime number, so each step leads through all of them.
-const ROWS: u32 = 599;
+/// The version of an election, and a text of an act in it.
+const ACTS: [(u32, &str); 21] = [
+    (1, "scan 5"),
+    (1, "scan 5 0:1 12:4294967295"),
+    (1, "scan 1 3:1 1:2 1:0 1:3 1:4 1:1"),
+    (2, "scan 5 0:2 0:0 0:3"),
+    (1, "spoil 7"),
+    (1, "audit 3"),
+    (1, "audit 3 "),
+    (1, "audit 3 001,999  000"),
+    (
+        1,
+        "audit 3 088,837,026 842,962,058 074,601,476 157,808,097,786,581",
+    ),
+    (2, "audit 3 22A,ZZZ"),
+    (2, "audit 4 CYM,2E8,SEH"),
+    (1, "close"),
+    (1, "draw full"),
+    (1, "draw "),
+    (1, "draw 00"),
+    (1, "draw 3ce7b852"),
+    (1, "draw 00ff"),
+    (1, "claim 1 2 003"),
+    (1, "claim 10 0 958"),
+    (2, "claim 1 2 3T4"),
+    (3, "void 9"),
+];
 
-/// The row of a station and number, whose text is the number in two bytes.
-fn row_of(alloc: Global, station: u32, number: u32) -> Result<DoneRow, NoMemory>
-    ensures station { IfOk result (λ row. row.station ≡ pos station) }
-    ensures number { IfOk result (λ row. row.number ≡ pos number) }
-{
-    let mut act = Word::new(alloc);
-    act.push((number / 256 % 256) as u8)?;
-    act.push((number % 256) as u8)?;
-    Ok(DoneRow {
-        station: i64::from(station),
-        number: i64::from(number),
-        act,
-    })
+/// The version of an election, and a text of no act in it.
+const OTHERS: [(u32, &str); 36] = [
+    (1, "scan 4294967296"),
+    (1, "scan 5 "),
+    (1, "scan 5 0:1 "),
+    (1, "scan 5  0:1"),
+    (1, "scan 5 0:1:2"),
+    (1, "scan 5 0,1"),
+    (1, "scan 5 0:01"),
+    (1, "scan 05"),
+    (1, "scan +5"),
+    (1, "scan"),
+    (1, "Scan 5"),
+    (1, "spoil 7 8"),
+    (1, "audit 3 001,"),
+    (1, "audit 3 ,001"),
+    (1, "audit 3 1,2"),
+    (1, "audit 3 22A"),
+    (2, "audit 3 22a"),
+    (2, "audit 3 001"),
+    (1, "close "),
+    (1, "close 1"),
+    (1, "draw 00FF"),
+    (1, "draw 00f"),
+    (1, "draw 00 ff"),
+    (1, "draw Full"),
+    (1, "draw"),
+    (1, "claim 1 2 3"),
+    (1, "claim 1 2"),
+    (1, "claim 1 2 003 004"),
+    (2, "claim 1 2 003"),
+    (3, "claim 1 2 003"),
+    (1, "void"),
+    (1, "close\n"),
+    (1, "open"),
+    (1, ""),
+    (1, " "),
+    (1, " scan 5"),
+];
+
+/// The text is that of an act of the version.
+fn is_act(alloc: Global, version: u32, text: &str) -> Result<bool, NoMemory> {
+    Ok(act_of(alloc, version, text.as_bytes())?.is_some())
 }
 
-/// Puts a row in where its stamp is new.
-#[tactic(auto, using(sg_acts::proofs::NewRows::new_row))]
-fn put_new(alloc: Global, list: &mut DoneList, station: u32, number: u32) -> Result<(), NoMemory> {
-    let row = row_of(alloc, station, number)?;
-    if list.text_at(station, number).is_none() {
-        list.put(alloc, &row)?;
-    }
-    Ok(())
-}
-
-/// The list of three stations' rows, which come by this step through the numbers.
-fn list_by(alloc: Global, step: u32) -> Result<DoneList, NoMemory> {
-    let mut list = DoneList::new(alloc);
-    let mut number = 0;
-    for _ in 0..ROWS {
-        put_new(alloc, &mut list, number % 3, number)?;
-        number = (number % ROWS + step % ROWS) % ROWS;
-    }
-    Ok(list)
-}
-
-/// Takes back the rows of odd numbers.
-fn take_odd(alloc: Global, list: &mut DoneList) -> Result<(), NoMemory> {
-    for number in 0..ROWS {
-        if number % 2 == 1 {
-            let row = row_of(alloc, number % 3, number)?;
-            list.take_back(&row);
+/// How many of the texts are those of acts.
+fn count_acts(alloc: Global, texts: &[(u32, &str)]) -> Result<usize, NoMemory> {
+    let mut count = 0usize;
+    for (version, text) in texts {
+        if is_act(alloc, *version, text)? {
+            count = count.saturating_add(1);
         }
     }
-    Ok(())
-}
-
-/// A stamp has the text of its number.
-fn has_text(list: &DoneList, station: u32, number: u32) -> bool {
-    match list.text_at(station, number) {
-        None => false,
-        Some(text) => {
-            let wanted = [(number / 256 % 256) as u8, (number % 256) as u8];
-            text.bytes() == wanted.as_slice()
-        }
-    }
-}
-
-/// The numbers have their texts, the odd ones too or not, and each at its own station alone.
-fn has_texts(list: &DoneList, has_odd: bool) -> bool {
-    for number in 0..ROWS {
-        let wanted = has_odd || number % 2 == 0;
-        if has_text(list, number % 3, number) != wanted {
-            return false;
-        }
-        if list.text_at((number + 1) % 3, number).is_some() {
-            return false;
-        }
-    }
-    list.text_at(ROWS % 3, ROWS).is_none()
+    Ok(count)
 }
 
 #[test]
-fn rows_are_found_in_any_order(rt: HostRuntime) -> Result<(), Fail> {
-    let alloc = rt.alloc();
-    for step in [1, ROWS - 1, 254] {
-        let mut list = list_by(alloc, step)?;
-        assert!(rt; has_texts(&list, true), "step {step}");
-        take_odd(alloc, &mut list)?;
-        assert!(rt;
-            has_texts(&list, false),
-            "step {step}, without the odd numbers"
-        );
-    }
+fn acts_are_read(rt: HostRuntime) -> Result<(), NoMemory> {
+    assert!(rt; count_acts(rt.alloc(), &ACTS)? == ACTS.len());
     Ok(())
 }
 
 #[test]
-fn rows_are_moved(rt: HostRuntime) -> Result<(), Fail> {
-    let alloc = rt.alloc();
-    let mut rows = Items::new(alloc);
-    rows.push(row_of(alloc, 1, 3)?)?;
-    rows.push(row_of(alloc, 1, 7)?)?;
-    rows.push(row_of(alloc, 3, 2)?)?;
-    let mut list = DoneList::of(alloc, rows)?;
-    put_new(alloc, &mut list, 1, 5)?;
-    put_new(alloc, &mut list, 2, 1)?;
-    for (station, number) in [(1, 3), (1, 5), (1, 7), (2, 1), (3, 2)] {
-        assert!(rt; has_text(&list, station, number), "{station} {number}");
-        assert!(rt; !has_text(&list, station + 1, number), "{station} {number}");
-    }
+fn no_other_text_is_read(rt: HostRuntime) -> Result<(), NoMemory> {
+    assert!(rt; count_acts(rt.alloc(), &OTHERS)? == 0);
     Ok(())
 }

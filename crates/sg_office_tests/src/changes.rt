@@ -1,14 +1,16 @@
-//! Changes of an office's rows: one of each kind, how it is kept, and that it is there.
+//! Changes of an office's rows, one of each kind, and what is kept of them.
 ghost use Rattle.std.specs.Prelude.{IfOk};
 ghost use Rattle.sg_keeper.specs.Rows.{IsAscii, IsAsciiChange, IsAsciiRow};
 
-use sg_keeper::{BallotRow, Change, ChangeRow, ClaimRow, DoneRow, Keeper, Rows, StageRow, VoidRow};
+use sg_keeper::{
+    BallotRow, Change, ChangeRow, ClaimRow, DoneRow, KeepFault, Keeper, Rows, StageRow, VoidRow,
+};
 use sg_plan::{NoMemory, Word};
 use std::alloc::Global;
 use std::test::Fail;
 
 /// A word of one byte.
-pub(crate) fn word(alloc: Global) -> Result<Word, NoMemory>
+fn word(alloc: Global) -> Result<Word, NoMemory>
     ensures { IfOk result IsAscii }
 {
     let mut word = Word::new(alloc);
@@ -17,7 +19,7 @@ pub(crate) fn word(alloc: Global) -> Result<Word, NoMemory>
 }
 
 /// A change of this row.
-pub(crate) fn change(alloc: Global, row: ChangeRow, stamp: (i64, i64)) -> Result<Change, NoMemory>
+fn change(alloc: Global, row: ChangeRow, stamp: (i64, i64)) -> Result<Change, NoMemory>
     requires { IsAsciiRow row }
     ensures { IfOk result IsAsciiChange }
 {
@@ -44,7 +46,7 @@ pub(crate) fn ballot(alloc: Global, ballot: i64, stamp: (i64, i64)) -> Result<Ch
 }
 
 /// A change of the first step.
-pub(crate) fn stage(alloc: Global) -> Result<Change, NoMemory>
+fn stage(alloc: Global) -> Result<Change, NoMemory>
     ensures { IfOk result IsAsciiChange }
 {
     let detail = word(alloc)?;
@@ -56,7 +58,7 @@ pub(crate) fn stage(alloc: Global) -> Result<Change, NoMemory>
 }
 
 /// A change of the first claim.
-pub(crate) fn claim(alloc: Global) -> Result<Change, NoMemory>
+fn claim(alloc: Global) -> Result<Change, NoMemory>
     ensures { IfOk result IsAsciiChange }
 {
     let claim = ClaimRow {
@@ -76,22 +78,51 @@ pub(crate) fn void(alloc: Global) -> Result<Change, NoMemory>
 }
 
 /// Keeps a change.
-pub(crate) fn keep<K: Keeper>(keeper: &mut K, change: &Change) -> Result<(), Fail>
-    requires { IsAsciiChange change.now }
+pub(crate) fn keep<K: Keeper>(keeper: &mut K, change: Change) -> Result<(), KeepFault>
+    requires { IsAsciiChange change }
 {
-    keeper.commit(change)?;
+    keeper.commit(&change)
+}
+
+/// Begins.
+pub(crate) fn begin<K: Keeper>(alloc: Global, keeper: &mut K) -> Result<(), KeepFault> {
+    let setup = word(alloc)?;
+    keeper.begin(&setup)
+}
+
+/// Begins, and keeps two ballots and a row of each other kind.
+pub(crate) fn keep_all<K: Keeper>(alloc: Global, keeper: &mut K) -> Result<(), Fail> {
+    begin(alloc, keeper)?;
+    keep(keeper, ballot(alloc, 7, (1, 5))?)?;
+    keep(keeper, ballot(alloc, 2, (0, 9))?)?;
+    keep(keeper, stage(alloc)?)?;
+    keep(keeper, claim(alloc)?)?;
+    keep(keeper, void(alloc)?)?;
     Ok(())
 }
 
-/// All rows.
-pub(crate) fn loaded<K: Keeper>(alloc: Global, keeper: &mut K) -> Result<Rows, Fail> {
-    Ok(keeper.load(alloc)?)
+/// The ballots are there, in the order of their keys.
+fn has_ballots(rows: &Rows) -> bool {
+    let ballots = rows.ballots.as_slice().iter().map(|row| row.ballot);
+    ballots.eq([2, 7])
+}
+
+/// The rows of acts are there, in the order of their keys.
+fn has_dones(rows: &Rows) -> bool {
+    let numbers = rows.dones.as_slice().iter().map(|row| row.number);
+    numbers.eq([1, 2, 3, 9, 5])
 }
 
 /// One row of each other kind is there.
-pub(crate) fn has_others(rows: &Rows) -> bool {
+fn has_others(rows: &Rows) -> bool {
     rows.setup.is_some()
         && rows.stages.len() == 1
         && rows.claims.len() == 1
         && rows.voids.len() == 1
+}
+
+/// The keeper has just the rows of the test.
+pub(crate) fn is_filled<K: Keeper>(alloc: Global, keeper: &mut K) -> Result<bool, Fail> {
+    let rows = keeper.load(alloc)?;
+    Ok(has_ballots(&rows) && has_dones(&rows) && has_others(&rows))
 }

@@ -1,71 +1,20 @@
 //! What no clause says: that calls succeed, what outlives a close, and that other databases and failing disks are
 //! met as faults.
-ghost use Rattle.std.specs.Prelude.{IfOk, IsTrue};
-ghost use Rattle.sqlite_disk.specs.Memory.{memory_is_usable};
-ghost use Rattle.sg_keeper.specs.Rows.{IsAsciiChange};
-
-use crate::changes::{ballot, claim, has_others, keep, loaded, stage, void, word};
-use sg_keeper::{Change, KeepFault, Keeper, Rows};
+use crate::changes::{ballot, keep, keep_all};
+use crate::trials::{Trial, holds, holds_of};
+use sg_keeper::{KeepFault, Keeper};
 use sg_store::SqlKeeper;
 use sqlite::{Alter, Connection, FileStore, Files, MemStore, Options};
 use sqlite_disk::{Disk, Fuse, Memory};
 use std::alloc::Global;
 use std::test::Fail;
 
-/// The change is refused as a fault.
-fn is_refused<K: Keeper>(keeper: &mut K, change: &Change) -> bool
-    requires { IsAsciiChange change.now }
-{
-    keeper.commit(change) == Err(KeepFault::Failed)
-}
-
-/// A second setup is refused as a fault.
-fn is_begun<K: Keeper>(alloc: Global, keeper: &mut K) -> Result<bool, Fail> {
-    let setup = word(alloc)?;
-    Ok(keeper.begin(&setup) == Err(KeepFault::Failed))
-}
-
-/// Begins, and keeps two ballots.
-fn keep_ballots<K: Keeper>(alloc: Global, keeper: &mut K) -> Result<(), Fail> {
-    keeper.begin(&word(alloc)?)?;
-    keep(keeper, &ballot(alloc, 7, (1, 5))?)?;
-    keep(keeper, &ballot(alloc, 2, (0, 9))?)
-}
-
-/// Keeps a row of each other kind.
-fn keep_others<K: Keeper>(alloc: Global, keeper: &mut K) -> Result<(), Fail> {
-    keep(keeper, &stage(alloc)?)?;
-    keep(keeper, &claim(alloc)?)?;
-    keep(keeper, &void(alloc)?)
-}
-
-/// The ballots are there, in the order of their keys.
-fn has_ballots(rows: &Rows) -> bool {
-    let mut ballots = rows.ballots.as_slice().iter().map(|row| row.ballot);
-    ballots.eq([2, 7])
-}
-
-/// The rows of acts are there, in the order of their keys.
-fn has_dones(rows: &Rows) -> bool {
-    let mut numbers = rows.dones.as_slice().iter().map(|row| row.number);
-    numbers.eq([1, 2, 3, 9, 5])
-}
-
-/// The keeper has just the rows of the test.
-fn is_filled<K: Keeper>(alloc: Global, keeper: &mut K) -> Result<bool, Fail> {
-    let rows = loaded(alloc, keeper)?;
-    Ok(has_ballots(&rows) && has_dones(&rows) && has_others(&rows))
-}
-
 /// A keeper over what a connection holds, outside a transaction.
-fn keeper_of<S: Alter + Drop>(
-    alloc: Global,
-    connection: Connection<S>,
-) -> Result<SqlKeeper<S>, Fail> {
+fn keeper_of<S: Alter + Drop>(alloc: Global, connection: Connection<S>) -> Option<SqlKeeper<S>> {
     if connection.is_autocommit() {
-        Ok(SqlKeeper::over(alloc, connection))
+        Some(SqlKeeper::over(alloc, connection))
     } else {
-        Err(Fail::new("a transaction is open"))
+        None
     }
 }
 
@@ -73,76 +22,21 @@ fn keeper_of<S: Alter + Drop>(
 fn made_by(alloc: Global, text: &str) -> Result<SqlKeeper<MemStore>, Fail> {
     let mut connection = Connection::open_in_memory(alloc)?;
     connection.execute_batch(text)?;
-    keeper_of(alloc, connection)
+    match keeper_of(alloc, connection) {
+        Some(keeper) => Ok(keeper),
+        None => Err(Fail::new("a transaction is open")),
+    }
 }
 
-/// The keeper keeps the rows of the test, and refuses a second setup and keys that are kept.
-fn refuses_kept_keys<K: Keeper>(alloc: Global, keeper: &mut K) -> Result<bool, Fail> {
-    keep_ballots(alloc, keeper)?;
-    keep_others(alloc, keeper)?;
-    let is_begun = is_begun(alloc, keeper)?;
-    let has_ballot = is_refused(keeper, &ballot(alloc, 7, (1, 6))?);
-    let has_stamp = is_refused(keeper, &ballot(alloc, 3, (1, 5))?);
-    Ok(is_begun && has_ballot && has_stamp)
+/// This holds of such a keeper.
+fn holds_in_memory(alloc: Global, text: &str, trial: Trial) -> Result<bool, Fail> {
+    let keeper = made_by(alloc, text)?;
+    holds_of(alloc, keeper, trial)
 }
 
 #[test]
 fn kept_keys_are_refused(rt: HostRuntime) -> Result<(), Fail> {
-    let alloc = rt.alloc();
-    let mut keeper = made_by(alloc, "")?;
-    assert!(rt; refuses_kept_keys(alloc, &mut keeper)?);
-    assert!(rt; is_filled(alloc, &mut keeper)?);
-    let mut again = keeper_of(alloc, keeper.into_connection())?;
-    assert!(rt; is_filled(alloc, &mut again)?);
-    Ok(())
-}
-
-/// A keeper over two files in memory.
-fn opened(alloc: Global, files: Files<Memory>) -> Result<SqlKeeper<FileStore<Memory>>, Fail>
-    requires log { IsTrue (memory_is_usable files.log) }
-    requires db { IsTrue (memory_is_usable files.db) }
-{
-    match Connection::open_files(alloc, files, Options::new(1)) {
-        Ok(connection) => keeper_of(alloc, connection),
-        Err((error, _)) => Err(error.into()),
-    }
-}
-
-/// The files of a keeper, closed.
-fn closed(keeper: SqlKeeper<FileStore<Memory>>) -> Result<Files<Memory>, Fail>
-    ensures log { IfOk result (λ files. IsTrue (memory_is_usable files.log)) }
-    ensures db { IfOk result (λ files. IsTrue (memory_is_usable files.db)) }
-{
-    let connection = keeper.into_connection();
-    match connection.close_files() {
-        Ok(files) => Ok(files),
-        Err((error, store)) => {
-            drop(store.close());
-            Err(error.into())
-        }
-    }
-}
-
-/// Two files that a keeper filled with the rows of the test, closed.
-fn filled_files(alloc: Global) -> Result<Files<Memory>, Fail>
-    ensures log { IfOk result (λ files. IsTrue (memory_is_usable files.log)) }
-    ensures db { IfOk result (λ files. IsTrue (memory_is_usable files.db)) }
-{
-    let new = Files {
-        log: Memory::new(alloc),
-        db: Memory::new(alloc),
-    };
-    let mut keeper = opened(alloc, new)?;
-    keep_ballots(alloc, &mut keeper)?;
-    keep_others(alloc, &mut keeper)?;
-    closed(keeper)
-}
-
-#[test]
-fn rows_outlive_a_close(rt: HostRuntime) -> Result<(), Fail> {
-    let alloc = rt.alloc();
-    let mut again = opened(alloc, filled_files(alloc)?)?;
-    assert!(rt; is_filled(alloc, &mut again)?);
+    assert!(rt; holds_in_memory(rt.alloc(), "", Trial::Keys)?);
     Ok(())
 }
 
@@ -157,39 +51,98 @@ INSERT INTO setup (id, body) VALUES (1, 'setup');
 INSERT INTO ballot (number, fate, detail) VALUES (7, 1, '0:0');
 INSERT INTO done (station, number, act) VALUES (1, 5, 'scan 7 0:0');";
 
-/// How many rows of ballots, of acts and of voided ballots there are.
-fn counts<K: Keeper>(alloc: Global, keeper: &mut K) -> Result<(usize, usize, usize), Fail> {
-    let rows = loaded(alloc, keeper)?;
-    Ok((rows.ballots.len(), rows.dones.len(), rows.voids.len()))
-}
-
 #[test]
 fn five_tables_get_the_sixth(rt: HostRuntime) -> Result<(), Fail> {
-    let alloc = rt.alloc();
-    let mut keeper = made_by(alloc, FIVE_TABLES)?;
-    assert_eq!(rt; counts(alloc, &mut keeper)?, (1, 1, 0));
-    keep(&mut keeper, &void(alloc)?)?;
-    assert_eq!(rt; counts(alloc, &mut keeper)?, (1, 2, 1));
+    assert!(rt; holds_in_memory(rt.alloc(), FIVE_TABLES, Trial::Void)?);
     Ok(())
-}
-
-/// The load fails.
-fn fails<K: Keeper>(alloc: Global, keeper: &mut K) -> bool {
-    keeper.load(alloc).err() == Some(KeepFault::Failed)
 }
 
 #[test]
 fn other_databases_are_faults(rt: HostRuntime) -> Result<(), Fail> {
-    let alloc = rt.alloc();
     for text in [
         "CREATE TABLE ballot (number TEXT PRIMARY KEY) STRICT",
         "CREATE TABLE done (station INTEGER, number INTEGER, act INTEGER); INSERT INTO done VALUES (1, 2, 3)",
         "CREATE TABLE setup (id INTEGER PRIMARY KEY, body TEXT); INSERT INTO setup VALUES (1, CAST(x'ff' AS TEXT))",
     ] {
-        let mut keeper = made_by(alloc, text)?;
-        assert!(rt; fails(alloc, &mut keeper), "{text}");
-        assert!(rt; fails(alloc, &mut keeper), "again {text}");
+        assert!(rt; holds_in_memory(rt.alloc(), text, Trial::Faults)?, "{text}");
     }
+    Ok(())
+}
+
+/// A keeper over two files, unless they cannot be opened.
+fn opened<D: Disk + Drop>(alloc: Global, files: Files<D>) -> Option<SqlKeeper<FileStore<D>>> {
+    if !files.may_be_used() {
+        return None;
+    }
+    match Connection::open_files(alloc, files, Options::new(1)) {
+        Ok(connection) => keeper_of(alloc, connection),
+        Err(_) => None,
+    }
+}
+
+/// The files of a keeper, closed.
+fn closed<D: Disk + Drop>(keeper: SqlKeeper<FileStore<D>>) -> Option<Files<D>> {
+    let connection = keeper.into_connection();
+    match connection.close_files() {
+        Ok(files) => Some(files),
+        Err((error, store)) => {
+            drop(store.close());
+            drop(error);
+            None
+        }
+    }
+}
+
+/// The files, filled by a keeper with the rows of the test and closed. `None`: they cannot be opened or closed.
+fn filled<D: Disk + Drop>(alloc: Global, files: Files<D>) -> Result<Option<Files<D>>, Fail> {
+    match opened(alloc, files) {
+        Some(keeper) => filled_by(alloc, keeper),
+        None => Ok(None),
+    }
+}
+
+/// The files of a keeper that fills them.
+fn filled_by<D: Disk + Drop>(
+    alloc: Global,
+    keeper: SqlKeeper<FileStore<D>>,
+) -> Result<Option<Files<D>>, Fail> {
+    let mut keeper = keeper;
+    let kept = keep_all(alloc, &mut keeper);
+    let files = closed(keeper);
+    match kept {
+        Ok(()) => Ok(files),
+        Err(fail) => Err(fail),
+    }
+}
+
+/// Two files that a keeper filled with the rows of the test, closed.
+fn filled_files(alloc: Global) -> Result<Files<Memory>, Fail> {
+    let new = Files {
+        log: Memory::new(alloc),
+        db: Memory::new(alloc),
+    };
+    match filled(alloc, new)? {
+        Some(files) => Ok(files),
+        None => Err(Fail::new("the files cannot be opened or closed")),
+    }
+}
+
+/// This holds of a keeper over two files.
+fn holds_in_files<D: Disk + Drop>(
+    alloc: Global,
+    files: Files<D>,
+    trial: Trial,
+) -> Result<bool, Fail> {
+    match opened(alloc, files) {
+        Some(keeper) => holds_of(alloc, keeper, trial),
+        None => Err(Fail::new("the files cannot be opened")),
+    }
+}
+
+#[test]
+fn rows_outlive_a_close(rt: HostRuntime) -> Result<(), Fail> {
+    let files = filled_files(rt.alloc())?;
+    assert!(rt; holds_in_files(rt.alloc(), files, Trial::Filled)?);
     Ok(())
 }
 
@@ -197,7 +150,7 @@ fn other_databases_are_faults(rt: HostRuntime) -> Result<(), Fail> {
 fn kept<K: Keeper>(alloc: Global, keeper: &mut K) -> Result<usize, Fail> {
     for number in 0..2u8 {
         let change = ballot(alloc, 10 + i64::from(number), (9, i64::from(number)))?;
-        match keeper.commit(&change) {
+        match keep(keeper, change) {
             Ok(()) => {}
             Err(KeepFault::Failed) => return Ok(usize::from(number)),
             Err(KeepFault::NoMemory) => return Err(Fail::new("want of memory")),
@@ -206,100 +159,113 @@ fn kept<K: Keeper>(alloc: Global, keeper: &mut K) -> Result<usize, Fail> {
     Ok(2)
 }
 
-/// The keeper has so many ballots more than those of the test, and as many rows of acts, unless it fails.
-fn has_more<K: Keeper>(alloc: Global, keeper: &mut K, more: usize) -> bool {
-    match keeper.load(alloc) {
-        Ok(rows) => rows.ballots.len().checked_sub(2) == Some(more)
-            && rows.dones.len().checked_sub(5) == Some(more),
-        Err(fault) => fault == KeepFault::Failed,
+/// How many of two more ballots a keeper keeps that has just these rows then.
+fn kept_and_had<K: Keeper>(alloc: Global, keeper: &mut K) -> Result<usize, Fail> {
+    let count = kept(alloc, keeper)?;
+    if holds(alloc, keeper, Trial::More(count, count))? {
+        Ok(count)
+    } else {
+        Err(Fail::new("rows are not as before"))
     }
 }
 
 /// A file with the bytes of this one.
-fn copy_of(alloc: Global, file: &Memory) -> Result<Memory, Fail>
-    ensures { IfOk result (λ copy. IsTrue (memory_is_usable copy)) }
-{
+fn copy_of(alloc: Global, file: &Memory) -> Result<Memory, Fail> {
     let mut copy = Memory::new(alloc);
     copy.write_at(0, file.bytes())?;
     Ok(copy)
 }
 
-/// A keeper over copies of the files, of which the log fails behind so many calls, and the database behind so many.
-/// `None`: the opening was refused.
-fn over_fuses(
-    alloc: Global,
-    files: &Files<Memory>,
-    calls: (u64, u64),
-) -> Result<Option<SqlKeeper<FileStore<Fuse<Memory>>>>, Fail> {
-    let fused = Files {
-        log: Fuse::new(copy_of(alloc, &files.log)?, calls.0),
-        db: Fuse::new(copy_of(alloc, &files.db)?, calls.1),
-    };
-    match Connection::open_files(alloc, fused, Options::new(1)) {
-        Ok(connection) => Ok(Some(keeper_of(alloc, connection)?)),
-        Err(_) => Ok(None),
+/// Files with the bytes of these.
+fn copies_of(alloc: Global, log: &Memory, db: &Memory) -> Result<Files<Memory>, Fail> {
+    let log = copy_of(alloc, log)?;
+    let db = copy_of(alloc, db)?;
+    Ok(Files { log, db })
+}
+
+/// The files, of which the log fails behind so many calls, and the database behind so many.
+fn fused(files: Files<Memory>, calls: (u64, u64)) -> Files<Fuse<Memory>> {
+    Files {
+        log: Fuse::new(files.log, calls.0),
+        db: Fuse::new(files.db, calls.1),
     }
 }
 
-/// A keeper over what the files of another one hold.
-fn reopened(
-    alloc: Global,
-    keeper: SqlKeeper<FileStore<Fuse<Memory>>>,
-) -> Result<SqlKeeper<FileStore<Memory>>, Fail> {
-    let fused = keeper.into_connection().into_store().close();
-    let files = Files {
-        log: copy_of(alloc, fused.log.inner())?,
-        db: copy_of(alloc, fused.db.inner())?,
-    };
-    opened(alloc, files)
+/// The files hold so many more ballots, and perhaps the change that was refused as a whole.
+fn is_whole(alloc: Global, files: &Files<Fuse<Memory>>, count: usize) -> Result<bool, Fail> {
+    let copies = copies_of(alloc, files.log.inner(), files.db.inner())?;
+    let trial = Trial::More(count, count.saturating_add(1));
+    holds_in_files(alloc, copies, trial)
 }
 
-/// How many of two ballots a keeper over failing files keeps. It has just the rows that it kept; and so has one over
-/// what the files hold, but that the change which was refused may be there as a whole.
-fn kept_by_failing(alloc: Global, files: &Files<Memory>, calls: (u64, u64)) -> Result<usize, Fail> {
-    let Some(mut keeper) = over_fuses(alloc, files, calls)? else {
-        return Ok(0);
-    };
-    let count = kept(alloc, &mut keeper)?;
-    if !has_more(alloc, &mut keeper, count) {
-        return Err(Fail::new("rows are not as before"));
-    }
-    let mut again = reopened(alloc, keeper)?;
-    let with_refused = count.saturating_add(1);
-    if has_more(alloc, &mut again, count) || has_more(alloc, &mut again, with_refused) {
+/// So many more ballots, which the files hold too.
+fn held_too(alloc: Global, files: &Files<Fuse<Memory>>, count: usize) -> Result<usize, Fail> {
+    if is_whole(alloc, files, count)? {
         Ok(count)
     } else {
         Err(Fail::new("rows are lost, or there by half"))
     }
 }
 
-/// Behind how many calls of the log no change is refused.
-fn log_calls(alloc: Global, files: &Files<Memory>) -> Result<u64, Fail> {
-    for calls in 0..100 {
-        if kept_by_failing(alloc, files, (calls, 1_000_000))? == 2 {
-            return Ok(calls);
-        }
-    }
-    Err(Fail::new("a change is refused behind 100 calls of the log"))
+/// The files of a keeper as they are.
+fn files_of<D: Disk + Drop>(keeper: SqlKeeper<FileStore<D>>) -> Files<D> {
+    keeper.into_connection().into_store().close()
 }
 
-/// Behind how many calls of the database file no change is refused.
-fn db_calls(alloc: Global, files: &Files<Memory>) -> Result<u64, Fail> {
+/// How many of two more ballots a keeper keeps, and its files behind that.
+fn kept_by<D: Disk + Drop>(
+    alloc: Global,
+    keeper: SqlKeeper<FileStore<D>>,
+) -> Result<(usize, Files<D>), Fail> {
+    let mut keeper = keeper;
+    let kept = kept_and_had(alloc, &mut keeper);
+    let files = files_of(keeper);
+    match kept {
+        Ok(count) => Ok((count, files)),
+        Err(fail) => Err(fail),
+    }
+}
+
+/// How many of two ballots a keeper over failing copies of the files keeps: none where it cannot be opened. It has just
+/// the rows that it kept; and so has one over what the copies hold, but that the change which was refused may be there
+/// as a whole.
+fn kept_by_failing(alloc: Global, files: &Files<Memory>, calls: (u64, u64)) -> Result<usize, Fail> {
+    let copies = copies_of(alloc, &files.log, &files.db)?;
+    match opened(alloc, fused(copies, calls)) {
+        Some(keeper) => {
+            let (count, files) = kept_by(alloc, keeper)?;
+            held_too(alloc, &files, count)
+        }
+        None => Ok(0),
+    }
+}
+
+/// More calls than any of the files gets.
+const ENOUGH: u64 = 1_000_000;
+
+/// How many calls of the log, or of the database file, may come before the first that fails.
+fn limits(is_log: bool, calls: u64) -> (u64, u64) {
+    if is_log {
+        (calls, ENOUGH)
+    } else {
+        (ENOUGH, calls)
+    }
+}
+
+/// Behind so many calls of the log, or of the database file, no change is refused, and behind fewer one is.
+fn calls_of(alloc: Global, files: &Files<Memory>, is_log: bool) -> Result<u64, Fail> {
     for calls in 0..100 {
-        if kept_by_failing(alloc, files, (1_000_000, calls))? == 2 {
+        if kept_by_failing(alloc, files, limits(is_log, calls))? == 2 {
             return Ok(calls);
         }
     }
-    Err(Fail::new("a change is refused behind 100 calls of the file"))
+    Err(Fail::new("a change is refused behind 100 calls"))
 }
 
 #[test]
 fn each_call_of_the_disk_fails_in_turn(rt: HostRuntime) -> Result<(), Fail> {
-    let alloc = rt.alloc();
-    let files = filled_files(alloc)?;
-    let log_calls = log_calls(alloc, &files)?;
-    let db_calls = db_calls(alloc, &files)?;
-    assert!(rt; log_calls > 0, "{log_calls} calls of the log");
-    assert!(rt; db_calls > 0, "{db_calls} calls of the file");
+    let files = filled_files(rt.alloc())?;
+    assert!(rt; calls_of(rt.alloc(), &files, true)? > 0);
+    assert!(rt; calls_of(rt.alloc(), &files, false)? > 0);
     Ok(())
 }

@@ -1,6 +1,6 @@
 -- The first row that fails, one number after another.
-use Rattle.std.proofs.Common.{◌≡◌, ℕ, ◌+◌, ◌<◌, Bool, true, false, inl, inr, length, Some, sym, ap, ◌∙◌, arith}
-use Rattle.std.proofs.lemmas.Bool.{cases_eq}
+use Rattle.std.proofs.Common.{◌≡◌, ℕ, ◌+◌, ◌<◌, Bool, true, inl, inr, length, Some, sym, ap, ◌∙◌, arith}
+use Rattle.std.proofs.lemmas.Bool.{cases_eq, true≢false}
 use Rattle.sg_plan.specs.Ballots.{entries_of}
 use Rattle.sg_plan.specs.declared.plan.Plan.{Plan}
 use Rattle.sg_check.specs.Completions.{IsHalfOf}
@@ -31,13 +31,10 @@ pub race_found : (plan : Plan) (test : ℕ → ℕ → ℕ → Bool) (race count
     → IsFirstWrong plan (λ r i x. test r i x ≡ true) race instance row
 race_found plan test race count instance row within many before found = record {
   within = (within, found.0, omega (arith, found.1, many));
-  wrong = λ passes. let both : true ≡ false = sym passes ∙ found.2 in no both;
+  wrong = λ passes. true≢false (sym passes ∙ found.2);
   before = λ of on at half earlier. by_order of on at half earlier;
 }
   where
-    no : true ≡ false → ⊥
-    no e = cc
-
     by_order : (of on at : ℕ) → IsHalfOf plan of on at → IsEarlierRow of on at race instance row → test of on at ≡ true
     by_order of on at half (inl less) = before of on at less half.1 half.2
     by_order of on at half (inr same) =

@@ -15,8 +15,15 @@ use Rattle.sg_facts.proofs.Facts.{are_listed}
 use Rattle.sg_facts.specs.Items.{row_in}
 use Rattle.sg_parts.specs.Faults.{IsFirstWrong, IsRowRight, KeepsPosted, OpensAt}
 use Rattle.sg_parts.specs.Given.{completion_of}
+use Rattle.sg_parts.specs.declared.checks.At.{At}
+use Rattle.sg_parts.specs.declared.looks.Half.{Half}
 use Rattle.sg_parts.specs.declared.parts.RowGiven.{RowGiven}
 use Rattle.sg_parts.specs.inside.Checks.{half_keeps, half_opens, keeps_opening, opens_half, row_keeps, row_opens, row_right}
+
+-- A HALF OF A ROW
+
+pub on_half : {B : Type 0} (f : Side → ℕ → ℕ → ℕ → B) (half : Half) (on : Side) (at : At) → half.side ≡ on → half.at ≡ at → f half.side half.at.race half.at.instance half.at.row ≡ f on at.race at.instance at.row
+on_half f half on at sides ats = ap (λ (s : Side). f s half.at.race half.at.instance half.at.row) sides ∙ ap (λ (a : At). f on a.race a.instance a.row) ats
 
 -- TWO OPENINGS
 

@@ -3,8 +3,8 @@ use Rattle.std.proofs.Common.{◌≡◌, ◌≢◌, ℕ, zero, suc, ◌<◌, ◌
 use Rattle.std.specs.List.{list_any}
 use Rattle.std.specs.Option.{option_and_then, option_map_or}
 use Rattle.std.specs.Prelude.{is_some, slice_get}
-use Rattle.std.proofs.lemmas.Bool.{eq-eqb}
-use Rattle.std.proofs.lemmas.Option.{same_Some}
+use Rattle.std.proofs.lemmas.Bool.{eq-eqb, or_parts, true≢false}
+use Rattle.std.proofs.lemmas.Option.{none-some, same_Some}
 use Rattle.sg_commit.specs.declared.Opening.{Opening}
 use Rattle.sg_forms.specs.declared.line.RowOpening.{RowOpening}
 use Rattle.sg_forms.specs.declared.line.RowOpening.TheVariants as opened
@@ -37,50 +37,26 @@ use Rattle.sg_parts.specs.inside.Reading.{AreRight, IsRowsFault, row_fault}
 -- THE PRINTING
 
 any_at : (list : List ℕ) (code at found : ℕ) → list_any (λ other. other == code) list ≡ false → slice_get list at ≡ Some found → found ≢ code
-any_at [] code at found none is same = no is
-  where
-    no : None ≡ Some found → ⊥
-    no e = cc
-any_at (x ∷ list) code zero found none is same = no (sym (ap (λ b. b || list_any (λ other. other == code) list) (eq-eqb x code (same_Some x found is ∙ same))) ∙ none)
-  where
-    no : true ≡ false → ⊥
-    no e = cc
-any_at (x ∷ list) code (suc at) found none is same = any_at list code at found (right_false (x == code) (list_any (λ other. other == code) list) none) is same
-  where
-    right_false : (a b : Bool) → (a || b) ≡ false → b ≡ false
-    right_false true b e = cc
-    right_false false b e = e
+any_at [] code at found none is same = none-some found is
+any_at (x ∷ list) code zero found none is same = true≢false (sym (ap (λ b. b || list_any (λ other. other == code) list) (eq-eqb x code (same_Some x found is ∙ same))) ∙ none)
+any_at (x ∷ list) code (suc at) found none is same = any_at list code at found (or_parts (x == code) (list_any (λ other. other == code) list) none).1 is same
 
 differ_at : (list : List ℕ) (at other one two : ℕ) → has_repeat list ≡ false → slice_get list at ≡ Some one → slice_get list other ≡ Some two → at ≢ other → one ≢ two
-differ_at [] at other one two none is there apart same = no is
-  where
-    no : None ≡ Some one → ⊥
-    no e = cc
+differ_at [] at other one two none is there apart same = none-some one is
 differ_at (x ∷ list) at other one two none is there apart same = by_places at other is there apart
   where
-    left_false : (a b : Bool) → (a || b) ≡ false → a ≡ false
-    left_false true b e = cc
-    left_false false b e = refl
-
-    right_false : (a b : Bool) → (a || b) ≡ false → b ≡ false
-    right_false true b e = cc
-    right_false false b e = e
-
     first : list_any (λ other. other == x) list ≡ false
-    first = left_false (list_any (λ other. other == x) list) (has_repeat list) none
+    first = (or_parts (list_any (λ other. other == x) list) (has_repeat list) none).0
 
     further : (i j : ℕ) → slice_get list i ≡ Some one → slice_get list j ≡ Some two → i ≢ j → ⊥
-    further i j a b c = again list i j (right_false (list_any (λ other. other == x) list) (has_repeat list) none) a b c
+    further i j a b c = again list i j (or_parts (list_any (λ other. other == x) list) (has_repeat list) none).1 a b c
       where
         again : (l : List ℕ) (i j : ℕ) → has_repeat l ≡ false → slice_get l i ≡ Some one → slice_get l j ≡ Some two → i ≢ j → ⊥
-        again [] i j n a b c = no a
-          where
-            no : None ≡ Some one → ⊥
-            no e = cc
+        again [] i j n a b c = none-some one a
         again (y ∷ l) zero zero n a b c = c refl
-        again (y ∷ l) zero (suc j) n a b c = any_at l y j two (left_false (list_any (λ other. other == y) l) (has_repeat l) n) b (sym same ∙ sym (same_Some y one a))
-        again (y ∷ l) (suc i) zero n a b c = any_at l y i one (left_false (list_any (λ other. other == y) l) (has_repeat l) n) a (same ∙ sym (same_Some y two b))
-        again (y ∷ l) (suc i) (suc j) n a b c = again l i j (right_false (list_any (λ other. other == y) l) (has_repeat l) n) a b (λ e. c (ap suc e))
+        again (y ∷ l) zero (suc j) n a b c = any_at l y j two (or_parts (list_any (λ other. other == y) l) (has_repeat l) n).0 b (sym same ∙ sym (same_Some y one a))
+        again (y ∷ l) (suc i) zero n a b c = any_at l y i one (or_parts (list_any (λ other. other == y) l) (has_repeat l) n).0 a (same ∙ sym (same_Some y two b))
+        again (y ∷ l) (suc i) (suc j) n a b c = again l i j (or_parts (list_any (λ other. other == y) l) (has_repeat l) n).1 a b (λ e. c (ap suc e))
 
     by_places : (i j : ℕ) → slice_get (x ∷ list) i ≡ Some one → slice_get (x ∷ list) j ≡ Some two → i ≢ j → ⊥
     by_places zero zero a b c = c refl
@@ -189,10 +165,7 @@ rows_fault posted rows at first = by_opens (row_opens posted rows at.race at.ins
     wrong_row : IsFirstWrong posted.plan (IsRowRight (places_in posted) (completion_of rows)) at.race at.instance at.row
     wrong_row =
         wrong_is posted.plan (row_right posted rows) (IsRowRight (places_in posted) (completion_of rows)) at.race at.instance at.row (λ r i x less passes. right_true posted rows r i x passes)
-        (λ r i x less fails right. no_both (sym (true_right posted rows r i x right) ∙ fails)) first
-      where
-        no_both : true ≡ false → ⊥
-        no_both e = cc
+        (λ r i x less fails right. true≢false (sym (true_right posted rows r i x right) ∙ fails)) first
 
     by_opens : (b : Bool) → row_opens posted rows at.race at.instance at.row ≡ b → IsRowsFault posted rows (row_fault posted rows at)
     by_opens true e =
@@ -200,7 +173,4 @@ rows_fault posted rows at first = by_opens (row_opens posted rows at.race at.ins
         (wrong_row, opens_true posted rows at.race at.instance at.row e)
     by_opens false e =
         subst (λ (b : Bool). IsRowsFault posted rows (cond b (fault.Posted at.race at.instance at.row) (fault.Opening at.race at.instance at.row))) (sym e)
-        (wrong_row, λ opens. no_both (sym (true_opens posted rows at.race at.instance at.row opens) ∙ e))
-      where
-        no_both : true ≡ false → ⊥
-        no_both d = cc
+        (wrong_row, λ opens. true≢false (sym (true_opens posted rows at.race at.instance at.row opens) ∙ e))

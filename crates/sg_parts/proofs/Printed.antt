@@ -1,13 +1,15 @@
 -- The lists of a printing that was read: its sheet is the text that was read.
-use Rattle.std.proofs.Common.{◌≡◌, ℕ, zero, suc, ◌+◌, ◌-◌, ◌*◌, ◌<◌, ◌≤◌, ◌==◌, nat_le, nat_lt, ◌⊎◌, Bool, true, false, ◌&&◌, ◌||◌, cond, inl, inr, List, [], ◌∷◌, ◌++◌, count_by, length, map, replicate, take, Option, Some, None, refl, sym, subst, ap, ◌∙◌, append_assoc, append-nil, arith}
+use Rattle.std.proofs.Common.{◌≡◌, ℕ, zero, suc, ◌+◌, ◌-◌, ◌*◌, ◌<◌, ◌≤◌, ◌==◌, nat_le, nat_lt, ◌⊎◌, Bool, true, false, ◌&&◌, ◌||◌, cond, inl, inr, List, [], ◌∷◌, ◌++◌, count_by, length, map, replicate, take, Option, Some, None, refl, sym, subst, ap, ◌∙◌, append_assoc, append-nil, add-zero, suc-mul, arith}
 use Rattle.std.specs.List.{list_any}
 use Rattle.std.specs.Option.{option_and_then, option_map_or}
 use Rattle.std.specs.Option.{unwrap_or}
-use Rattle.std.specs.Prelude.{slice_get, slice_index_or, slice_set}
+use Rattle.std.specs.Prelude.{slice_get, slice_index_or}
 use Rattle.std.proofs.Math.Seq.{take-append_seam}
-use Rattle.std.proofs.lemmas.Bool.{and_parts, cases_lt, eq-eqb, eqb-true, ltb-true, ne_eqb}
+use Rattle.std.proofs.lemmas.Bool.{and_parts, cases_lt, eq-eqb, eqb-true, ltb-true, ne_eqb, or_right, true≢false}
+use Rattle.std.proofs.lemmas.List.{length-append, length-map, length-replicate, length-set, length_push}
 use Rattle.std.proofs.lemmas.List.Sums.{sum_by-cons}
-use Rattle.std.proofs.lemmas.Option.{get_or_from_slice_get, same_Some, slice_get-get_or, slice_get_within, unwrap_or-slice_get}
+use Rattle.std.proofs.lemmas.Option.{get_or_from_slice_get, none-some, same_Some, slice_get-get_or, slice_get_within, unwrap_or-slice_get}
+use Rattle.std.proofs.lemmas.Simd.{map-map}
 use Rattle.sg_plan.proofs.Counting.{count_by-append}
 use Rattle.sg_plan.specs.Ballots.{ballot_row, ballot_styles, races_of_style, rows_of, style_has}
 use Rattle.sg_plan.specs.Limits.{fault_of, rises}
@@ -22,9 +24,6 @@ use Rattle.sg_facts.proofs.Tabling.{push_get, push_last, set_get}
 use Rattle.sg_facts.specs.Items.{item_in}
 use Rattle.sg_parts.specs.Given.{AreCodes, ArePrinted, printed_of, sheet_texts}
 use Rattle.sg_parts.specs.inside.Filling.{Fills, Lists, is_race_due, with_list}
-
-and_none : (n : ℕ) → n ≡ n + 0
-and_none n = omega arith
 
 -- THE ROWS OF A SHEET STAND IN ORDER
 
@@ -74,21 +73,11 @@ module _ (plan : Plan) (fine : fault_of plan ≡ None) where
       let parts = and_parts (nat_le least n && nat_lt n end) (rises (n + 1) end ns) up in (
         rows n (ap (λ b. b || list_any (λ x. x == n) ns) (eq-eqb n n refl)),
         races_order ballot (n + 1) end ns (plus n counts) parts.1
-            (λ r has. rows r (or_right (n == r) (list_any (λ x. x == r) ns) has) ∙ (no_more (counts r) ∙ sym (ap (λ b. counts r + cond b 1 0) (ne_eqb n r (λ e. other r has (rises-once n end ns parts.1) e))))),
+            (λ r has. rows r (or_right (n == r) (list_any (λ x. x == r) ns) has) ∙ (sym (add-zero (counts r)) ∙ sym (ap (λ b. counts r + cond b 1 0) (ne_eqb n r (λ e. other r has (rises-once n end ns parts.1) e))))),
       )
     where
-      or_right : (a b : Bool) → b ≡ true → (a || b) ≡ true
-      or_right true b e = refl
-      or_right false b e = e
-
-      no_more : (k : ℕ) → k ≡ k + 0
-      no_more k = omega arith
-
       other : (r : ℕ) → list_any (λ x. x == r) ns ≡ true → list_any (λ x. x == n) ns ≡ false → n ≡ r → ⊥
-      other r has none same = no (sym (ap (λ k. list_any (λ x. x == k) ns) same ∙ has) ∙ none)
-        where
-          no : true ≡ false → ⊥
-          no e = cc
+      other r has none same = true≢false (sym (ap (λ k. list_any (λ x. x == k) ns) same ∙ has) ∙ none)
 
   races_after : (ballot least end : ℕ) (races : List ℕ) (counts : ℕ → ℕ) → rises least end races ≡ true → (r : ℕ) → after (map (codes_due plan ballot) races) counts r ≡ counts r + cond (list_any (λ x. x == r) races) 1 0
   races_after ballot least end [] counts up r = omega arith
@@ -112,12 +101,8 @@ module _ (plan : Plan) (fine : fault_of plan ≡ None) where
       order_append (ballot_due plan ballot style) (due_from plan (ballot + 1) styles) (rows_in front)
       (races_order ballot 0 (length plan.races) (races_of_style plan style) (rows_in front) (style_rises plan style fine) (λ r has. row_is r))
       (order_same (due_from plan (ballot + 1) styles) (rows_in (front ++ style ∷ [])) (after (ballot_due plan ballot style) (rows_in front)) (λ r. sym (counted r))
-      (ballots_order (front ++ style ∷ []) styles (ballot + 1) (all ∙ sym (append_assoc front (style ∷ []) styles)) (ap (λ n. n + 1) is ∙ ap (λ n. n + 1) (sym (pushed front style)))))
+      (ballots_order (front ++ style ∷ []) styles (ballot + 1) (all ∙ sym (append_assoc front (style ∷ []) styles)) (ap (λ n. n + 1) is ∙ ap (λ n. n + 1) (sym (length_push front style)))))
     where
-      pushed : (xs : List ℕ) (x : ℕ) → length (xs ++ x ∷ []) ≡ length xs + 1
-      pushed [] x = refl
-      pushed (y ∷ xs) x = omega (arith, pushed xs x)
-
       row_is : (r : ℕ) → ballot_row plan r ballot ≡ rows_in front r
       row_is r =
           let at : ballot - 1 ≡ length front = omega (arith, is) in
@@ -127,7 +112,7 @@ module _ (plan : Plan) (fine : fault_of plan ≡ None) where
       counted : (r : ℕ) → after (ballot_due plan ballot style) (rows_in front) r ≡ rows_in (front ++ style ∷ []) r
       counted r =
           races_after ballot 0 (length plan.races) (races_of_style plan style) (rows_in front) (style_rises plan style fine) r
-          ∙ (ap (λ n. rows_in front r + n) (and_none (cond (style_has plan r style) 1 0))
+          ∙ (ap (λ n. rows_in front r + n) (sym (add-zero (cond (style_has plan r style) 1 0)))
           ∙ sym (count_by-append (style_has plan r) front (style ∷ []) ∙ ap (λ n. rows_in front r + n) (sum_by-cons (λ x. cond (style_has plan r x) 1 0) style [])))
 
   ballots_after : (front styles : List ℕ) (ballot : ℕ) → ballot_styles plan.runs ≡ front ++ styles → ballot ≡ length front + 1 → (r : ℕ) → after (due_from plan ballot styles) (rows_in front) r ≡ rows_of plan r
@@ -135,16 +120,12 @@ module _ (plan : Plan) (fine : fault_of plan ≡ None) where
   ballots_after front (style ∷ styles) ballot all is r =
       ap (λ f. f r) (after_append (ballot_due plan ballot style) (due_from plan (ballot + 1) styles) (rows_in front))
       ∙ (after_same (due_from plan (ballot + 1) styles) (after (ballot_due plan ballot style) (rows_in front)) (rows_in (front ++ style ∷ [])) counted r
-      ∙ ballots_after (front ++ style ∷ []) styles (ballot + 1) (all ∙ sym (append_assoc front (style ∷ []) styles)) (ap (λ n. n + 1) is ∙ ap (λ n. n + 1) (sym (pushed front style))) r)
+      ∙ ballots_after (front ++ style ∷ []) styles (ballot + 1) (all ∙ sym (append_assoc front (style ∷ []) styles)) (ap (λ n. n + 1) is ∙ ap (λ n. n + 1) (sym (length_push front style))) r)
     where
-      pushed : (xs : List ℕ) (x : ℕ) → length (xs ++ x ∷ []) ≡ length xs + 1
-      pushed [] x = refl
-      pushed (y ∷ xs) x = omega (arith, pushed xs x)
-
       counted : (k : ℕ) → after (ballot_due plan ballot style) (rows_in front) k ≡ rows_in (front ++ style ∷ []) k
       counted k =
           races_after ballot 0 (length plan.races) (races_of_style plan style) (rows_in front) (style_rises plan style fine) k
-          ∙ (ap (λ n. rows_in front k + n) (and_none (cond (style_has plan k style) 1 0))
+          ∙ (ap (λ n. rows_in front k + n) (sym (add-zero (cond (style_has plan k style) 1 0)))
           ∙ sym (count_by-append (style_has plan k) front (style ∷ []) ∙ ap (λ n. rows_in front k + n) (sum_by-cons (λ x. cond (style_has plan k x) 1 0) style [])))
 
   sheet_order : InOrder (sheet_due plan) (λ r. 0)
@@ -185,19 +166,8 @@ module _ (plan : Plan) (fine : fault_of plan ≡ None) where
   due_few ballot (style ∷ styles) =
       let here = rises-length 0 (length plan.races) (races_of_style plan style) (style_rises plan style fine) in
       let rest = due_few (ballot + 1) styles in
-      let step : suc (length styles) * (length plan.races + 1) ≡ (length plan.races + 1) + length styles * (length plan.races + 1) = one_more (length styles) (length plan.races + 1) in
-      omega (arith, here, rest, step, lengths (ballot_due plan ballot style) (due_from plan (ballot + 1) styles), mapped (races_of_style plan style))
-    where
-      one_more : (n c : ℕ) → suc n * c ≡ c + n * c
-      one_more n c = grind arith
-
-      lengths : (xs ys : List Due) → length (xs ++ ys) ≡ length xs + length ys
-      lengths [] ys = omega arith
-      lengths (x ∷ xs) ys = omega (arith, lengths xs ys)
-
-      mapped : (xs : List ℕ) → length (map (codes_due plan ballot) xs) ≡ length xs
-      mapped [] = refl
-      mapped (x ∷ xs) = ap suc (mapped xs)
+      let step : suc (length styles) * (length plan.races + 1) ≡ length styles * (length plan.races + 1) + (length plan.races + 1) = suc-mul (length styles) (length plan.races + 1) in
+      omega (arith, here, rest, step, length-append (ballot_due plan ballot style) (due_from plan (ballot + 1) styles), length-map (races_of_style plan style) (codes_due plan ballot))
 
   pub sheet_few : length (sheet_due plan) ≤ length (ballot_styles plan.runs) * (length plan.races + 1)
   sheet_few = due_few 1 (ballot_styles plan.runs)
@@ -213,15 +183,6 @@ Keeps old new = (race row : ℕ) (list : List ℕ) → item_in old race row ≡ 
 
 abbrev HasCodes : Plan → Lists → Type 0
 HasCodes plan lists = (race row : ℕ) (list : List ℕ) → item_in lists race row ≡ Some list → AreCodes plan race list
-
-set_long : (xs : Lists) (i : ℕ) (v : List (List ℕ)) → length (slice_set xs i v) ≡ length xs
-set_long [] i v = refl
-set_long (x ∷ xs) zero v = refl
-set_long (x ∷ xs) (suc i) v = ap suc (set_long xs i v)
-
-pushed_rows : (rows : List (List ℕ)) (list : List ℕ) → length (rows ++ list ∷ []) ≡ length rows + 1
-pushed_rows [] list = refl
-pushed_rows (x ∷ rows) list = omega (arith, pushed_rows rows list)
 
 module _ (plan : Plan) (old : Lists) (race : ℕ) (list : List ℕ) (within : race < length old) where
   abbrev rows : List (List ℕ)
@@ -252,7 +213,7 @@ module _ (plan : Plan) (old : Lists) (race : ℕ) (list : List ℕ) (within : ra
       at_row same (inl less) e =
           before r k x (ap (option_and_then (λ items. slice_get items k)) (ap (slice_get old) (sym same) ∙ rows_are) ∙ (sym (push_get rows list k less) ∙ e))
       at_row same (inr more) e =
-          let last : k ≡ length rows = omega (arith, more, slice_get_within (rows ++ list ∷ []) k x e, pushed_rows rows list) in
+          let last : k ≡ length rows = omega (arith, more, slice_get_within (rows ++ list ∷ []) k x e, length_push rows list) in
           subst (λ (y : List ℕ). AreCodes plan r y) (same_Some list x (sym (push_last rows list k last) ∙ e)) (subst (λ n. AreCodes plan n list) same are)
 
       at_race : (b : Bool) → (race == r) ≡ b → option_and_then (λ items. slice_get items k) (cond b (Some (rows ++ list ∷ [])) (slice_get old r)) ≡ Some x → AreCodes plan r x
@@ -265,16 +226,13 @@ module _ (plan : Plan) (old : Lists) (race : ℕ) (list : List ℕ) (within : ra
       at_race : (b : Bool) → (race == r) ≡ b → length (slice_index_or (with_list old race list) r []) ≡ counts r + cond (race == r) 1 0
       at_race false e =
           ap length (index_same (slice_get (with_list old race list) r) (slice_get old r) (with_get r ∙ ap (λ b. cond b (Some (rows ++ list ∷ [])) (slice_get old r)) e))
-          ∙ (has r less ∙ (no_more (counts r) ∙ sym (ap (λ b. counts r + cond b 1 0) e)))
+          ∙ (has r less ∙ (sym (add-zero (counts r)) ∙ sym (ap (λ b. counts r + cond b 1 0) e)))
         where
-          no_more : (k : ℕ) → k ≡ k + 0
-          no_more k = omega arith
-
           index_same : (a b : Option (List (List ℕ))) → slice_get (with_list old race list) r ≡ slice_get old r → slice_index_or (with_list old race list) r [] ≡ slice_index_or old r []
           index_same a b same = sym (unwrap_or-slice_get (with_list old race list) r []) ∙ (ap (λ o. unwrap_or o []) same ∙ unwrap_or-slice_get old r [])
       at_race true e =
           ap length (get_or_from_slice_get (with_list old race list) r (rows ++ list ∷ []) [] (with_get r ∙ ap (λ b. cond b (Some (rows ++ list ∷ [])) (slice_get old r)) e))
-          ∙ (pushed_rows rows list ∙ (ap (λ n. n + 1) (ap (λ k. length (slice_index_or old k [])) (eqb-true race r e) ∙ has r less) ∙ sym (ap (λ b. counts r + cond b 1 0) e)))
+          ∙ (length_push rows list ∙ (ap (λ n. n + 1) (ap (λ k. length (slice_index_or old k [])) (eqb-true race r e) ∙ has r less) ∙ sym (ap (λ b. counts r + cond b 1 0) e)))
 
 -- the lines that were taken are those of the sheet with these lists
 pub record HasFilled (plan : Plan) (due : List Due) (lines left : List (List ℕ)) (old new : Lists) (counts : ℕ → ℕ) : Type 0 where
@@ -309,7 +267,7 @@ filled plan (line.Codes race row ∷ due) (text ∷ lines) left old new counts r
     let put : with_list old race list ≡ mid = sym takes.3 in
     let more = filled plan due lines left mid new (plus race counts) (λ at d e. races (suc at) d e) order.1
     (subst (λ (l : Lists). HasCounts (length plan.races) l (plus race counts)) put (with_counts plan old race list within (length plan.races) counts has))
-    (subst (λ (l : Lists). HasCodes plan l) put (with_codes plan old race list within takes.1 codes)) (ap length takes.3 ∙ (set_long old race (slice_index_or old race [] ++ list ∷ []) ∙ long)) rest in
+    (subst (λ (l : Lists). HasCodes plan l) put (with_codes plan old race list within takes.1 codes)) (ap length takes.3 ∙ (length-set old race (slice_index_or old race [] ++ list ∷ []) ∙ long)) rest in
     let last : item_in mid race row ≡ Some list
     = subst (λ (l : Lists). item_in l race row ≡ Some list) put (ap (λ k. item_in (with_list old race list) race k) (order.0 ∙ sym (has race (omega (arith, within, long)))) ∙ with_last plan old race list within) in
     let printed : printed_of new race row ≡ list = ap (λ (o : Option (List ℕ)). option_map_or (λ l. l) o []) (more.keeps race row list last) in
@@ -325,41 +283,27 @@ filled plan (line.Codes race row ∷ due) (text ∷ lines) left old new counts r
 
 -- THE SHEET
 
-map_twice : {A B C : Type 0} (f : A → B) (g : B → C) (xs : List A) → map (λ x. g (f x)) xs ≡ map g (map f xs)
-map_twice f g [] = refl
-map_twice f g (x ∷ xs) = ap (λ l. g (f x) ∷ l) (map_twice f g xs)
-
 fill_index : (n r : ℕ) → length (slice_index_or (replicate {A = List (List ℕ)} n []) r []) ≡ 0
 fill_index zero r = refl
 fill_index (suc n) zero = refl
 fill_index (suc n) (suc r) = fill_index n r
 
 fill_none : (n race row : ℕ) (list : List ℕ) → item_in (replicate {A = List (List ℕ)} n []) race row ≡ Some list → ⊥
-fill_none zero race row list is = no is
-  where
-    no : None ≡ Some list → ⊥
-    no e = cc
-fill_none (suc n) zero row list is = no is
-  where
-    no : None ≡ Some list → ⊥
-    no e = cc
+fill_none zero race row list is = none-some list is
+fill_none (suc n) zero row list is = none-some list is
 fill_none (suc n) (suc race) row list is = fill_none n race row list is
-
-fill_long : (n : ℕ) → length (replicate {A = List (List ℕ)} n []) ≡ n
-fill_long zero = refl
-fill_long (suc n) = ap suc (fill_long n)
 
 -- what was read is a printing, and the lines are those of its sheet
 pub sheet_filled : (plan : Plan) (lines left : List (List ℕ)) (lists : Lists) → fault_of plan ≡ None → Fills plan (sheet_due plan) lines (replicate (length plan.races) []) left lists
     → ArePrinted plan lists × (lines ≡ sheet_texts plan lists ++ left)
 sheet_filled plan lines left lists fine fills =
     let has = filled plan (sheet_due plan) lines left (replicate (length plan.races) []) lists (λ r. 0) (sheet_within plan fine) (sheet_order plan fine) (λ r less. fill_index (length plan.races) r)
-    (λ race row list is. absurd (fill_none (length plan.races) race row list is)) (fill_long (length plan.races)) fills in (
+    (λ race row list is. absurd (fill_none (length plan.races) race row list is)) (length-replicate (length plan.races) []) fills in (
       record {
         races = has.long;
         rows = λ race rows is.
             ap length (sym (get_or_from_slice_get lists race rows [] is)) ∙ (has.counts_are race (omega (arith, slice_get_within lists race rows is, has.long)) ∙ sheet_after plan fine race);
         codes_are = has.codes_are;
       },
-      has.text ∙ ap (λ (l : List (List ℕ)). l ++ left) (map_twice (line_due (printed_of lists)) (line_text plan.version) (sheet_due plan) ∙ ap (map (line_text plan.version)) (sheet_printed plan (printed_of lists))),
+      has.text ∙ ap (λ (l : List (List ℕ)). l ++ left) (sym (map-map (line_text plan.version) (line_due (printed_of lists)) (sheet_due plan)) ∙ ap (map (line_text plan.version)) (sheet_printed plan (printed_of lists))),
     )

@@ -1,9 +1,9 @@
 -- How the rows of a completion are read.
-use Rattle.std.proofs.Common.{◌≡◌, ℕ, suc, ◌+◌, ◌*◌, ◌<◌, ◌≤◌, ◌==◌, ◌⊎◌, Bool, true, ◌&&◌, inl, inr, List, [], ◌∷◌, ◌++◌, drop, length, map, Option, Some, None, refl, sym, subst, ap, ◌∙◌, append_assoc, append-nil, arith}
+use Rattle.std.proofs.Common.{◌≡◌, ℕ, suc, ◌+◌, ◌*◌, ◌<◌, ◌≤◌, ◌==◌, ◌⊎◌, Bool, true, ◌&&◌, inl, inr, List, [], ◌∷◌, ◌++◌, drop, length, map, Option, Some, None, refl, sym, subst, ap, ◌∙◌, append_assoc, append-nil, suc-mul, arith}
 use Rattle.std.specs.List.{list_all}
 use Rattle.std.specs.Prelude.{codes}
 use Rattle.std.proofs.lemmas.Bool.{and_from, and_parts, eq-eqb, eqb-true}
-use Rattle.std.proofs.lemmas.List.{drop_all, map-append}
+use Rattle.std.proofs.lemmas.List.{drop_all, length-append, length_push, map-append}
 use Rattle.std.proofs.Math.Nat.{mul-le-mul_left}
 use Rattle.std.proofs.lemmas.Nat.{mul-add-lt}
 use Rattle.sg_commit.specs.declared.Opening.{Opening}
@@ -76,15 +76,11 @@ rows_start bytes start rows within none = record {
   spells = subst (λ (r : List RowGiven). SpellsRows (lines_of (drop start bytes)) r (lines_of (drop start bytes))) (sym none) (spells_none (lines_of (drop start bytes)));
 }
 
-pushed : {A : Type 0} (xs : List A) (x : A) → length (xs ++ x ∷ []) ≡ length xs + 1
-pushed [] x = refl
-pushed (y ∷ xs) x = omega (arith, pushed xs x)
-
 pub rows_more : (bytes text : List ℕ) (lines : List (List ℕ)) (at end next : ℕ) (rows rows' : List RowGiven) (row : RowGiven) → HasRows at bytes lines rows end → lines_of (drop end bytes) ≡ text ∷ lines_of (drop next bytes)
     → next ≤ length bytes → IsRowGiven row → text ≡ row_text row → rows' ≡ rows ++ row ∷ [] → HasRows (at + 1) bytes lines rows' next
 rows_more bytes text lines at end next rows rows' row has cut within given is grown = record {
   within = within;
-  long = ap length grown ∙ (pushed rows row ∙ ap (λ n. n + 1) has.long);
+  long = ap length grown ∙ (length_push rows row ∙ ap (λ n. n + 1) has.long);
   spells =
       subst (λ (r : List RowGiven). SpellsRows lines r (lines_of (drop next bytes))) (sym grown)
       (spells_both lines (lines_of (drop end bytes)) (lines_of (drop next bytes)) rows (row ∷ []) has.spells
@@ -125,28 +121,20 @@ pub instances_more : (bytes : List ℕ) (lines : List (List ℕ)) (at count end 
     → HasRows count bytes (lines_of (drop end bytes)) read next → rows' ≡ rows ++ read ∷ [] → HasInstances (at + 1) count bytes lines rows' next
 instances_more bytes lines at count end next rows rows' read has more grown = record {
   within = more.within;
-  long = ap length grown ∙ (pushed rows read ∙ ap (λ n. n + 1) has.long);
+  long = ap length grown ∙ (length_push rows read ∙ ap (λ n. n + 1) has.long);
   each_long = ap (list_all (λ items. length items == count)) grown ∙ all_push (λ items. length items == count) rows read has.each_long (eq-eqb (length read) count more.long);
   spells =
       subst (λ (r : List RowGiven). SpellsRows lines r (lines_of (drop next bytes))) (sym (ap joined grown ∙ joined_push rows read))
       (spells_both lines (lines_of (drop end bytes)) (lines_of (drop next bytes)) (joined rows) read has.spells more.spells);
 }
 
-lengths : {A : Type 0} (xs ys : List A) → length (xs ++ ys) ≡ length xs + length ys
-lengths [] ys = omega arith
-lengths (x ∷ xs) ys = omega (arith, lengths xs ys)
-
-all_long : {A : Type 0} (count : ℕ) (rows : List (List A)) → list_all (λ items. length items == count) rows ≡ true → length (joined rows) ≡ length rows * count
+pub all_long : {A : Type 0} (count : ℕ) (rows : List (List A)) → list_all (λ items. length items == count) rows ≡ true → length (joined rows) ≡ length rows * count
 all_long count [] all = omega arith
 all_long count (x ∷ rows) all =
     let parts = and_parts (length x == count) (list_all (λ items. length items == count) rows) all in
     let rest = all_long count rows parts.1 in
     let here = eqb-true (length x) count parts.0 in
-    let step : suc (length rows) * count ≡ count + length rows * count = one_more (length rows) count in
-    omega (arith, lengths x (joined rows), rest, here, step)
-  where
-    one_more : (n c : ℕ) → suc n * c ≡ c + n * c
-    one_more n c = grind arith
+    omega (arith, length-append x (joined rows), rest, here, suc-mul (length rows) count)
 
 pub instances_off : (bytes : List ℕ) (lines : List (List ℕ)) (instances count at end off : ℕ) (rows : List (List RowGiven)) → HasInstances at count bytes lines rows end → at < instances
     → Stops count (lines_of (drop end bytes)) (fault.Off off) → Stops (instances * count) lines (fault.Off (at * count + off))
@@ -164,14 +152,6 @@ instances_fault bytes lines instances count at end rows fault.NoMemory has less 
 pub stop_few : (count : ℕ) (lines : List (List ℕ)) (off : RowsFault) → Stops count lines off → fault_at off ≤ count
 stop_few count lines (fault.Off at) stop = omega (arith, stop.0)
 stop_few count lines fault.NoMemory stop = omega arith
-
-pub product_few : (a b c d : ℕ) → a ≤ c → b ≤ d → a * b ≤ c * d
-product_few a b c d less few =
-    let one = mul-le-mul_left a few in
-    let two = mul-le-mul_left d less in
-    let turned : a * d ≡ d * a = grind arith in
-    let back : c * d ≡ d * c = grind arith in
-    omega (arith, one, two, turned, back)
 
 -- RACES
 
@@ -225,7 +205,7 @@ some_more plan bytes lines race end next done instances count rows rows' read ha
     let same : instances * count ≡ plan.instances * entries_of plan race = ap (λ n. n * count) many ∙ ap (λ n. plan.instances * n) counts in
     record {
       within = more.within;
-      long = ap length grown ∙ (pushed rows read ∙ ap (λ n. n + 1) has.long);
+      long = ap length grown ∙ (length_push rows read ∙ ap (λ n. n + 1) has.long);
       each_long =
           ap (each_passes (passes plan) 0) grown
           ∙ each_push plan 0 rows read has.each_long
@@ -234,7 +214,7 @@ some_more plan bytes lines race end next done instances count rows rows' read ha
           (and_from (length read == plan.instances) (list_all (λ items. length items == entries_of plan race) read) (eq-eqb (length read) plan.instances (more.long ∙ many))
           (subst (λ n. list_all (λ items. length items == n) read ≡ true) counts more.each_long)));
       done_are = omega (arith, has.done_are, same, spread, ap (λ n. plan.instances * entries_before plan n) one);
-      count = ap length all ∙ (lengths (joined (joined rows)) (joined read) ∙ omega (arith, has.count, long));
+      count = ap length all ∙ (length-append (joined (joined rows)) (joined read) ∙ omega (arith, has.count, long));
       spells =
           subst (λ (r : List RowGiven). SpellsRows lines r (lines_of (drop next bytes))) (sym all)
           (spells_both lines (lines_of (drop end bytes)) (lines_of (drop next bytes)) (joined (joined rows)) (joined read) has.spells more.spells);

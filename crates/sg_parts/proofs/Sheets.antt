@@ -1,7 +1,7 @@
 -- How a sheet is read.
 use Rattle.std.proofs.Common.{◌≡◌, ℕ, zero, suc, ◌+◌, ◌<◌, ◌≤◌, true, false, List, [], ◌∷◌, ◌++◌, drop, length, map, replicate, Some, None, refl, sym, subst, ap, ◌∙◌, arith}
 use Rattle.std.specs.Prelude.{All, slice_get, slice_index_or, slice_set}
-use Rattle.std.proofs.lemmas.List.{drop_all, set-set}
+use Rattle.std.proofs.lemmas.List.{drop_all, length-replicate, length-set, set-set}
 use Rattle.std.proofs.lemmas.Option.{get_or_from_slice_get, same_Some}
 use Rattle.sg_outside.specs.TextLines.{lines_of}
 use Rattle.sg_plan.specs.Ballots.{candidates_of}
@@ -47,23 +47,14 @@ pub record HasTaken (plan : Plan) (due : List Due) (bytes : List ℕ) (all : Lis
 pub taken_start : (plan : Plan) (due : List Due) (bytes : List ℕ) (start : ℕ) (lists : Lists) → start ≤ length bytes → lists ≡ replicate (length plan.races) [] → HasTaken plan due bytes (lines_of (drop start bytes)) 0 start lists
 taken_start plan due bytes start lists within are = record {
   within = within;
-  long = ap length are ∙ count (length plan.races);
+  long = ap length are ∙ length-replicate (length plan.races) [];
   fills = λ left new fills. subst (λ (l : Lists). Fills plan due (lines_of (drop start bytes)) l left new) are fills;
   off = λ k off. let same : k ≡ 0 + k = omega arith in subst (λ n. IsSheetOff plan (map (line_due blank) due) (lines_of (drop start bytes)) n) same off;
 }
-  where
-    count : (n : ℕ) → length (replicate {A = List (List ℕ)} n []) ≡ n
-    count zero = refl
-    count (suc n) = ap suc (count n)
-
-set_long : (xs : Lists) (i : ℕ) (v : List (List ℕ)) → length (slice_set xs i v) ≡ length xs
-set_long [] i v = refl
-set_long (x ∷ xs) zero v = refl
-set_long (x ∷ xs) (suc i) v = ap suc (set_long xs i v)
 
 line_long : (plan : Plan) (one : Due) (text : List ℕ) (old new : Lists) → TakesLine plan one text old new true → length new ≡ length old
 line_long plan (line.Ballot ballot style) text old new takes = ap length takes.1
-line_long plan (line.Codes race row) text old new takes = ap length takes.3 ∙ set_long old race (slice_index_or old race [] ++ takes.0 ∷ [])
+line_long plan (line.Codes race row) text old new takes = ap length takes.3 ∙ length-set old race (slice_index_or old race [] ++ takes.0 ∷ [])
 
 line_is : (plan : Plan) (one : Due) (text : List ℕ) (old new : Lists) → TakesLine plan one text old new true → IsSheetLine plan (line_due blank one) text
 line_is plan (line.Ballot ballot style) text old new takes = takes.0

@@ -5,7 +5,8 @@ use Rattle.std.specs.Prelude.{slice_range}
 use Rattle.std.proofs.Math.Seq.{take-append_seam}
 use Rattle.std.proofs.lemmas.Grind.{common_steps}
 use Rattle.std.proofs.lemmas.Bool.{cases_eq, cond-false, cond-true, eq-eqb, ne_eqb}
-use Rattle.std.proofs.lemmas.List.{drop_all}
+use Rattle.std.proofs.lemmas.List.{drop_all, length-append, length_push}
+use Rattle.std.proofs.lemmas.List.Folds.{concat-append}
 use Rattle.sg_outside.proofs.LineLemmas.{concat-lines_of, lines_of-concat}
 use Rattle.sg_outside.specs.TextLines.{AreLines, IsLine, lines_of, onto_first}
 use Rattle.sg_parts.specs.Faults.{lines_behind, record_lines}
@@ -63,10 +64,6 @@ front_again text front [] is =
     ap (λ (l : List (List ℕ)). lines_of (concat l)) all ∙ (ap lines_of (concat-lines_of text) ∙ sym all)
 front_again text front (next ∷ more) is = lines_of-concat front (fronts_are text front next more (sym is))
 
-concat_append : (xs ys : List (List ℕ)) → concat (xs ++ ys) ≡ concat xs ++ concat ys
-concat_append [] ys = refl
-concat_append (x ∷ xs) ys = ap (λ (l : List ℕ). x ++ l) (concat_append xs ys) ∙ sym (append_assoc x (concat xs) (concat ys))
-
 -- the lines so far, none of which is `printing`
 pub record HasPassed (bytes : List ℕ) (end lines : ℕ) : Type 0 where
   pub within : end ≤ length bytes
@@ -85,7 +82,7 @@ passed_start bytes = record { within = omega arith; front = []; count = refl; fe
 passed_front : (bytes : List ℕ) (end lines : ℕ) (passed : HasPassed bytes end lines) → take end bytes ≡ concat passed.front
 passed_front bytes end lines passed =
     let whole : bytes ≡ concat passed.front ++ drop end bytes
-    = sym (concat-lines_of bytes) ∙ (ap concat (sym passed.all) ∙ (concat_append passed.front (lines_of (drop end bytes)) ∙ ap (λ (l : List ℕ). concat passed.front ++ l) (concat-lines_of (drop end bytes)))) in
+    = sym (concat-lines_of bytes) ∙ (ap concat (sym passed.all) ∙ (concat-append passed.front (lines_of (drop end bytes)) ∙ ap (λ (l : List ℕ). concat passed.front ++ l) (concat-lines_of (drop end bytes)))) in
     ap (λ (n : ℕ). take n bytes) (sym passed.size) ∙ (ap (take (length (concat passed.front))) whole ∙ take-append_seam (concat passed.front) (drop end bytes))
 
 pub passed_more : (bytes line : List ℕ) (end next lines : ℕ) → HasPassed bytes end lines → lines_of (drop end bytes) ≡ line ∷ lines_of (drop next bytes) → length line ≡ next - end → end < next → next ≤ length bytes
@@ -93,11 +90,11 @@ pub passed_more : (bytes line : List ℕ) (end next lines : ℕ) → HasPassed b
 passed_more bytes line end next lines passed cut long after within other = record {
   within = within;
   front = passed.front ++ line ∷ [];
-  count = pushed passed.front line ∙ omega (arith, passed.count);
+  count = length_push passed.front line ∙ omega (arith, passed.count);
   few = omega (arith, passed.few, after);
   size =
-      ap length (concat_append passed.front (line ∷ []))
-      ∙ (lengths (concat passed.front) (line ++ []) ∙ omega (arith, passed.size, ap length (append-nil line), long, after));
+      ap length (concat-append passed.front (line ∷ []))
+      ∙ (length-append (concat passed.front) (line ++ []) ∙ omega (arith, passed.size, ap length (append-nil line), long, after));
   all = append_assoc passed.front (line ∷ []) (lines_of (drop next bytes)) ∙ (ap (λ (l : List (List ℕ)). passed.front ++ l) (sym cut) ∙ passed.all);
   of_record =
       passed.of_record
@@ -105,14 +102,6 @@ passed_more bytes line end next lines passed cut long after within other = recor
       ∙ (ap (λ (b : Bool). passed.front ++ cond b [] (line ∷ record_lines (lines_of (drop next bytes)))) other ∙ sym (append_assoc passed.front (line ∷ []) (record_lines (lines_of (drop next bytes))))));
   behind = passed.behind ∙ (ap lines_behind cut ∙ ap (λ (b : Bool). cond b (line ∷ lines_of (drop next bytes)) (lines_behind (lines_of (drop next bytes)))) other);
 }
-  where
-    pushed : (xs : List (List ℕ)) (x : List ℕ) → length (xs ++ x ∷ []) ≡ length xs + 1
-    pushed [] x = refl
-    pushed (y ∷ xs) x = omega (arith, pushed xs x)
-
-    lengths : (xs ys : List ℕ) → length (xs ++ ys) ≡ length xs + length ys
-    lengths [] ys = omega arith
-    lengths (x ∷ xs) ys = omega (arith, lengths xs ys)
 
 -- a part of the bytes is as long as its bounds are apart
 pub slice_long : (bytes : List ℕ) (from end : ℕ) → from ≤ end → end ≤ length bytes → length (slice_range bytes from end) ≡ end - from

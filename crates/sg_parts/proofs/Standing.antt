@@ -1,7 +1,7 @@
 -- The printing stands with the record where each row that is opened on both sides does.
 use Rattle.std.proofs.Common.{◌≡◌, ℕ, ◌/◌, ◌%◌, ◌<◌, ◌==◌, ◌⊎◌, Bool, true, false, ◌&&◌, cond, inl, inr, List, length, Option, Some, None, refl, sym, subst, ap, ◌∙◌}
 use Rattle.std.specs.Option.{is_none, option_and_then, option_map_or}
-use Rattle.std.proofs.lemmas.Bool.{and_parts, eq-eqb, eqb-true}
+use Rattle.std.proofs.lemmas.Bool.{and_parts, eq-eqb, eqb-true, true≢false}
 use Rattle.std.proofs.lemmas.Option.{none-some, same_Some}
 use Rattle.sg_commit.specs.declared.Opening.{Opening}
 use Rattle.sg_plan.proofs.PlanLaws.{ballot_one, entry_tells}
@@ -199,10 +199,7 @@ module _ (posted : Record) (accepted : IsAccepted posted) where
             let printed_is = stands both.0 both.1 shows.block shows.ballot shows.column shows.code among shows.among shows.entry_is in
             let here : (printed both == code) ≡ false
             = sym (ap (λ (x : Option (Opening × Opening)). option_map_or (both_stand plan known lists race) x true) e ∙ ap (λ (x : Option (Option ℕ)). option_map_or (code_stands plan lists race both) (option_map_or (λ k. k) x None) true) d) ∙ fails in
-            no_both (sym (eq-eqb (printed both) code (printed_is ∙ shows.code_is)) ∙ here)
-          where
-            no_both : true ≡ false → ⊥
-            no_both e = cc
+            true≢false (sym (eq-eqb (printed both) code (printed_is ∙ shows.code_is)) ∙ here)
 
         by_row : (o : Option (Opening × Opening)) → option_and_then both_in (row_in posted.rows race instance row) ≡ o → ⊥
         by_row None e = let no : true ≡ false = sym (ap (λ (x : Option (Opening × Opening)). option_map_or (both_stand plan known lists race) x true) e) ∙ fails in cc

@@ -6,7 +6,7 @@ use Rattle.std.specs.Prelude.{IsErrAnd, slice_get}
 use Rattle.std.proofs.Math.Nat.{mul-le-mul_left}
 use Rattle.std.proofs.lemmas.Bool.{cases_eq, cond-false, cond-true, eq-eqb, ne_eqb}
 use Rattle.std.proofs.lemmas.List.{drop_all}
-use Rattle.std.proofs.lemmas.Option.{same_Some}
+use Rattle.std.proofs.lemmas.Option.{none-some, same_Some}
 use Rattle.std.proofs.lemmas.Slice.Eq.{bytes_eq-Decides}
 use Rattle.sg_outside.proofs.LineLemmas.{concat-lines_of}
 use Rattle.sg_outside.specs.TextLines.{lines_of, onto_first}
@@ -113,10 +113,7 @@ completion_over plan bytes text lines rows end count rest has more = (
 
 -- the openings of rows are such
 given_at : (rows : List RowGiven) (at : ℕ) (row : RowGiven) → AreGiven rows → slice_get rows at ≡ Some row → IsRowGiven row
-given_at [] at row given is = no is
-  where
-    no : None ≡ Some row → IsRowGiven row
-    no e = cc
+given_at [] at row given is = absurd (none-some row is)
 given_at (one ∷ rows) zero row given is = subst IsRowGiven (same_Some one row is) given.0
 given_at (one ∷ rows) (suc at) row given is = given_at rows at row given.1 is
 
@@ -125,22 +122,16 @@ given_front [] ys given = (tt, given)
 given_front (x ∷ xs) ys given = let parts = given_front xs ys given.1 in ((given.0, parts.0), parts.1)
 
 given_in : (lists : List (List RowGiven)) (outer inner : ℕ) (row : RowGiven) → AreGiven (joined lists) → item_in lists outer inner ≡ Some row → IsRowGiven row
-given_in [] outer inner row given is = no is
-  where
-    no : None ≡ Some row → IsRowGiven row
-    no e = cc
+given_in [] outer inner row given is = absurd (none-some row is)
 given_in (list ∷ lists) zero inner row given is = given_at list inner row (given_front list (joined lists) given).0 is
 given_in (list ∷ lists) (suc outer) inner row given is = given_in lists outer inner row (given_front list (joined lists) given).1 is
 
-joined_both : {A : Type 0} (xs ys : List (List A)) → joined (xs ++ ys) ≡ joined xs ++ joined ys
+pub joined_both : {A : Type 0} (xs ys : List (List A)) → joined (xs ++ ys) ≡ joined xs ++ joined ys
 joined_both [] ys = refl
 joined_both (x ∷ xs) ys = ap (λ l. x ++ l) (joined_both xs ys) ∙ sym (append_assoc x (joined xs) (joined ys))
 
 given_row : (lists : List (List (List RowGiven))) (race instance at : ℕ) (row : RowGiven) → AreGiven (joined (joined lists)) → row_in lists race instance at ≡ Some row → IsRowGiven row
-given_row [] race instance at row given is = no is
-  where
-    no : None ≡ Some row → IsRowGiven row
-    no e = cc
+given_row [] race instance at row given is = absurd (none-some row is)
 given_row (list ∷ lists) zero instance at row given is = given_in list instance at row (given_front (joined list) (joined (joined lists)) (subst AreGiven (joined_both list (joined lists)) given)).0 is
 given_row (list ∷ lists) (suc race) instance at row given is = given_row lists race instance at row (given_front (joined list) (joined (joined lists)) (subst AreGiven (joined_both list (joined lists)) given)).1 is
 
@@ -152,10 +143,7 @@ openings_are rows given on race instance at opening is = by_row (row_in rows rac
     of_half side.Right row one e = subst IsHalf e one.right
 
     by_row : (o : Option RowGiven) → row_in rows race instance at ≡ o → IsOpening opening
-    by_row None e = let no : None ≡ Some opening = sym (ap (option_and_then (half_given on)) e) ∙ is in no_opening no
-      where
-        no_opening : None ≡ Some opening → IsOpening opening
-        no_opening d = cc
+    by_row None e = let no : None ≡ Some opening = sym (ap (option_and_then (half_given on)) e) ∙ is in absurd (none-some opening no)
     by_row (Some row) e = of_half on row (given_row rows race instance at row given e) (sym (ap (option_and_then (half_given on)) e) ∙ is)
 
 pub completion_all : (plan : Plan) (bytes : List ℕ) (lines : List (List ℕ)) (rows : List (List (List RowGiven))) (end count : ℕ) → HasRaces plan bytes lines rows end count → length bytes ≤ end → HasCompletion plan (completion_line ∷ lines) rows

@@ -1,17 +1,16 @@
 //! Whether the printing stands with the record, and whether the completion opens it and keeps what is posted.
 ghost use Rattle.std.specs.Option.{option_and_then, option_map, option_map_or};
-ghost use Rattle.std.specs.Prelude.{◌≡◌, ◌<◌, ◌^◌, bytes_eq, length, true, None};
-ghost use Rattle.sg_check.specs.Completions.{half_kind, opened_on};
+ghost use Rattle.std.specs.Prelude.{◌≡◌, ◌<◌, ◌^◌, bytes_eq, length};
+ghost use Rattle.sg_check.specs.Completions.{half_kind};
 ghost use Rattle.sg_check.specs.Kinds.{opens_digest};
-ghost use Rattle.sg_facts.specs.Items.{item_in, row_in};
+ghost use Rattle.sg_facts.specs.Items.{row_in};
 ghost use Rattle.sg_facts.specs.Listed.{digest_on};
-ghost use Rattle.sg_parts.specs.Given.{completion_of, half_given, printing_of};
-ghost use Rattle.sg_parts.specs.inside.Checks.{FirstBelow, FirstPair, FirstRow, both_in, half_keeps, half_opens, is_same_opening, keeps_opening, row_keeps, row_opens, row_right, row_stands};
-ghost use Rattle.sg_plan.specs.Ballots.{candidates_of, entries_of};
+ghost use Rattle.sg_parts.specs.inside.Checks.{FirstBelow, FirstPair, FirstRow, both_in, half_keeps, half_opens, is_same_opening, keeps_opening, passes, row_keeps, row_opens, row_right, row_stands};
+ghost use Rattle.sg_plan.specs.Ballots.{entries_of};
 ghost use Rattle.sg_plan.specs.Limits.{fault_of};
 
 use crate::cutting::is_same;
-use crate::looks::{item_at, row_at};
+use crate::looks::{Half, entry_code, given_half, posted_half, printed_code, row_at};
 use crate::parts::RowGiven;
 use sg_commit::{CommitKind, Digest, Opening, opens};
 use sg_forms::RowOpening;
@@ -20,7 +19,7 @@ use sg_record::{Record, RowCommit};
 
 /// A row.
 #[derive(Clone, Copy, Debug, PartialEq, Eq)]
-pub(crate) struct At {
+pub struct At {
     /// The race's number.
     pub race: u32,
     /// The instance's number.
@@ -29,27 +28,17 @@ pub(crate) struct At {
     pub row: u32,
 }
 
+impl At {
+    /// The half of the row on this side.
+    pub fn on(self, side: Side) -> Half
+        ensures side { result.side ≡ side }
+        ensures at { result.at ≡ self }
+    {
+        Half { side, at: self }
+    }
+}
+
 // THE PRINTING STANDS
-
-/// The code that is printed beside a candidate, or 0.
-fn printed_code(lists: &Items<Items<Items<u16>>>, race: u32, row: u32, candidate: u32) -> u16
-    ensures { result ≡ printing_of lists.now race row candidate }
-{
-    match row_at(lists, race, row, candidate) {
-        Some(code) => code,
-        None => 0,
-    }
-}
-
-/// The code that is known of an entry.
-fn known_code(known: &Items<Items<Option<u16>>>, race: u32, entry: u32) -> Option<u16>
-    ensures { result ≡ option_map_or (λ code. code) (item_in known.now race entry) None }
-{
-    match item_at(known, race, entry) {
-        Some(code) => code,
-        None => None,
-    }
-}
 
 /// What a row opens on its two sides, where it opens both.
 fn both_of(opening: &RowOpening) -> Option<(Opening, Opening)>
@@ -63,10 +52,10 @@ fn both_of(opening: &RowOpening) -> Option<(Opening, Opening)>
 }
 
 /// What the record opens on both sides of a row, if it does.
-fn posted_both(posted: &Record, race: u32, instance: u32, row: u32) -> Option<(Opening, Opening)>
-    ensures { result ≡ option_and_then both_in (row_in posted.now.rows race instance row) }
+fn posted_both(posted: &Record, at: At) -> Option<(Opening, Opening)>
+    ensures { result ≡ option_and_then both_in (row_in posted.now.rows at.race at.instance at.row) }
 {
-    match row_at(&posted.rows, race, instance, row) {
+    match row_at(&posted.rows, at) {
         Some(opening) => both_of(&opening),
         None => None,
     }
@@ -78,121 +67,29 @@ fn row_stands(
     posted: &Record,
     known: &Items<Items<Option<u16>>>,
     lists: &Items<Items<Items<u16>>>,
-    race: u32,
-    instance: u32,
-    row: u32,
+    at: At,
 ) -> bool
     requires good { fault_of posted.now.plan ≡ None }
-    requires race { race < length posted.now.plan.races }
-    ensures { result ≡ row_stands posted.now known.now lists.now race instance row }
+    requires race { at.race < length posted.now.plan.races }
+    ensures { result ≡ row_stands posted.now known.now lists.now at.race at.instance at.row }
 {
     sg_plan::laws::bounds_law();
-    let Some((left, right)) = posted_both(posted, race, instance, row) else {
+    let Some((left, right)) = posted_both(posted, at) else {
         return true;
     };
-    let Some(code) = known_code(known, race, left.value) else {
+    let Some(code) = entry_code(known, at.race, left.value) else {
         return true;
     };
-    let candidates = posted.plan.candidates(race) as u32;
+    let candidates = posted.plan.candidates(at.race) as u32;
     printed_code(
         lists,
-        race,
+        at.race,
         left.value / candidates,
         right.value % candidates,
     ) == code
 }
 
-/// The first row of an instance that doesn't stand.
-fn unstanding_row(
-    posted: &Record,
-    known: &Items<Items<Option<u16>>>,
-    lists: &Items<Items<Items<u16>>>,
-    race: u32,
-    instance: u32,
-    count: u32,
-) -> Option<u32>
-    requires good { fault_of posted.now.plan ≡ None }
-    requires race { race < length posted.now.plan.races }
-    ensures { FirstBelow count (λ row. row_stands posted.now known.now lists.now race instance row) result }
-{
-    for row in 0..count {
-        if !row_stands(posted, known, lists, race, instance, row) {
-            return Some(row);
-        }
-    }
-    None
-}
-
-/// The first instance of a race, and in it the first row, that doesn't stand.
-fn unstanding_pair(
-    posted: &Record,
-    known: &Items<Items<Option<u16>>>,
-    lists: &Items<Items<Items<u16>>>,
-    race: u32,
-    count: u32,
-) -> Option<(u32, u32)>
-    requires good { fault_of posted.now.plan ≡ None }
-    requires race { race < length posted.now.plan.races }
-    ensures { FirstPair posted.now.plan.instances count (λ instance row. row_stands posted.now known.now lists.now race instance row) result }
-{
-    for instance in 0..posted.plan.instances {
-        if let Some(row) = unstanding_row(posted, known, lists, race, instance, count) {
-            return Some((instance, row));
-        }
-    }
-    None
-}
-
-/// The first row that doesn't stand.
-pub(crate) fn unstanding(
-    posted: &Record,
-    known: &Items<Items<Option<u16>>>,
-    lists: &Items<Items<Items<u16>>>,
-) -> Option<At>
-    requires { fault_of posted.now.plan ≡ None }
-    ensures { FirstRow posted.now.plan (row_stands posted.now known.now lists.now) result }
-{
-    sg_plan::laws::bounds_law();
-    for race in 0..posted.plan.races.len() as u32 {
-        let count = posted.plan.entries(race);
-        if let Some((instance, row)) = unstanding_pair(posted, known, lists, race, count) {
-            return Some(At {
-                race,
-                instance,
-                row,
-            });
-        }
-    }
-    None
-}
-
 // THE COMPLETION IS RIGHT
-
-/// What is given of a half.
-fn half_given(on: Side, row: &RowGiven) -> Option<Opening>
-    ensures { result ≡ half_given on row.now }
-{
-    match on {
-        Side::Left => row.left,
-        Side::Right => row.right,
-    }
-}
-
-/// The opening of a half, or none.
-pub(crate) fn given_half(
-    rows: &Items<Items<Items<RowGiven>>>,
-    on: Side,
-    race: u32,
-    instance: u32,
-    row: u32,
-) -> Option<Opening>
-    ensures { result ≡ completion_of rows.now on race instance row }
-{
-    match row_at(rows, race, instance, row) {
-        Some(given) => half_given(on, &given),
-        None => None,
-    }
-}
 
 /// The digest of a half.
 fn digest_on(on: Side, commit: &RowCommit) -> Digest
@@ -215,53 +112,39 @@ fn half_kind(on: Side) -> CommitKind
 }
 
 /// The commitment of a half.
-fn half_digest(posted: &Record, on: Side, race: u32, instance: u32, row: u32) -> Option<Digest>
-    ensures { result ≡ option_map (digest_on on) (row_in posted.now.row_commits race instance row) }
+fn half_digest(posted: &Record, half: Half) -> Option<Digest>
+    ensures { result ≡ option_map (digest_on half.side) (row_in posted.now.row_commits half.at.race half.at.instance half.at.row) }
 {
-    match row_at(&posted.row_commits, race, instance, row) {
-        Some(commit) => Some(digest_on(on, &commit)),
+    match row_at(&posted.row_commits, half.at) {
+        Some(commit) => Some(digest_on(half.side, &commit)),
         None => None,
     }
 }
 
 /// The commitment is there, and this opens it.
 #[tactic(auto, using(sg_check::proofs::Noting::same_texts))]
-fn opens_digest(
-    digest: Option<Digest>,
-    kind: CommitKind,
-    race: u32,
-    instance: u32,
-    row: u32,
-    opening: &Opening,
-) -> bool
-    requires race { race < 2 ^ 16 }
-    requires instance { instance < 2 ^ 16 }
-    ensures { result ≡ opens_digest digest kind race instance row opening.now }
+fn opens_digest(digest: Option<Digest>, kind: CommitKind, at: At, opening: &Opening) -> bool
+    requires race { at.race < 2 ^ 16 }
+    requires instance { at.instance < 2 ^ 16 }
+    ensures { result ≡ opens_digest digest kind at.race at.instance at.row opening.now }
 {
     match digest {
-        Some(digest) => opens(&digest, kind, race, instance, row, opening),
+        Some(digest) => opens(&digest, kind, at.race, at.instance, at.row, opening),
         None => false,
     }
 }
 
 /// Where the completion has an opening of the half, this opens its commitment.
-fn half_opens(
-    posted: &Record,
-    rows: &Items<Items<Items<RowGiven>>>,
-    on: Side,
-    race: u32,
-    instance: u32,
-    row: u32,
-) -> bool
-    requires race { race < 2 ^ 16 }
-    requires instance { instance < 2 ^ 16 }
-    ensures { result ≡ half_opens posted.now rows.now on race instance row }
+fn half_opens(posted: &Record, rows: &Items<Items<Items<RowGiven>>>, half: Half) -> bool
+    requires race { half.at.race < 2 ^ 16 }
+    requires instance { half.at.instance < 2 ^ 16 }
+    ensures { result ≡ half_opens posted.now rows.now half.side half.at.race half.at.instance half.at.row }
 {
-    let Some(opening) = given_half(rows, on, race, instance, row) else {
+    let Some(opening) = given_half(rows, half) else {
         return true;
     };
-    let digest = half_digest(posted, on, race, instance, row);
-    opens_digest(digest, half_kind(on), race, instance, row, &opening)
+    let digest = half_digest(posted, half);
+    opens_digest(digest, half_kind(half.side), half.at, &opening)
 }
 
 /// Each opening of the row opens its half.
@@ -276,8 +159,12 @@ pub(crate) fn row_opens(
     requires instance { instance < 2 ^ 16 }
     ensures { result ≡ row_opens posted.now rows.now race instance row }
 {
-    half_opens(posted, rows, Side::Left, race, instance, row)
-        && half_opens(posted, rows, Side::Right, race, instance, row)
+    let at = At {
+        race,
+        instance,
+        row,
+    };
+    half_opens(posted, rows, at.on(Side::Left)) && half_opens(posted, rows, at.on(Side::Right))
 }
 
 /// The openings are the same.
@@ -300,129 +187,104 @@ fn keeps_opening(given: Option<Opening>, posted: &Opening) -> bool
     }
 }
 
-/// What the record opens on a side.
-fn opened_on(on: Side, opening: &RowOpening) -> Option<Opening>
-    ensures { result ≡ opened_on on opening.now }
-{
-    match on {
-        Side::Left => match *opening {
-            RowOpening::Left(left) => Some(left),
-            RowOpening::Right(_) => None,
-            RowOpening::Both(left, _) => Some(left),
-        },
-        Side::Right => match *opening {
-            RowOpening::Left(_) => None,
-            RowOpening::Right(right) => Some(right),
-            RowOpening::Both(_, right) => Some(right),
-        },
-    }
-}
-
-/// What the record posts of a half, if it does.
-pub fn posted_half(posted: &Record, on: Side, race: u32, instance: u32, row: u32) -> Option<Opening>
-    ensures { result ≡ option_and_then (opened_on on) (row_in posted.now.rows race instance row) }
-{
-    match row_at(&posted.rows, race, instance, row) {
-        Some(opening) => opened_on(on, &opening),
-        None => None,
-    }
-}
-
 /// Where the record posts the half, the completion has its opening.
-fn half_keeps(
-    posted: &Record,
-    rows: &Items<Items<Items<RowGiven>>>,
-    on: Side,
-    race: u32,
-    instance: u32,
-    row: u32,
-) -> bool
-    ensures { result ≡ half_keeps posted.now rows.now on race instance row }
+fn half_keeps(posted: &Record, rows: &Items<Items<Items<RowGiven>>>, half: Half) -> bool
+    ensures { result ≡ half_keeps posted.now rows.now half.side half.at.race half.at.instance half.at.row }
 {
-    let Some(opening) = posted_half(posted, on, race, instance, row) else {
+    let Some(opening) = posted_half(posted, half) else {
         return true;
     };
-    keeps_opening(given_half(rows, on, race, instance, row), &opening)
+    keeps_opening(given_half(rows, half), &opening)
 }
 
 /// Where the record posts halves of the row, the completion has their openings.
-fn row_keeps(
-    posted: &Record,
-    rows: &Items<Items<Items<RowGiven>>>,
-    race: u32,
-    instance: u32,
-    row: u32,
-) -> bool
-    ensures { result ≡ row_keeps posted.now rows.now race instance row }
+fn row_keeps(posted: &Record, rows: &Items<Items<Items<RowGiven>>>, at: At) -> bool
+    ensures { result ≡ row_keeps posted.now rows.now at.race at.instance at.row }
 {
-    half_keeps(posted, rows, Side::Left, race, instance, row)
-        && half_keeps(posted, rows, Side::Right, race, instance, row)
+    half_keeps(posted, rows, at.on(Side::Left)) && half_keeps(posted, rows, at.on(Side::Right))
 }
 
 /// The openings of the row open its halves, and are those that the record posts.
-fn row_right(
-    posted: &Record,
-    rows: &Items<Items<Items<RowGiven>>>,
-    race: u32,
-    instance: u32,
-    row: u32,
-) -> bool
-    requires race { race < 2 ^ 16 }
-    requires instance { instance < 2 ^ 16 }
-    ensures { result ≡ row_right posted.now rows.now race instance row }
+fn row_right(posted: &Record, rows: &Items<Items<Items<RowGiven>>>, at: At) -> bool
+    requires race { at.race < 2 ^ 16 }
+    requires instance { at.instance < 2 ^ 16 }
+    ensures { result ≡ row_right posted.now rows.now at.race at.instance at.row }
 {
-    row_opens(posted, rows, race, instance, row) && row_keeps(posted, rows, race, instance, row)
+    row_opens(posted, rows, at.race, at.instance, at.row) && row_keeps(posted, rows, at)
 }
 
-/// The first row of an instance that isn't right.
-fn wrong_row(
-    posted: &Record,
-    rows: &Items<Items<Items<RowGiven>>>,
-    race: u32,
-    instance: u32,
-    count: u32,
-) -> Option<u32>
-    requires race { race < 2 ^ 16 }
-    requires instance { instance < 2 ^ 16 }
-    ensures { FirstBelow count (λ row. row_right posted.now rows.now race instance row) result }
+// THE FIRST ROW THAT FAILS
+
+/// What each row is to pass.
+#[derive(Clone, Copy)]
+enum Test<'a> {
+    /// The printing stands with the record there.
+    Stands {
+        /// The codes that are known, by race and entry.
+        known: &'a Items<Items<Option<u16>>>,
+        /// The codes of the printing.
+        lists: &'a Items<Items<Items<u16>>>,
+    },
+    /// The completion is right there.
+    Right(&'a Items<Items<Items<RowGiven>>>),
+}
+
+/// The row passes.
+fn passes(posted: &Record, test: &Test<'_>, at: At) -> bool
+    requires good { fault_of posted.now.plan ≡ None }
+    requires race { at.race < length posted.now.plan.races }
+    requires instance { at.instance < posted.now.plan.instances }
+    ensures { result ≡ passes posted.now test.now at.race at.instance at.row }
 {
-    for row in 0..count {
-        if !row_right(posted, rows, race, instance, row) {
+    sg_plan::laws::bounds_law();
+    match *test {
+        Test::Stands { known, lists } => row_stands(posted, known, lists, at),
+        Test::Right(rows) => row_right(posted, rows, at),
+    }
+}
+
+/// The first row of an instance that fails.
+fn first_row(posted: &Record, test: &Test<'_>, race: u32, instance: u32) -> Option<u32>
+    requires good { fault_of posted.now.plan ≡ None }
+    requires race { race < length posted.now.plan.races }
+    requires instance { instance < posted.now.plan.instances }
+    ensures { FirstBelow (entries_of posted.now.plan race) (passes posted.now test.now race instance) result }
+{
+    for row in 0..posted.plan.entries(race) {
+        let at = At {
+            race,
+            instance,
+            row,
+        };
+        if !passes(posted, test, at) {
             return Some(row);
         }
     }
     None
 }
 
-/// The first instance of a race, and in it the first row, that isn't right.
-fn wrong_pair(
-    posted: &Record,
-    rows: &Items<Items<Items<RowGiven>>>,
-    race: u32,
-    count: u32,
-) -> Option<(u32, u32)>
+/// The first instance of a race, and in it the first row, that fails.
+fn first_pair(posted: &Record, test: &Test<'_>, race: u32) -> Option<(u32, u32)>
     requires good { fault_of posted.now.plan ≡ None }
-    requires race { race < 2 ^ 16 }
-    ensures { FirstPair posted.now.plan.instances count (λ instance row. row_right posted.now rows.now race instance row) result }
+    requires race { race < length posted.now.plan.races }
+    ensures { FirstPair posted.now.plan.instances (entries_of posted.now.plan race) (passes posted.now test.now race) result }
 {
-    sg_plan::laws::bounds_law();
     for instance in 0..posted.plan.instances {
-        if let Some(row) = wrong_row(posted, rows, race, instance, count) {
+        if let Some(row) = first_row(posted, test, race, instance) {
             return Some((instance, row));
         }
     }
     None
 }
 
-/// The first row that isn't right.
-pub(crate) fn wrong(posted: &Record, rows: &Items<Items<Items<RowGiven>>>) -> Option<At>
+/// The first row that fails.
+fn first_failing(posted: &Record, test: &Test<'_>) -> Option<At>
     requires { fault_of posted.now.plan ≡ None }
-    ensures { FirstRow posted.now.plan (row_right posted.now rows.now) result }
+    ensures { FirstRow posted.now.plan (passes posted.now test.now) result }
 {
     sg_plan::laws::bounds_law();
     for race in 0..posted.plan.races.len() as u32 {
-        let count = posted.plan.entries(race);
-        if let Some((instance, row)) = wrong_pair(posted, rows, race, count) {
+        if let Some((instance, row)) = first_pair(posted, test, race) {
             return Some(At {
                 race,
                 instance,
@@ -431,4 +293,24 @@ pub(crate) fn wrong(posted: &Record, rows: &Items<Items<Items<RowGiven>>>) -> Op
         }
     }
     None
+}
+
+/// The first row that doesn't stand.
+pub(crate) fn unstanding(
+    posted: &Record,
+    known: &Items<Items<Option<u16>>>,
+    lists: &Items<Items<Items<u16>>>,
+) -> Option<At>
+    requires { fault_of posted.now.plan ≡ None }
+    ensures { FirstRow posted.now.plan (row_stands posted.now known.now lists.now) result }
+{
+    first_failing(posted, &Test::Stands { known, lists })
+}
+
+/// The first row that isn't right.
+pub(crate) fn wrong(posted: &Record, rows: &Items<Items<Items<RowGiven>>>) -> Option<At>
+    requires { fault_of posted.now.plan ≡ None }
+    ensures { FirstRow posted.now.plan (row_right posted.now rows.now) result }
+{
+    first_failing(posted, &Test::Right(rows))
 }

@@ -9,7 +9,7 @@ mod read;
 mod rows;
 mod sheet;
 
-pub use checks::posted_half;
-pub use looks::{item_at, row_at};
+pub use checks::At;
+pub use looks::{Half, entry_code, given_half, item_at, posted_half, printed_code, row_at};
 pub use parts::{Completion, Parts, Printing, RecountFault, RowGiven};
 pub use read::read_parts;

@@ -228,6 +228,52 @@ fn printed_parts(
     whole_parts(posted, lists, rows)
 }
 
+/// The codes of the printing that stands from `start` on and with the record, where it ends, and how many lines its sheet
+/// has. So many lines stand before.
+fn indexed_printing(
+    alloc: Global,
+    posted: &Record,
+    index: &BallotIndex,
+    bytes: &[u8],
+    start: usize,
+    before: u32,
+) -> Result<(Items<Items<Items<u16>>>, usize, u32), RecountFault>
+    requires index { index.now ≡ posted.now.plan }
+    requires of_record { IsRecordOf (lines_of bytes.now) posted.now }
+    requires start { start ≤ length bytes.now }
+    requires few { before ≤ 1200000 }
+    requires before { before ≡ length (record_lines (lines_of bytes.now)) }
+    requires behind { lines_of (drop start bytes.now) ≡ lines_behind (lines_of bytes.now) }
+    ensures printed { IfOk result (λ read. HasPrinting posted.now.plan bytes.now (lines_behind (lines_of bytes.now)) read.0 read.1 read.2) }
+    ensures stands { IfOk result (λ read. StandsWith posted.now.plan (places_in posted.now) (printing_of read.0)) }
+    ensures err { IfErr result (λ fault. HasFault (lines_of bytes.now) fault) }
+{
+    let (lists, next, count) = read_printing(alloc, &posted.plan, index, bytes, start, before)?;
+    check_standing(alloc, posted, index, &lists)?;
+    Ok((lists, next, count))
+}
+
+/// The same, where the ballots of the plan are numbered first.
+fn standing_printing(
+    alloc: Global,
+    posted: &Record,
+    bytes: &[u8],
+    start: usize,
+    before: u32,
+) -> Result<(Items<Items<Items<u16>>>, usize, u32), RecountFault>
+    requires of_record { IsRecordOf (lines_of bytes.now) posted.now }
+    requires start { start ≤ length bytes.now }
+    requires few { before ≤ 1200000 }
+    requires before { before ≡ length (record_lines (lines_of bytes.now)) }
+    requires behind { lines_of (drop start bytes.now) ≡ lines_behind (lines_of bytes.now) }
+    ensures printed { IfOk result (λ read. HasPrinting posted.now.plan bytes.now (lines_behind (lines_of bytes.now)) read.0 read.1 read.2) }
+    ensures stands { IfOk result (λ read. StandsWith posted.now.plan (places_in posted.now) (printing_of read.0)) }
+    ensures err { IfErr result (λ fault. HasFault (lines_of bytes.now) fault) }
+{
+    let index = BallotIndex::make(alloc, &posted.plan)?;
+    indexed_printing(alloc, posted, &index, bytes, start, before)
+}
+
 /// All parts, where the record ends at `start` and has so many lines.
 fn parts_of(
     alloc: Global,
@@ -244,9 +290,7 @@ fn parts_of(
     ensures ok { IfOk result (λ parts. IsGiven (lines_of bytes.now) parts) }
     ensures err { IfErr result (λ fault. HasFault (lines_of bytes.now) fault) }
 {
-    let index = BallotIndex::make(alloc, &posted.plan)?;
-    let (lists, next, count) = read_printing(alloc, &posted.plan, &index, bytes, start, before)?;
-    check_standing(alloc, &posted, &index, &lists)?;
+    let (lists, next, count) = standing_printing(alloc, &posted, bytes, start, before)?;
     printed_parts(alloc, bytes, next, before + count + 1, posted, lists)
 }
 

@@ -1,18 +1,19 @@
 //! The marks, flags, places and totals of a story, and what they answer.
-ghost use Rattle.std.specs.Prelude.{◌≡◌, ◌<◌, ℕ, List, IfOk, true};
+ghost use Rattle.std.specs.Prelude.{◌≡◌, ◌<◌, ℕ, List, IfOk, OnOk, true};
 ghost use Rattle.sg_plan.specs.declared.plan.Plan.{Plan};
-ghost use Rattle.sg_post.specs.Fits.{story_fits};
+ghost use Rattle.sg_post.specs.Fits.{fates_fit, story_fits};
 ghost use Rattle.sg_post.specs.Marks.{flag_of, is_marked, is_set, total_of};
 ghost use Rattle.sg_post.specs.Posting.{HasItem, HasItemIn, IsPosting};
 ghost use Rattle.sg_post.specs.declared.story.Told.{Told};
 
 use crate::ballot_marks::{audited_ballots, mark_races};
 use crate::making::{flag_races, place_races};
-use crate::story::Story;
+use crate::story::{Story, Told};
 use crate::totals::total_races;
 use sg_plan::{BallotIndex, Items, NoMemory};
 use sg_tables::Tables;
 use std::alloc::Global;
+use std::mem;
 
 /// What the fates of the ballots make of the tables: lists by race, instance and number.
 ///
@@ -34,6 +35,12 @@ pub struct Posting {
     pub(crate) audited: Items<bool>,
 }
 
+/// Lets a posting go, for want of memory.
+fn dropped(posting: Posting) -> NoMemory {
+    drop(posting);
+    NoMemory
+}
+
 impl Posting {
     /// The posting of a story over these tables, made in the time of the ballots in their races, the marks and the
     /// rows. It refuses for want of memory alone.
@@ -42,19 +49,44 @@ impl Posting {
         ensures { IfOk result (λ posting. IsPosting tables.now.plan tables.now.seed story.now.fates posting) }
     {
         let index = BallotIndex::make(alloc, tables.plan())?;
-        let marks = mark_races(alloc, tables, &index, &story.fates)?;
-        let flags = flag_races(alloc, tables, &marks)?;
-        let places = place_races(alloc, tables, &marks)?;
-        let totals = total_races(alloc, tables, &places)?;
-        let audited = audited_ballots(alloc, &index, &story.fates)?;
-        Ok(Posting {
+        let mut posting = Posting::blank(alloc, index);
+        match posting.fill(alloc, tables, &story.fates) {
+            Ok(()) => Ok(posting),
+            Err(NoMemory) => Err(dropped(posting)),
+        }
+    }
+
+    /// No list yet, over this index.
+    fn blank(alloc: Global, index: BallotIndex) -> Posting
+        ensures { result.index ≡ index }
+    {
+        Posting {
             index,
-            marks,
-            flags,
-            places,
-            totals,
-            audited,
-        })
+            marks: Items::new(alloc),
+            flags: Items::new(alloc),
+            places: Items::new(alloc),
+            totals: Items::new(alloc),
+            audited: Items::new(alloc),
+        }
+    }
+
+    /// Makes the lists, each from those before it.
+    fn fill(&mut self, alloc: Global, tables: &Tables, fates: &Items<Told>) -> Result<(), NoMemory>
+        requires index { self.old.index ≡ tables.now.plan }
+        requires fits { fates_fit tables.now.plan 0 fates.now ≡ true }
+        ensures { OnOk result (IsPosting tables.now.plan tables.now.seed fates.now self.new) }
+    {
+        let marks = mark_races(alloc, tables, &self.index, fates)?;
+        drop(mem::replace(&mut self.marks, marks));
+        let flags = flag_races(alloc, tables, &self.marks)?;
+        drop(mem::replace(&mut self.flags, flags));
+        let places = place_races(alloc, tables, &self.marks)?;
+        drop(mem::replace(&mut self.places, places));
+        let totals = total_races(alloc, tables, &self.places)?;
+        drop(mem::replace(&mut self.totals, totals));
+        let audited = audited_ballots(alloc, &self.index, fates)?;
+        drop(mem::replace(&mut self.audited, audited));
+        Ok(())
     }
 
     /// Whether an entry of a race is marked: its code is posted.

@@ -1,5 +1,6 @@
-//! Tests of the libraries about a record: it is read, written and judged, alone and with others of a county, its codes are told,
-//! and it is counted again.
+//! Tests of the libraries about a record: it is read and written, it is counted as a county's part, and its codes are told.
+//!
+//! Verdicts, recounts and counties are tried as commands, by the programs `audit_vectors` and `office_vectors`.
 #![tactic(auto)]
 
 #[cfg(test)]
@@ -7,16 +8,14 @@ mod county;
 #[cfg(test)]
 mod facts;
 #[cfg(test)]
-mod judge;
+mod fates;
 #[cfg(test)]
-mod ledger;
-#[cfg(test)]
-mod parts;
+mod lists;
 #[cfg(test)]
 mod record;
 #[cfg(test)]
-mod recount;
+mod texts;
 #[cfg(test)]
-mod small_record;
+mod trials;
 #[cfg(test)]
-mod towns;
+mod writing;

@@ -1,9 +1,9 @@
 -- What the lists of an accepted record say, beside its lines.
-use Rattle.std.proofs.Common.{◌≡◌, ℕ, zero, suc, ◌+◌, ◌<◌, ◌==◌, nat_le, nat_lt, Bool, true, false, ◌&&◌, ◌||◌, List, [], ◌∷◌, length, Option, Some, None, refl, sym, subst, ap, ◌∙◌, arith}
+use Rattle.std.proofs.Common.{◌≡◌, ℕ, zero, suc, ◌+◌, ◌<◌, ◌==◌, nat_lt, Bool, true, false, ◌&&◌, ◌||◌, List, [], ◌∷◌, length, Option, Some, None, refl, sym, subst, ap, ◌∙◌, arith}
 use Rattle.std.specs.List.{list_all}
 use Rattle.std.specs.Option.{option_and_then, option_map_or}
 use Rattle.std.specs.Prelude.{is_some, slice_get}
-use Rattle.std.proofs.lemmas.Bool.{and_parts, eq-eqb, eqb-true, leb-true}
+use Rattle.std.proofs.lemmas.Bool.{and_parts, eq-eqb, eqb-true, lt-leb}
 use Rattle.std.proofs.lemmas.Option.{same_Some}
 use Rattle.sg_commit.specs.declared.Opening.{Opening}
 use Rattle.sg_plan.specs.Ballots.{candidates_of, entries_of}
@@ -43,10 +43,7 @@ each_there test from (y ∷ xs) (suc i) x all is =
     subst (λ n. test n x ≡ true) same (each_there test (from + 1) xs i x (and_parts (test from y) (each_passes test (from + 1) xs) all).1 is)
 
 all_there : {A : Type 0} (test : A → Bool) (xs : List A) (i : ℕ) (x : A) → list_all test xs ≡ true → slice_get xs i ≡ Some x → test x ≡ true
-all_there test [] i x all is = no is
-  where
-    no : None ≡ Some x → test x ≡ true
-    no e = cc
+all_there test [] i x all is = cc
 all_there test (y ∷ xs) zero x all is = subst (λ z. test z ≡ true) (same_Some y x is) (and_parts (test y) (list_all test xs) all).0
 all_there test (y ∷ xs) (suc i) x all is = all_there test xs i x (and_parts (test y) (list_all test xs) all).1 is
 
@@ -118,12 +115,5 @@ module _ (posted : Record) where
         ≡ (nat_lt 1 count || differ (is_flagged race instance row (places_in posted)) (is_counted posted.plan (places_in posted) on race opening.value))
     wrong_is below count is =
         ap (λ b. b || (is_repeated posted.plan (completion_of rows) on race instance row opening.value || differ (is_flagged race instance row (places_in posted)) (is_counted posted.plan (places_in posted) on race opening.value)))
-        (not_le (entries_of posted.plan race) opening.value below)
+        (lt-leb (entries_of posted.plan race) opening.value below)
         ∙ ap (λ b. b || differ (is_flagged race instance row (places_in posted)) (is_counted posted.plan (places_in posted) on race opening.value)) (repeat_is below count is)
-      where
-        not_le : (n p : ℕ) → p < n → nat_le n p ≡ false
-        not_le n p less = by_test (nat_le n p) refl
-          where
-            by_test : (b : Bool) → nat_le n p ≡ b → nat_le n p ≡ false
-            by_test false e = e
-            by_test true e = absurd (omega (arith, less, leb-true n p e))

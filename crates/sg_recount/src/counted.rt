@@ -1,12 +1,12 @@
 //! How many rows of an instance have each pointer.
-ghost use Rattle.std.specs.Prelude.{◌≡◌, ℕ, ◌+◌, ◌≤◌, ◌==◌, if◌then◌else◌, IfOk, Some, length, slice_get};
+ghost use Rattle.std.specs.Prelude.{◌≡◌, ℕ, ◌+◌, ◌<◌, ◌≤◌, if◌then◌else◌, IfOk, Some, length, slice_get};
 ghost use Rattle.sg_plan.specs.Limits.{most_rows};
 ghost use Rattle.sg_check.specs.Facts.{points_to};
-ghost use Rattle.sg_recount.specs.inside.Counted.{HasCounts};
+ghost use Rattle.sg_recount.specs.inside.Basis.{AreCounts, IsBasis, plan_in};
 
-use crate::looks::given_half;
+use crate::basis::Basis;
 use sg_commit::Opening;
-use sg_parts::RowGiven;
+use sg_parts::{At, Half, given_half};
 use sg_plan::{Items, NoMemory, Side};
 use std::alloc::Global;
 
@@ -25,21 +25,28 @@ fn note_half(counts: &mut Items<u32>, half: Option<Opening>)
     }
 }
 
-/// How many rows have each pointer on this side.
+/// How many rows of an instance have each pointer on this side.
 pub(crate) fn count_pointers(
     alloc: Global,
-    rows: &Items<Items<Items<RowGiven>>>,
-    on: Side,
+    basis: &Basis<'_>,
+    side: Side,
     race: u32,
     instance: u32,
-    count: u32,
 ) -> Result<Items<u32>, NoMemory>
-    requires { count ≤ most_rows }
-    ensures { IfOk result (λ counts. HasCounts rows.now on race instance count count counts) }
+    requires basis { IsBasis basis.now }
+    requires race { race < length (plan_in basis.now).races }
+    ensures { IfOk result (λ counts. AreCounts basis.now side race instance counts) }
 {
+    sg_plan::laws::bounds_law();
+    let count = basis.posted.plan.entries(race);
     let mut counts = Items::filled(alloc, 0, count as usize)?;
     for row in 0..count {
-        note_half(&mut counts, given_half(rows, on, race, instance, row));
+        let at = At {
+            race,
+            instance,
+            row,
+        };
+        note_half(&mut counts, given_half(basis.rows, Half { side, at }));
     }
     Ok(counts)
 }

@@ -2,13 +2,14 @@
 #![tactic(auto)]
 
 mod altered;
+mod basis;
 mod counted;
 mod findings;
 mod looks;
 mod sums;
 
 pub use findings::{Findings, Sum, recount};
-pub use looks::{given_half, marked_code, total_at};
+pub use looks::total_at;
 pub use sg_parts::{
     Completion, Parts, Printing, RecountFault, RowGiven, item_at, posted_half, read_parts, row_at,
 };

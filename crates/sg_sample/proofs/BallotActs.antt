@@ -2,6 +2,7 @@
 use Rattle.std.proofs.Common.{◌≡◌, ℕ, ◌%◌, ◌<◌, ◌≤◌, ◌==◌, nat_lt, nat_le, Bool, true, false, not, if◌then◌else◌, List, [], ◌∷◌, length, Some, None, refl, sym, subst, ap, arith}
 use Rattle.std.proofs.lemmas.Bool.{ne_eqb}
 use Rattle.std.proofs.lemmas.Bool.Decides.{nat_tests}
+use Rattle.std.proofs.lemmas.Option.{same_Some}
 use Rattle.sg_plan.specs.Ballots.{ballot_has, candidates_of, races_of_ballot}
 use Rattle.sg_plan.specs.Fates.{has_mark}
 use Rattle.sg_plan.specs.Limits.{fault_of, first_bad}
@@ -133,13 +134,10 @@ pub ballot_act_is : (setup : Setup) (ballots ballot : ℕ) (done : Act) → setu
     → ballot_act setup.plan setup.seed.0 ballot ≡ Some done → IsBallotAct setup ballot done
 ballot_act_is setup ballots ballot done plan first last few is = by (ballot % 10 == 0) (ballot % 10 == 5) (ballot % 10 == 7) is
   where
-    which : (a b : Act) → Some a ≡ Some b → a ≡ b
-    which a b e = cc
-
     by : (zero_is five seven : Bool)
         → (if zero_is then Some (act.Spoil ballot) else (if five then Some (act.Audit ballot (paper_of setup.plan setup.seed.0 ballot)) else (if seven then None else Some (act.Scan ballot (sample_marks ballot))))) ≡ Some done
         → IsBallotAct setup ballot done
-    by true five seven e = subst (IsBallotAct setup ballot) (which _ _ e) (spoil_act setup ballots ballot plan first last)
-    by false true seven e = subst (IsBallotAct setup ballot) (which _ _ e) (audit_act setup ballots ballot plan first last few)
+    by true five seven e = subst (IsBallotAct setup ballot) (same_Some _ _ e) (spoil_act setup ballots ballot plan first last)
+    by false true seven e = subst (IsBallotAct setup ballot) (same_Some _ _ e) (audit_act setup ballots ballot plan first last few)
     by false false true e = cc
-    by false false false e = subst (IsBallotAct setup ballot) (which _ _ e) (scan_act setup ballots ballot plan first last)
+    by false false false e = subst (IsBallotAct setup ballot) (same_Some _ _ e) (scan_act setup ballots ballot plan first last)

@@ -1,7 +1,6 @@
 -- The marks of a ballot of a sample name candidates of its races, each once.
-use Rattle.std.proofs.Common.{◌≡◌, ℕ, ◌+◌, ◌%◌, ◌<◌, ◌≤◌, ◌==◌, nat_lt, Bool, true, false, not, if◌then◌else◌, List, [], ◌∷◌, length, None, refl, arith}
-use Rattle.std.proofs.lemmas.Bool.{ne_eqb}
-use Rattle.std.proofs.lemmas.Bool.Decides.{nat_tests}
+use Rattle.std.proofs.Common.{◌≡◌, ℕ, ◌+◌, ◌%◌, ◌≤◌, ◌==◌, nat_lt, Bool, true, false, not, if◌then◌else◌, List, [], ◌∷◌, length, None, refl, arith}
+use Rattle.std.proofs.lemmas.Bool.{lt-ltb, ne_eqb}
 use Rattle.sg_plan.specs.Ballots.{ballot_has, candidates_of}
 use Rattle.sg_plan.specs.Fates.{has_mark}
 use Rattle.sg_plan.specs.Limits.{first_bad}
@@ -29,22 +28,19 @@ pub races_fit : (plan : Plan) (ballot : ℕ) (more : Bool) → ballot_has plan b
 races_fit plan ballot true zero_is one_is = rw (zero_is, one_is) refl
 races_fit plan ballot false zero_is one_is = rw (zero_is, one_is) refl
 
-below : (a b : ℕ) → a < b → nat_lt a b ≡ true
-below a b h = grind (arith, nat_tests, h)
-
 -- each is of a candidate of its race
 pub candidates_fit : (plan : Plan) (ballot : ℕ) (more : Bool) → candidates_of plan 0 ≡ 3 → candidates_of plan 1 ≡ 4
     → first_bad (λ earlier mark. nat_lt mark.candidate (candidates_of plan mark.race)) [] (marks_by ballot more) ≡ None
 candidates_fit plan ballot true three four =
-    let a = below (ballot % 3) 3 (omega arith) in
-    let b = below (ballot % 4) 4 (omega arith) in
-    let c = below ((ballot + 1) % 4) 4 (omega arith) in
-    let d = below ((ballot + 2) % 4) 4 (omega arith) in
+    let a = lt-ltb (ballot % 3) 3 (omega arith) in
+    let b = lt-ltb (ballot % 4) 4 (omega arith) in
+    let c = lt-ltb ((ballot + 1) % 4) 4 (omega arith) in
+    let d = lt-ltb ((ballot + 2) % 4) 4 (omega arith) in
     rw (three, four, a, b, c, d) refl
 candidates_fit plan ballot false three four =
-    let a = below (ballot % 3) 3 (omega arith) in
-    let b = below (ballot % 4) 4 (omega arith) in
-    let c = below ((ballot + 1) % 4) 4 (omega arith) in
+    let a = lt-ltb (ballot % 3) 3 (omega arith) in
+    let b = lt-ltb (ballot % 4) 4 (omega arith) in
+    let c = lt-ltb ((ballot + 1) % 4) 4 (omega arith) in
     rw (three, four, a, b, c) refl
 
 -- each next one is another one

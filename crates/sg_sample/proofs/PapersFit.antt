@@ -1,8 +1,9 @@
 -- The paper of a ballot of a sample has the form of the ballot's, and codes of its version.
-use Rattle.std.proofs.Common.{◌≡◌, ℕ, zero, suc, ◌<◌, true, List, [], ◌∷◌, length, map, get_or, slice_get, Some, None, refl, sym, subst, ap, arith}
+use Rattle.std.proofs.Common.{◌≡◌, ℕ, ◌<◌, true, List, [], ◌∷◌, length, map, None, refl, sym, subst, ap, arith}
 use Rattle.std.specs.Prelude.{All}
 use Rattle.std.proofs.lemmas.Bool.{eq-eqb}
 use Rattle.std.proofs.lemmas.List.Elements.{All-cons, All-nil}
+use Rattle.std.proofs.lemmas.Option.{get_or_from_slice_get}
 use Rattle.sg_plan.specs.Ballots.{ballot_row, candidates_of, races_of_ballot}
 use Rattle.sg_plan.specs.Codes.{codes_of}
 use Rattle.sg_plan.specs.Limits.{fault_of}
@@ -23,19 +24,13 @@ pub paper_is : (plan : Plan) (seed : List ℕ) (ballot : ℕ) → races_of_ballo
 unfolding paper_of
 paper_is plan seed ballot races = ap (map (list_of plan seed ballot)) races
 
--- a list of so many codes
-at_is : (list : List ℕ) (k d code : ℕ) → slice_get list k ≡ Some code → get_or list k d ≡ code
-at_is [] k d code e = cc
-at_is (x ∷ xs) zero d code e = cc
-at_is (x ∷ xs) (suc k) d code e = at_is xs k d code e
-
 pub list_codes : (plan : Plan) (seed : List ℕ) (ballot race : ℕ) → fault_of plan ≡ None → race < length plan.races → All (IsCode plan.version) (list_of plan seed ballot race)
 list_codes plan seed ballot race fine within =
     let differ : CodesDiffer plan seed race (ballot_row plan race ballot) = code_laws.differ plan seed race (ballot_row plan race ballot) fine within in
     λ k d below.
     let inside : k < candidates_of plan race = omega (arith, below, differ.many) in
     subst (λ (code : ℕ). code < codes_of plan.version)
-    (sym (at_is (list_of plan seed ballot race) k d (code_beside plan seed race (ballot_row plan race ballot) k) (differ.listed k inside)))
+    (sym (get_or_from_slice_get (list_of plan seed ballot race) k (code_beside plan seed race (ballot_row plan race ballot) k) d (differ.listed k inside)))
     (differ.below k inside)
 
 pub list_many : (plan : Plan) (seed : List ℕ) (ballot race : ℕ) → fault_of plan ≡ None → race < length plan.races → length (list_of plan seed ballot race) ≡ candidates_of plan race

@@ -1,19 +1,14 @@
 -- The ballots of a sample: each has both races.
-use Rattle.std.proofs.Common.{◌≡◌, ◌≢◌, ℕ, zero, suc, ◌-◌, ◌<◌, ◌≤◌, true, false, List, [], ◌∷◌, ◌++◌, replicate, slice_get, Some, refl, ap, ◌∙◌, arith}
+use Rattle.std.proofs.Common.{◌≡◌, ◌≢◌, ℕ, ◌-◌, ◌<◌, ◌≤◌, true, false, List, [], ◌∷◌, ◌++◌, replicate, slice_get, Some, refl, ap, ◌∙◌, arith}
 use Rattle.std.specs.Option.{option_map_or}
 use Rattle.std.proofs.lemmas.Bool.{ne_eqb}
 use Rattle.std.proofs.lemmas.List.{append-nil}
 use Rattle.sg_plan.specs.Ballots.{ballot_has, candidates_of, races_of_ballot, races_of_style, style_has, style_of_ballot}
 use Rattle.sg_sample.specs.SampleRun.{sample_plan}
-
--- each of so many equal items
-same_items : (x n k : ℕ) → k < n → slice_get (replicate n x) k ≡ Some x
-same_items x zero k within = absurd (omega (arith, within))
-same_items x (suc n) zero within = refl
-same_items x (suc n) (suc k) within = same_items x n k (omega (arith, within))
+use Rattle.sg_facts.proofs.Tabling.{fill_get}
 
 item_at : (x n k : ℕ) → k < n → slice_get (replicate n x ++ []) k ≡ Some x
-item_at x n k within = ap (λ (l : List ℕ). slice_get l k) (append-nil (replicate n x)) ∙ same_items x n k within
+item_at x n k within = ap (λ (l : List ℕ). slice_get l k) (append-nil (replicate n x)) ∙ fill_get x n k within
 
 pub style_is : (ballots ballot : ℕ) → 1 ≤ ballot → ballot ≤ ballots → style_of_ballot (sample_plan ballots) ballot ≡ Some 0
 unfolding sample_plan

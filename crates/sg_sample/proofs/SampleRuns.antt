@@ -20,6 +20,7 @@ use Rattle.sg_streams.proofs.NumberLists.{length-numbers_below}
 use Rattle.sg_forms.specs.Said.{Said}
 use Rattle.sg_forms.specs.Said.Said.{Seal}
 use Rattle.sg_forms.specs.Spelling.{spelling}
+use Rattle.sg_record.proofs.Putting.{text-append}
 use Rattle.sg_record.specs.Lines.{block_lines, commit_lines, draw_line, indexed, lines_in, plan_lines, race_row_lines, result_lines}
 use Rattle.sg_record.specs.Writing.{text_in}
 use Rattle.sg_record.specs.declared.record.Record.{Record}
@@ -122,11 +123,6 @@ fates_few number ballots few =
 
 -- THE LAST LINE
 
-text_append : (version : ℕ) (a b : List Said) → text_in version (a ++ b) ≡ text_in version a ++ text_in version b
-text_append version [] b = refl
-text_append version (x ∷ a) b =
-    ap (λ (l : List ℕ). spelling version x ++ l) (text_append version a b) ∙ sym (append_assoc (spelling version x) (text_in version a) (text_in version b))
-
 last_behind : (head commits blocks results rows : List Said) (draws seal : Said)
     → head ++ (commits ++ (blocks ++ (results ++ ((draws ∷ (rows ++ seal ∷ [])) ++ [])))) ≡ (head ++ (commits ++ (blocks ++ (results ++ (draws ∷ rows))))) ++ seal ∷ []
 last_behind head commits blocks results rows draws seal = simp (append_assoc, append-nil)
@@ -162,7 +158,7 @@ text_is plan seed story draw stage_is none =
     = ap (λ (c : List Claimed). lines_at plan seed story.fates c story.stage) none
     ∙ (ap (λ (s : Stage). lines_at plan seed story.fates [] s) stage_is ∙ record_lines plan seed story.fates draw) in
     ap (text_in plan.version) lines
-    ∙ (text_append plan.version front (seal ∷ []) ∙ ap (λ (l : List ℕ). text_in plan.version front ++ l) (append-nil (spelling plan.version seal)))
+    ∙ (text-append plan.version front (seal ∷ []) ∙ ap (λ (l : List ℕ). text_in plan.version front ++ l) (append-nil (spelling plan.version seal)))
 
 text_ends : (plan : Plan) (seed : List ℕ) (story : Story) (draw : Draw) → story.stage ≡ stage.Drawn draw → story.claims ≡ [] → EndsWith (posted_text plan seed story) (seal_3 plan seed story.fates draw)
 text_ends plan seed story draw stage_is none = record {

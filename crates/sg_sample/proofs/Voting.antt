@@ -1,5 +1,6 @@
 -- What an office of a sample stands for in the midst of its acts, and that each of them is accepted.
-use Rattle.std.proofs.Common.{◌≡◌, ℕ, zero, suc, ◌<◌, ◌≤◌, ◌^◌, ◌==◌, Bool, true, false, ◌&&◌, List, [], ◌∷◌, length, Option, Some, None, refl, sym, subst, ap, ◌∙◌, arith}
+use Rattle.std.proofs.Common.{◌≡◌, ℕ, zero, suc, ◌<◌, ◌≤◌, ◌^◌, ◌==◌, true, false, List, [], ◌∷◌, length, Option, Some, None, refl, sym, subst, ap, ◌∙◌, arith}
+use Rattle.std.proofs.lemmas.Bool.{and_right}
 use Rattle.std.specs.Option.{option_map_or}
 use Rattle.std.specs.Prelude.{All}
 use Rattle.std.proofs.lemmas.Bool.Decides.{nat_tests}
@@ -36,11 +37,7 @@ more_below number [] below = tt
 more_below number (entry ∷ history) below = (omega (arith, below.0), more_below number history below.1)
 
 not_stamped : (number : ℕ) (entry : Entry) → entry.number < number → is_stamped 0 number entry ≡ false
-not_stamped number entry h = and_no (entry.station == 0) (entry.number == number) (grind (arith, nat_tests, h))
-  where
-    and_no : (a b : Bool) → b ≡ false → (a && b) ≡ false
-    and_no true b e = e
-    and_no false b e = refl
+not_stamped number entry h = and_right (entry.station == 0) (entry.number == number) (grind (arith, nat_tests, h))
 
 new_number : (setup : Setup) (number : ℕ) (done : Act) (history : List Entry) → AreBelow number history → repeat_of setup history (stamp_of number) done ≡ None
 new_number setup number done [] below = refl

@@ -1,6 +1,6 @@
 -- How a scan is answered that comes again after another scan.
-use Rattle.std.proofs.Common.{◌≡◌, ◌≢◌, ℕ, ◌==◌, nat_lt, Bool, true, false, ◌&&◌, not, if◌then◌else◌, List, [], ◌∷◌, bytes_eq, Option, Some, None, is_none, refl, ap, sym, ◌∙◌, arith, subst}
-use Rattle.std.proofs.lemmas.Bool.Decides.{nat_tests}
+use Rattle.std.proofs.Common.{◌≡◌, ◌≢◌, ℕ, ◌==◌, nat_lt, Bool, true, false, not, if◌then◌else◌, List, [], ◌∷◌, bytes_eq, Option, Some, None, is_none, refl, ap, sym, ◌∙◌, subst}
+use Rattle.std.proofs.lemmas.Bool.{and_parts, eq-eqb, eqb-true}
 use Rattle.std.specs.Option.{option_map, unwrap_or}
 use Rattle.std.proofs.lemmas.Slice.Eq.{bytes_eq-Decides}
 use Rattle.sg_plan.specs.Ballots.{ballot_has, candidates_of}
@@ -123,25 +123,11 @@ taken setup (entry ∷ history) a b x y station number e = by_stamp (is_stamped 
         let none : repeat_of setup history a x ≡ None = rw t at e in
         rw mine (ih none)
 
-pub and_left : (a b : Bool) → (a && b) ≡ true → a ≡ true
-and_left true b e = refl
-and_left false b e = cc e
-
-pub and_right : (a b : Bool) → (a && b) ≡ true → b ≡ true
-and_right true b e = e
-and_right false b e = cc e
-
-pub same_number : (a b : ℕ) → (a == b) ≡ true → a ≡ b
-same_number a b e = grind (arith, nat_tests, e)
-
 pub same_bytes : (a b : List ℕ) → bytes_eq a b ≡ true → a ≡ b
 same_bytes a b e = (bytes_eq-Decides a b).0 e
 
 own_bytes : (a : List ℕ) → bytes_eq a a ≡ true
 own_bytes a = (bytes_eq-Decides a a).1 refl
-
-own_number : (a : ℕ) → (a == a) ≡ true
-own_number a = grind (arith, nat_tests)
 
 -- a reply that was early stays, or stays refused
 goes_on : (secret : Bool) (again refusal later refusal_later : Option Reply) (said : Reply) → early_is secret again refusal ≡ Some said
@@ -178,8 +164,8 @@ after_new setup history scan other small small_other p said e =
         → (x : Reply) → repeat_of setup history scan.stamp (scan_act scan) ≡ Some x → repeat_of setup (entry_of other.stamp (scan_act other) ∷ history) scan.stamp (scan_act scan) ≡ Some x
     keep_by false t x h = rw t h
     keep_by true t x h =
-        let station : other.stamp.station ≡ scan.stamp.station = same_number _ _ (and_left _ _ t) in
-        let number : other.stamp.number ≡ scan.stamp.number = same_number _ _ (and_right (other.stamp.station == scan.stamp.station) _ t) in
+        let station : other.stamp.station ≡ scan.stamp.station = eqb-true _ _ (and_parts _ _ t).0 in
+        let number : other.stamp.number ≡ scan.stamp.number = eqb-true _ _ (and_parts (other.stamp.station == scan.stamp.station) _ t).1 in
         let none : repeat_of setup history scan.stamp (scan_act scan) ≡ None = taken setup history other.stamp scan.stamp (scan_act other) (scan_act scan) station number p.new in
         cc (sym none ∙ h)
 
@@ -219,8 +205,8 @@ again setup history scan other small small_other said e = by_accepts (accepts se
 done_again : (setup : Setup) (history : List Entry) (scan : Scan) → knows_secret_of setup.secrets scan.stamp ≡ true
     → early_reply setup (entry_of scan.stamp (scan_act scan) ∷ history) scan.stamp (scan_act scan) ≡ Some (reply.Done (body_of setup history (scan_act scan)))
 done_again setup history scan secret =
-    let one : (scan.stamp.station == scan.stamp.station) ≡ true = own_number scan.stamp.station in
-    let two : (scan.stamp.number == scan.stamp.number) ≡ true = own_number scan.stamp.number in
+    let one : (scan.stamp.station == scan.stamp.station) ≡ true = eq-eqb scan.stamp.station scan.stamp.station refl in
+    let two : (scan.stamp.number == scan.stamp.number) ≡ true = eq-eqb scan.stamp.number scan.stamp.number refl in
     let three : same_act setup (scan_act scan) (scan_act scan) ≡ true = own_bytes (act_text setup.plan.version (scan_act scan)) in
     rw (secret, one, two, three) refl
 

@@ -32,7 +32,9 @@ pub fn serve<L: Links, K: Keeper, O: Sink>(
     match open_kept(alloc, keeper) {
         Ok(office) => {
             let mut office = office;
-            ending_status(serve_calls(alloc, port, count, links, keeper, &mut office, out))
+            let ending = serve_calls(alloc, port, count, links, keeper, &mut office, out);
+            drop(office);
+            ending_status(ending)
         }
         Err(why) => shown_status(show_closed(alloc, why, out)),
     }

@@ -1,6 +1,7 @@
 -- Each station has a number left: a lawful history is short.
 use Rattle.std.proofs.Common.{◌≡◌, ℕ, zero, suc, ◌+◌, ◌<◌, ◌≤◌, ◌==◌, ◌^◌, Bool, true, false, ◌&&◌, cond, List, [], ◌∷◌, length, Option, Some, None, refl, ap, sym, ◌∙◌, arith, subst, if◌then◌else◌}
-use Rattle.std.proofs.lemmas.Bool.{and_parts, leb-true}
+use Rattle.std.proofs.Math.Bool.{and-false}
+use Rattle.std.proofs.lemmas.Bool.{and_parts, eqb-true, leb-true}
 use Rattle.std.proofs.lemmas.Bool.Decides.{nat_tests}
 use Rattle.std.proofs.lemmas.List.{length-append}
 use Rattle.std.specs.Prelude.{nat_le}
@@ -54,9 +55,6 @@ few_in fates (suc count) = let here = few_acts (fates (suc count)) in let rest =
 abbrev pub moved : (ℕ → Fate) → ℕ → Fate → ℕ → Fate
 moved fates ballot new other = (if ballot == other then new else fates other)
 
-same : (a b : ℕ) → (a == b) ≡ true → a ≡ b
-same a b e = grind (arith, nat_tests, e)
-
 -- one ballot's act more is at least as many of all
 no_fewer : (fates : ℕ → Fate) (ballot : ℕ) (new : Fate) (count : ℕ) → acts_of (fates ballot) < acts_of new → acts_in fates count ≤ acts_in (moved fates ballot new) count
 no_fewer fates ballot new zero more = omega arith
@@ -65,7 +63,7 @@ no_fewer fates ballot new (suc count) more = by_test (ballot == suc count) refl 
     by_test : (t : Bool) → (ballot == suc count) ≡ t → acts_in fates count ≤ acts_in (moved fates ballot new) count
         → acts_of (fates (suc count)) + acts_in fates count ≤ acts_of (if t then new else fates (suc count)) + acts_in (moved fates ballot new) count
     by_test true e rest =
-        let here : acts_of (fates (suc count)) < acts_of new = subst (λ (n : ℕ). acts_of (fates n) < acts_of new) (same ballot (suc count) e) more in
+        let here : acts_of (fates (suc count)) < acts_of new = subst (λ (n : ℕ). acts_of (fates n) < acts_of new) (eqb-true ballot (suc count) e) more in
         omega (arith, here, rest)
     by_test false e rest = omega (arith, rest)
 
@@ -80,7 +78,7 @@ one_more fates ballot new (suc count) more first last = by_test (ballot == suc c
     by_test : (t : Bool) → (ballot == suc count) ≡ t → acts_in fates count ≤ acts_in (moved fates ballot new) count → (ballot ≤ count → acts_in fates count < acts_in (moved fates ballot new) count)
         → acts_of (fates (suc count)) + acts_in fates count < acts_of (if t then new else fates (suc count)) + acts_in (moved fates ballot new) count
     by_test true e rest less =
-        let here : acts_of (fates (suc count)) < acts_of new = subst (λ (n : ℕ). acts_of (fates n) < acts_of new) (same ballot (suc count) e) more in
+        let here : acts_of (fates (suc count)) < acts_of new = subst (λ (n : ℕ). acts_of (fates n) < acts_of new) (eqb-true ballot (suc count) e) more in
         omega (arith, here, rest)
     by_test false e rest less = let later = less (within ballot count last e) in omega (arith, later)
 
@@ -193,10 +191,6 @@ still_unused number other station (entry ∷ history) less e = by_test (entry.nu
     apart : (a b c : ℕ) → c < b → (a == b) ≡ true → (a == c) ≡ false
     apart a b c l k = grind (arith, nat_tests, l, k)
 
-    never : (s : Bool) → (s && false) ≡ false
-    never true = refl
-    never false = refl
-
     here : {A : Type 0} (t : Bool) (x : A) (o o' : Option A) → (o ≡ None → o' ≡ None) → (if t then Some x else o) ≡ None → (if t then Some x else o') ≡ None
     here true x o o' rest k = cc
     here false x o o' rest k = rest k
@@ -205,7 +199,7 @@ still_unused number other station (entry ∷ history) less e = by_test (entry.nu
         → (act_of_stamp (without number history) station other ≡ None → act_of_stamp history station other ≡ None)
         → act_of_stamp (entry ∷ history) station other ≡ None
     by_test true is k rest =
-        let passed_by : is_stamped station other entry ≡ false = ap (λ b. entry.station == station && b) (apart entry.number number other less is) ∙ never (entry.station == station) in
+        let passed_by : is_stamped station other entry ≡ false = ap (λ b. entry.station == station && b) (apart entry.number number other less is) ∙ and-false (entry.station == station) in
         ap (λ b. cond b (Some entry.act) (act_of_stamp history station other)) passed_by ∙ rest k
     by_test false is k rest = here (is_stamped station other entry) entry.act (act_of_stamp (without number history) station other) (act_of_stamp history station other) rest k
 

@@ -1,7 +1,7 @@
 -- The story of an unaltered history is that of an unaltered run.
 use Rattle.std.proofs.Common.{◌≡◌, ℕ, zero, suc, ◌+◌, ◌<◌, ◌≤◌, ◌==◌, nat_le, nat_lt, Bool, true, false, ◌&&◌, not, cond, List, [], ◌∷◌, map, filter, if◌then◌else◌, refl, ap, sym, ◌∙◌, arith, subst}
 use Rattle.std.specs.List.{All, list_all, range_with_len}
-use Rattle.std.proofs.lemmas.Bool.{and_parts, leb-true}
+use Rattle.std.proofs.lemmas.Bool.{and_parts, eqb-true, leb-true}
 use Rattle.std.proofs.lemmas.Bool.Decides.{nat_tests}
 use Rattle.std.proofs.lemmas.List.Elements.{All-cons, All-head, All-nil, All-tail}
 use Rattle.sg_plan.specs.Ballots.{ballot_has, ballot_row, ballots_of}
@@ -41,11 +41,8 @@ true_moves : (setup : Setup) (b ballot : ℕ) (new before : Fate) → IsTrueFate
     → IsTrueFate setup.plan setup.seed.0 ballot (if b == ballot then new else before)
 true_moves setup b ballot new before good old = by_test (b == ballot) refl
   where
-    same : (a c : ℕ) → (a == c) ≡ true → a ≡ c
-    same a c e = grind (arith, nat_tests, e)
-
     by_test : (t : Bool) → (b == ballot) ≡ t → IsTrueFate setup.plan setup.seed.0 ballot (if t then new else before)
-    by_test true k = subst (λ (n : ℕ). IsTrueFate setup.plan setup.seed.0 n new) (same b ballot k) good
+    by_test true k = subst (λ (n : ℕ). IsTrueFate setup.plan setup.seed.0 n new) (eqb-true b ballot k) good
     by_test false k = old
 
 true_after : (setup : Setup) (ballot : ℕ) (done : Act) (before : Fate) → HasTruePaper setup done → IsTrueFate setup.plan setup.seed.0 ballot before → IsTrueFate setup.plan setup.seed.0 ballot (fate_after ballot done before)
@@ -109,15 +106,12 @@ told_is fates (suc count) first ballot low high =
     rest : List Told
     rest = told_in fates (first + 1) count
 
-    same : (a c : ℕ) → (a == c) ≡ true → a ≡ c
-    same a c e = grind (arith, nat_tests, e)
-
     behind : (a c : ℕ) → a < c → (a + 1 == c) ≡ false → a + 1 < c
     behind a c l e = grind (arith, nat_tests, l, e)
 
     is_here : (t : Bool) → (first + 1 == ballot) ≡ true → is_unused_fate (fates (first + 1)) ≡ t
         → accepted.fate_of (if not t then told_of fates (first + 1) ∷ rest else rest) ballot ≡ fates (first + 1)
-    is_here true k u = told_before fates count (first + 1) ballot (let s = same (first + 1) ballot k in omega (arith, s)) ∙ sym (unused_is (fates (first + 1)) u)
+    is_here true k u = told_before fates count (first + 1) ballot (let s = eqb-true (first + 1) ballot k in omega (arith, s)) ∙ sym (unused_is (fates (first + 1)) u)
     is_here false k u = ap (λ b. cond b (fates (first + 1)) (accepted.fate_of rest ballot)) k
 
     is_later : (t : Bool) → (first + 1 == ballot) ≡ false → accepted.fate_of rest ballot ≡ fates ballot
@@ -127,7 +121,7 @@ told_is fates (suc count) first ballot low high =
 
     by_ballot : (b : Bool) → (first + 1 == ballot) ≡ b → ((first + 1 == ballot) ≡ false → accepted.fate_of rest ballot ≡ fates ballot)
         → accepted.fate_of (told_in fates first (suc count)) ballot ≡ fates ballot
-    by_ballot true k ih = is_here (is_unused_fate (fates (first + 1))) k refl ∙ ap fates (same (first + 1) ballot k)
+    by_ballot true k ih = is_here (is_unused_fate (fates (first + 1))) k refl ∙ ap fates (eqb-true (first + 1) ballot k)
     by_ballot false k ih = is_later (is_unused_fate (fates (first + 1))) k (ih k)
 
 told_of_plan : (plan : Plan) (fates : ℕ → Fate) (ballot : ℕ) → is_ballot plan ballot ≡ true → accepted.fate_of (told_fates plan fates) ballot ≡ fates ballot

@@ -16,6 +16,8 @@ use Rattle.sg_facts.specs.Listed.{digest_on}
 use Rattle.sg_parts.specs.Faults.{IsFirstWrong}
 use Rattle.sg_parts.specs.Given.{completion_of, printing_of}
 use Rattle.sg_parts.specs.declared.checks.At.{At}
+use Rattle.sg_parts.specs.declared.checks.Test.{Test}
+use Rattle.sg_parts.specs.declared.checks.Test.TheVariants as asked
 use Rattle.sg_parts.specs.declared.parts.RowGiven.{RowGiven}
 
 -- THE FIRST ROW THAT FAILS
@@ -78,3 +80,9 @@ row_keeps posted rows race instance row = half_keeps posted rows side.Left race 
 
 abbrev pub row_right : Record → List (List (List RowGiven)) → ℕ → ℕ → ℕ → Bool
 row_right posted rows race instance row = row_opens posted rows race instance row && row_keeps posted rows race instance row
+
+-- A ROW PASSES A TEST
+
+abbrev pub passes : Record → Test → ℕ → ℕ → ℕ → Bool
+passes posted (asked.Stands known lists) = row_stands posted known.now lists.now
+passes posted (asked.Right rows) = row_right posted rows.now

@@ -4,33 +4,16 @@ use Rattle.sg_outside.specs.Streams.{Seen, seen}
 use Rattle.sg_clerk.proofs.Grown.{same_grows}
 use Rattle.sg_words.specs.Command.{command_in}
 use Rattle.sg_words.specs.declared.command.Command.TheVariants as command
-use Rattle.sg_app.specs.Outside.{Outside}
 use Rattle.sg_app.proofs.Completing.{says_complete}
 use Rattle.sg_app.proofs.Growing.{command_grows}
 use Rattle.sg_app.proofs.Headlines.{audit_headline}
-use Rattle.sg_app.proofs.Obeyed.{memory_says, says_for}
+use Rattle.sg_app.proofs.Obeyed.{memory_says, outside, says_for}
 use Rattle.sg_app.proofs.program.run.Goals as goal
 
 pub returns-in-Ok-Some-clause-headline : goal.returns-in-Ok-Some-clause-headline
 returns-in-Ok-Some-clause-headline g c =
-    let before : Outside = record {
-      left = g.S.Source.left c.args.input.now;
-      board = g.L.Links.board c.args.links.now;
-      written = g.O.Sink.written c.args.out.now;
-      read_faults = g.S.Source.faults c.args.input.now;
-      link_faults = g.L.Links.faults c.args.links.now;
-      write_faults = g.O.Sink.faults c.args.out.now;
-      keep_faults = g.K.Keeper.faults c.args.keeper.now;
-    } in
-    let now : Outside = record {
-      left = g.S.Source.left c.obey.new.input;
-      board = g.L.Links.board c.obey.new.links;
-      written = g.O.Sink.written c.obey.new.out;
-      read_faults = g.S.Source.faults c.obey.new.input;
-      link_faults = g.L.Links.faults c.obey.new.links;
-      write_faults = g.O.Sink.faults c.obey.new.out;
-      keep_faults = g.K.Keeper.faults c.obey.new.keeper;
-    } in
+    let before = outside (g.S.Source.left c.args.input.now) (g.L.Links.board c.args.links.now) (g.O.Sink.written c.args.out.now) (g.S.Source.faults c.args.input.now) (g.L.Links.faults c.args.links.now) (g.O.Sink.faults c.args.out.now) (g.K.Keeper.faults c.args.keeper.now) in
+    let now = outside (g.S.Source.left c.obey.new.input) (g.L.Links.board c.obey.new.links) (g.O.Sink.written c.obey.new.out) (g.S.Source.faults c.obey.new.input) (g.L.Links.faults c.obey.new.links) (g.O.Sink.faults c.obey.new.out) (g.K.Keeper.faults c.obey.new.keeper) in
     let here : Some c.in-Ok-Some.command ≡ command_in c.args.words.now = cc (c.in-Ok-Some.field-0-is, c.in-Ok-Some.ensures.is) in
     let input : Seen = seen (g.S.Source.left c.args.input.now) (g.S.Source.faults c.args.input.now) in
     let input' : Seen = seen (g.S.Source.left c.obey.new.input) (g.S.Source.faults c.obey.new.input) in
@@ -42,24 +25,8 @@ returns-in-Ok-Some-clause-headline g c =
 
 pub returns-in-Ok-Some-clause-complete : goal.returns-in-Ok-Some-clause-complete
 returns-in-Ok-Some-clause-complete g c =
-    let before : Outside = record {
-      left = g.S.Source.left c.args.input.now;
-      board = g.L.Links.board c.args.links.now;
-      written = g.O.Sink.written c.args.out.now;
-      read_faults = g.S.Source.faults c.args.input.now;
-      link_faults = g.L.Links.faults c.args.links.now;
-      write_faults = g.O.Sink.faults c.args.out.now;
-      keep_faults = g.K.Keeper.faults c.args.keeper.now;
-    } in
-    let now : Outside = record {
-      left = g.S.Source.left c.obey.new.input;
-      board = g.L.Links.board c.obey.new.links;
-      written = g.O.Sink.written c.obey.new.out;
-      read_faults = g.S.Source.faults c.obey.new.input;
-      link_faults = g.L.Links.faults c.obey.new.links;
-      write_faults = g.O.Sink.faults c.obey.new.out;
-      keep_faults = g.K.Keeper.faults c.obey.new.keeper;
-    } in
+    let before = outside (g.S.Source.left c.args.input.now) (g.L.Links.board c.args.links.now) (g.O.Sink.written c.args.out.now) (g.S.Source.faults c.args.input.now) (g.L.Links.faults c.args.links.now) (g.O.Sink.faults c.args.out.now) (g.K.Keeper.faults c.args.keeper.now) in
+    let now = outside (g.S.Source.left c.obey.new.input) (g.L.Links.board c.obey.new.links) (g.O.Sink.written c.obey.new.out) (g.S.Source.faults c.obey.new.input) (g.L.Links.faults c.obey.new.links) (g.O.Sink.faults c.obey.new.out) (g.K.Keeper.faults c.obey.new.keeper) in
     let here : Some c.in-Ok-Some.command ≡ command_in c.args.words.now = cc (c.in-Ok-Some.field-0-is, c.in-Ok-Some.ensures.is) in
     λ other asked. says_complete other c.obey.result (g.K.Keeper.tells c.args.keeper.now) (g.K.Keeper.rows c.args.keeper.now) (g.K.Keeper.rows c.obey.new.keeper) before now
     (says_for c.in-Ok-Some.command other (command_in c.args.words.now) c.obey.result (g.K.Keeper.tells c.args.keeper.now) (g.K.Keeper.rows c.args.keeper.now) (g.K.Keeper.rows c.obey.new.keeper)
@@ -67,61 +34,21 @@ returns-in-Ok-Some-clause-complete g c =
 
 pub returns-in-Ok-Some-clause-says : goal.returns-in-Ok-Some-clause-says
 returns-in-Ok-Some-clause-says g c =
-    let before : Outside = record {
-      left = g.S.Source.left c.args.input.now;
-      board = g.L.Links.board c.args.links.now;
-      written = g.O.Sink.written c.args.out.now;
-      read_faults = g.S.Source.faults c.args.input.now;
-      link_faults = g.L.Links.faults c.args.links.now;
-      write_faults = g.O.Sink.faults c.args.out.now;
-      keep_faults = g.K.Keeper.faults c.args.keeper.now;
-    } in
-    let now : Outside = record {
-      left = g.S.Source.left c.obey.new.input;
-      board = g.L.Links.board c.obey.new.links;
-      written = g.O.Sink.written c.obey.new.out;
-      read_faults = g.S.Source.faults c.obey.new.input;
-      link_faults = g.L.Links.faults c.obey.new.links;
-      write_faults = g.O.Sink.faults c.obey.new.out;
-      keep_faults = g.K.Keeper.faults c.obey.new.keeper;
-    } in
+    let before = outside (g.S.Source.left c.args.input.now) (g.L.Links.board c.args.links.now) (g.O.Sink.written c.args.out.now) (g.S.Source.faults c.args.input.now) (g.L.Links.faults c.args.links.now) (g.O.Sink.faults c.args.out.now) (g.K.Keeper.faults c.args.keeper.now) in
+    let now = outside (g.S.Source.left c.obey.new.input) (g.L.Links.board c.obey.new.links) (g.O.Sink.written c.obey.new.out) (g.S.Source.faults c.obey.new.input) (g.L.Links.faults c.obey.new.links) (g.O.Sink.faults c.obey.new.out) (g.K.Keeper.faults c.obey.new.keeper) in
     let here : Some c.in-Ok-Some.command ≡ command_in c.args.words.now = cc (c.in-Ok-Some.field-0-is, c.in-Ok-Some.ensures.is) in
     λ other asked. says_for c.in-Ok-Some.command other (command_in c.args.words.now) c.obey.result (g.K.Keeper.tells c.args.keeper.now) (g.K.Keeper.rows c.args.keeper.now) (g.K.Keeper.rows c.obey.new.keeper)
     before now here asked c.obey.ensures.says
 
 pub returns-in-Err-clause-says : goal.returns-in-Err-clause-says
 returns-in-Err-clause-says g c =
-    let now : Outside = record {
-      left = g.S.Source.left c.args.input.now;
-      board = g.L.Links.board c.args.links.now;
-      written = g.O.Sink.written c.args.out.now;
-      read_faults = g.S.Source.faults c.args.input.now;
-      link_faults = g.L.Links.faults c.args.links.now;
-      write_faults = g.O.Sink.faults c.args.out.now;
-      keep_faults = g.K.Keeper.faults c.args.keeper.now;
-    } in
+    let now = outside (g.S.Source.left c.args.input.now) (g.L.Links.board c.args.links.now) (g.O.Sink.written c.args.out.now) (g.S.Source.faults c.args.input.now) (g.L.Links.faults c.args.links.now) (g.O.Sink.faults c.args.out.now) (g.K.Keeper.faults c.args.keeper.now) in
     λ asked is. memory_says asked (g.K.Keeper.tells c.args.keeper.now) (g.K.Keeper.rows c.args.keeper.now) now
 
 pub returns-in-Ok-Some-clause-grows : goal.returns-in-Ok-Some-clause-grows
 returns-in-Ok-Some-clause-grows g c =
-    let before : Outside = record {
-      left = g.S.Source.left c.args.input.now;
-      board = g.L.Links.board c.args.links.now;
-      written = g.O.Sink.written c.args.out.now;
-      read_faults = g.S.Source.faults c.args.input.now;
-      link_faults = g.L.Links.faults c.args.links.now;
-      write_faults = g.O.Sink.faults c.args.out.now;
-      keep_faults = g.K.Keeper.faults c.args.keeper.now;
-    } in
-    let now : Outside = record {
-      left = g.S.Source.left c.obey.new.input;
-      board = g.L.Links.board c.obey.new.links;
-      written = g.O.Sink.written c.obey.new.out;
-      read_faults = g.S.Source.faults c.obey.new.input;
-      link_faults = g.L.Links.faults c.obey.new.links;
-      write_faults = g.O.Sink.faults c.obey.new.out;
-      keep_faults = g.K.Keeper.faults c.obey.new.keeper;
-    } in
+    let before = outside (g.S.Source.left c.args.input.now) (g.L.Links.board c.args.links.now) (g.O.Sink.written c.args.out.now) (g.S.Source.faults c.args.input.now) (g.L.Links.faults c.args.links.now) (g.O.Sink.faults c.args.out.now) (g.K.Keeper.faults c.args.keeper.now) in
+    let now = outside (g.S.Source.left c.obey.new.input) (g.L.Links.board c.obey.new.links) (g.O.Sink.written c.obey.new.out) (g.S.Source.faults c.obey.new.input) (g.L.Links.faults c.obey.new.links) (g.O.Sink.faults c.obey.new.out) (g.K.Keeper.faults c.obey.new.keeper) in
     command_grows c.in-Ok-Some.command c.obey.result (g.K.Keeper.tells c.args.keeper.now) (g.K.Keeper.rows c.args.keeper.now) (g.K.Keeper.rows c.obey.new.keeper) before now
     c.obey.ensures.says (λ unasked. ap g.K.Keeper.rows (c.obey.ensures.unkept unasked)) c.obey.ensures.same
 

@@ -16,16 +16,16 @@ returns-in-Ok-clause-says g c =
       keep_faults = g.K.Keeper.faults c.args.keeper.now;
     } in
     let now : Moment = record {
-      left = g.S.Source.left c.do_scans.new.input;
-      written = g.O.Sink.written c.do_scans.new.out;
-      read_faults = g.S.Source.faults c.do_scans.new.input;
-      write_faults = g.O.Sink.faults c.do_scans.new.out;
-      keep_faults = g.K.Keeper.faults c.do_scans.new.keeper;
+      left = g.S.Source.left c.do_scans-ending.new.input;
+      written = g.O.Sink.written c.do_scans-ending.new.out;
+      read_faults = g.S.Source.faults c.do_scans-ending.new.input;
+      write_faults = g.O.Sink.faults c.do_scans-ending.new.out;
+      keep_faults = g.K.Keeper.faults c.do_scans-ending.new.keeper;
     } in
     rw c.ending_status.ensures
-    (inl (office_talks ScanTalk stores_of (ScansEnd before now) c.do_scans.result c.in-Ok.office (g.K.Keeper.tells c.args.keeper.now) (g.K.Keeper.tells c.open_kept.new.keeper)
-    (g.K.Keeper.rows c.args.keeper.now) (g.K.Keeper.rows c.open_kept.new.keeper) (g.K.Keeper.rows c.do_scans.new.keeper) before.keep_faults (g.K.Keeper.faults c.open_kept.new.keeper) now.keep_faults
-    c.in-Ok.ensures.starts c.in-Ok.ensures.opens c.in-Ok.ensures.told c.in-Ok.ensures.same c.in-Ok.ensures.later c.do_scans.ensures.does))
+    (inl (office_talks ScanTalk stores_of (ScansEnd before now) c.do_scans-ending.result c.in-Ok.office (g.K.Keeper.tells c.args.keeper.now) (g.K.Keeper.tells c.open_kept.new.keeper)
+    (g.K.Keeper.rows c.args.keeper.now) (g.K.Keeper.rows c.open_kept.new.keeper) (g.K.Keeper.rows c.do_scans-ending.new.keeper) before.keep_faults (g.K.Keeper.faults c.open_kept.new.keeper) now.keep_faults
+    c.in-Ok.ensures.starts c.in-Ok.ensures.opens c.in-Ok.ensures.told c.in-Ok.ensures.same c.in-Ok.ensures.later c.do_scans-ending.ensures.does))
 
 pub returns-in-Err-clause-says : goal.returns-in-Err-clause-says
 returns-in-Err-clause-says g c =

@@ -17,16 +17,16 @@ returns-in-Ok-clause-says g c =
       keep_faults = g.K.Keeper.faults c.args.keeper.now;
     } in
     let now : Moment = record {
-      left = g.S.Source.left c.do_lines.new.input;
-      written = g.O.Sink.written c.do_lines.new.out;
-      read_faults = g.S.Source.faults c.do_lines.new.input;
-      write_faults = g.O.Sink.faults c.do_lines.new.out;
-      keep_faults = g.K.Keeper.faults c.do_lines.new.keeper;
+      left = g.S.Source.left c.do_lines-ending.new.input;
+      written = g.O.Sink.written c.do_lines-ending.new.out;
+      read_faults = g.S.Source.faults c.do_lines-ending.new.input;
+      write_faults = g.O.Sink.faults c.do_lines-ending.new.out;
+      keep_faults = g.K.Keeper.faults c.do_lines-ending.new.keeper;
     } in
     rw c.ending_status.ensures
-    (inl (office_talks LineTalk stores_in (LinesEnd before now) c.do_lines.result c.in-Ok.office (g.K.Keeper.tells c.args.keeper.now) (g.K.Keeper.tells c.open_kept.new.keeper)
-    (g.K.Keeper.rows c.args.keeper.now) (g.K.Keeper.rows c.open_kept.new.keeper) (g.K.Keeper.rows c.do_lines.new.keeper) before.keep_faults (g.K.Keeper.faults c.open_kept.new.keeper) now.keep_faults
-    c.in-Ok.ensures.starts c.in-Ok.ensures.opens c.in-Ok.ensures.told c.in-Ok.ensures.same c.in-Ok.ensures.later c.do_lines.ensures.does))
+    (inl (office_talks LineTalk stores_in (LinesEnd before now) c.do_lines-ending.result c.in-Ok.office (g.K.Keeper.tells c.args.keeper.now) (g.K.Keeper.tells c.open_kept.new.keeper)
+    (g.K.Keeper.rows c.args.keeper.now) (g.K.Keeper.rows c.open_kept.new.keeper) (g.K.Keeper.rows c.do_lines-ending.new.keeper) before.keep_faults (g.K.Keeper.faults c.open_kept.new.keeper) now.keep_faults
+    c.in-Ok.ensures.starts c.in-Ok.ensures.opens c.in-Ok.ensures.told c.in-Ok.ensures.same c.in-Ok.ensures.later c.do_lines-ending.ensures.does))
 
 pub returns-in-Err-clause-says : goal.returns-in-Err-clause-says
 returns-in-Err-clause-says g c =

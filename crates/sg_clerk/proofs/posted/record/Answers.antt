@@ -6,10 +6,10 @@ use Rattle.sg_clerk.proofs.posted.record.Goals as goal
 
 pub returns-in-Ok-clause-ends : goal.returns-in-Ok-clause-ends
 returns-in-Ok-clause-ends g c =
-    office_shows posted_of c.write_story.result c.in-Ok.office (g.K.Keeper.tells c.args.keeper.now) (g.K.Keeper.rows c.args.keeper.now)
+    office_shows posted_of c.write_story-shown.result c.in-Ok.office (g.K.Keeper.tells c.args.keeper.now) (g.K.Keeper.rows c.args.keeper.now)
     (g.K.Keeper.faults c.args.keeper.now) (g.K.Keeper.faults c.open_kept.new.keeper)
-    (seen (g.O.Sink.written c.args.out.now) (g.O.Sink.faults c.args.out.now)) (seen (g.O.Sink.written c.write_story.new.out) (g.O.Sink.faults c.write_story.new.out))
-    c.in-Ok.ensures.opens c.write_story.ensures
+    (seen (g.O.Sink.written c.args.out.now) (g.O.Sink.faults c.args.out.now)) (seen (g.O.Sink.written c.write_story-shown.new.out) (g.O.Sink.faults c.write_story-shown.new.out))
+    c.in-Ok.ensures.opens c.write_story-shown.ensures
 
 pub returns-in-Err-clause-ends : goal.returns-in-Err-clause-ends
 returns-in-Err-clause-ends g c =

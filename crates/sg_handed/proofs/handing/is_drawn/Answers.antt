@@ -6,4 +6,4 @@ use Rattle.sg_handed.proofs.handing.is_drawn.Goals as goal
 pub returns : goal.returns
 returns c =
     let office = c.office_law.ensures in
-    stage_told c.args.office.now office.history c.in_ok-story.story office.stands (c.in_ok-story.ensures.story office.history office.stands) ∙ sym c.is_drawn_stage.ensures
+    stage_told c.args.office.now office.history c.in_ok-story.story office.stands (c.in_ok-story.ensures.story office.history office.stands) ∙ sym c.is_drawn_stage-drawn.ensures

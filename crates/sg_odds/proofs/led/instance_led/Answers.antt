@@ -4,10 +4,13 @@ use Rattle.std.specs.Option.{option_map_or}
 use Rattle.std.specs.Prelude.{is_some}
 use Rattle.sg_plan.proofs.PlanLaws.{bounds}
 use Rattle.sg_plan.specs.Ballots.{candidates_of, entries_of}
+use Rattle.sg_plan.specs.declared.plan.Side.{Side}
 use Rattle.sg_plan.specs.declared.plan.Side.TheVariants as side
 use Rattle.sg_record.specs.Places.{places_in}
 use Rattle.sg_facts.specs.Items.{item_in}
+use Rattle.sg_parts.proofs.Halves.{on_half}
 use Rattle.sg_parts.specs.Given.{completion_of}
+use Rattle.sg_parts.specs.declared.checks.At.{At}
 use Rattle.sg_recount.proofs.Facing.{mark_is}
 use Rattle.sg_odds.proofs.Leading.{pointers_once}
 use Rattle.sg_odds.proofs.Leads.{leads_few, leads_more, leads_start}
@@ -32,10 +35,14 @@ loop-row-preserved c =
     let less : c.loop-row.row < entries_of c.args.posted.now.plan c.args.race = omega (arith, c.loop-row-test.true, c.entries-row-end.ensures) in
     let below = (pointers_once c.args.posted.now.plan (completion_of c.args.rows.now) c.args.race c.args.instance c.requires.full side.Left).below c.loop-row.row less refl in
     let marks = mark_is c.args.posted.now c.args.marked.now c.requires.table c.args.race (half_of (completion_of c.args.rows.now) side.Left c.args.race c.args.instance c.loop-row.row).value c.requires.race below in
-    let code = c.marked_code.ensures ∙ ap (λ (n : ℕ). option_map_or (λ (code : Option ℕ). code) (item_in c.args.marked.now c.args.race n) None) c.pointer_of-left.ensures in
+    let at : At = record { race = c.args.race; instance = c.args.instance; row = c.loop-row.row } in
+    let pointer = λ (on : Side) (race instance row : ℕ). (half_of (completion_of c.args.rows.now) on race instance row).value in
+    let left_is = c.pointer_of-left.ensures ∙ on_half pointer c.on.result side.Left at c.on.ensures.side c.on.ensures.at in
+    let right_is = c.pointer_of-right.ensures ∙ on_half pointer c.on-in-loop-row.result side.Right at c.on-in-loop-row.ensures.side c.on-in-loop-row.ensures.at in
+    let code = c.entry_code.ensures ∙ ap (λ (n : ℕ). option_map_or (λ (code : Option ℕ). code) (item_in c.args.marked.now c.args.race n) None) left_is in
     leads_more c.args.posted.now.plan (places_in c.args.posted.now) (completion_of c.args.rows.now) c.args.race c.args.instance (candidates_of c.args.posted.now.plan c.args.race) c.loop-row.row
     (c.pointer_of-right.result % c.candidates-candidates.result) c.is_some-is_marked.result c.loop-row.counts c.note_row.new.counts c.loop-row.invariant
     (c.is_some-is_marked.ensures ∙ (ap (λ (o : Option ℕ). is_some o) code ∙ sym marks))
-    (ap (λ (n : ℕ). n % c.candidates-candidates.result) c.pointer_of-right.ensures
+    (ap (λ (n : ℕ). n % c.candidates-candidates.result) right_is
     ∙ ap (λ (n : ℕ). (half_of (completion_of c.args.rows.now) side.Right c.args.race c.args.instance c.loop-row.row).value % n) c.candidates-candidates.ensures)
     c.note_row.ensures.long c.note_row.ensures.puts

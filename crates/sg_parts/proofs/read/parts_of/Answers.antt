@@ -1,33 +1,14 @@
 -- All parts are read, or one of them isn't right.
-use Rattle.std.proofs.Common.{List, ℕ, subst, sym}
 use Rattle.sg_outside.specs.TextLines.{lines_of}
-use Rattle.sg_parts.proofs.Accepting.{good_plan}
-use Rattle.sg_parts.proofs.Wholes.{behind_begins, passed_on, rest_all, rest_err, stand_off}
-use Rattle.sg_parts.specs.Faults.{HasFault}
-use Rattle.sg_parts.specs.inside.Reading.{Begins, HasPrinting}
+use Rattle.sg_parts.proofs.Wholes.{rest_all, rest_err}
 use Rattle.sg_parts.proofs.read.parts_of.Goals as goal
-
-pub make-requires : goal.make-requires
-make-requires c = good_plan c.args.posted c.requires.of_record.accepted
-
-pub read_printing-requires-clause-begins : goal.read_printing-requires-clause-begins
-read_printing-requires-clause-begins c = subst Begins (sym c.requires.behind) (behind_begins (lines_of c.args.bytes.now))
-
-pub returns-in_err-check_standing-clause-err : goal.returns-in_err-check_standing-clause-err
-returns-in_err-check_standing-clause-err c =
-    let has = subst (λ (l : List (List ℕ)). HasPrinting c.args.posted.plan c.args.bytes.now l c.in_ok-lists.lists c.in_ok-lists.next c.in_ok-lists.count) c.requires.behind c.in_ok-lists.ensures.ok in
-    passed_on c.from_residual-in_err-check_standing.result c.in_err-check_standing.field-0.0 (HasFault (lines_of c.args.bytes.now)) c.from_residual-in_err-check_standing.ensures.1
-    (stand_off (lines_of c.args.bytes.now) c.args.posted c.requires.of_record c.args.before c.requires.before c.args.bytes.now c.in_ok-lists.lists c.in_ok-lists.next c.in_ok-lists.count has c.in_err-check_standing.field-0.0
-    c.in_err-check_standing.ensures.err)
 
 pub returns-clause-ok : goal.returns-clause-ok
 returns-clause-ok c =
-    let has = subst (λ (l : List (List ℕ)). HasPrinting c.args.posted.plan c.args.bytes.now l c.in_ok-lists.lists c.in_ok-lists.next c.in_ok-lists.count) c.requires.behind c.in_ok-lists.ensures.ok in
-    rest_all (lines_of c.args.bytes.now) c.args.posted c.requires.of_record c.args.before c.requires.before c.args.bytes.now c.in_ok-lists.lists c.in_ok-lists.next c.in_ok-lists.count has c.printed_parts.result
-    c.printed_parts.ensures.ok
+    rest_all (lines_of c.args.bytes.now) c.args.posted c.requires.of_record c.args.before c.requires.before c.args.bytes.now c.in_ok-lists.lists c.in_ok-lists.next c.in_ok-lists.count c.in_ok-lists.ensures.printed
+    c.printed_parts.result c.printed_parts.ensures.ok
 
 pub returns-clause-err : goal.returns-clause-err
 returns-clause-err c =
-    let has = subst (λ (l : List (List ℕ)). HasPrinting c.args.posted.plan c.args.bytes.now l c.in_ok-lists.lists c.in_ok-lists.next c.in_ok-lists.count) c.requires.behind c.in_ok-lists.ensures.ok in
-    rest_err (lines_of c.args.bytes.now) c.args.posted c.requires.of_record c.args.before c.requires.before c.args.bytes.now c.in_ok-lists.lists c.in_ok-lists.next c.in_ok-lists.count has c.in_ok-check_standing.ensures.ok
-    c.printed_parts.result c.printed_parts.ensures.err
+    rest_err (lines_of c.args.bytes.now) c.args.posted c.requires.of_record c.args.before c.requires.before c.args.bytes.now c.in_ok-lists.lists c.in_ok-lists.next c.in_ok-lists.count c.in_ok-lists.ensures.printed
+    c.in_ok-lists.ensures.stands c.printed_parts.result c.printed_parts.ensures.err

@@ -1,7 +1,8 @@
 -- One more instance is read, or a line of it is off.
 use Rattle.std.proofs.Common.{drop, arith}
+use Rattle.std.proofs.lemmas.Nat.{mul-le}
 use Rattle.sg_outside.specs.TextLines.{lines_of}
-use Rattle.sg_parts.proofs.RowLines.{instances_fault, instances_more, instances_start, product_few, stop_few}
+use Rattle.sg_parts.proofs.RowLines.{instances_fault, instances_more, instances_start, stop_few}
 use Rattle.sg_parts.proofs.rows.read_instances.Goals as goal
 
 pub loop-at-init : goal.loop-at-init
@@ -10,7 +11,7 @@ loop-at-init c = instances_start c.args.bytes.now c.args.start c.args.count c.ne
 pub fault_behind-requires : goal.fault_behind-requires
 fault_behind-requires c =
     let few = stop_few c.args.count (lines_of (drop c.loop-at.end c.args.bytes.now)) c.in-Err.fault c.in-Err.ensures.err in
-    let product = product_few c.loop-at.at c.args.count 16 200000 (omega (arith, c.loop-at-test.true, c.requires.few)) c.requires.rows in
+    let product = mul-le c.loop-at.at c.args.count 16 200000 (omega (arith, c.loop-at-test.true, c.requires.few)) c.requires.rows in
     omega (arith, few, product, c.requires.rows)
 
 pub returns-in-Err-clause-err : goal.returns-in-Err-clause-err

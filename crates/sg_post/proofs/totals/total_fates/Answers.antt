@@ -1,5 +1,5 @@
 -- Each list is made from the one before it.
-use Rattle.std.proofs.Common.{◌≡◌, Bool, List, length, map, sym, subst, ap, ◌∙◌}
+use Rattle.std.proofs.Common.{Bool, List, length, map, sym, subst, ap, ◌∙◌}
 use Rattle.sg_streams.specs.Numbers.{numbers_below}
 use Rattle.sg_post.specs.Marks.{is_marked, is_set}
 use Rattle.sg_post.specs.inside.Making.{HaveEntries, race_places_by, race_totals_by}

@@ -1,13 +1,12 @@
 -- One more race is listed.
 use Rattle.std.proofs.Common.{[], ◌∷◌, sym, ◌∙◌}
-use Rattle.sg_record.specs.Places.{places_in}
-use Rattle.sg_parts.specs.Given.{printing_of}
 use Rattle.sg_recount.specs.Findings.{race_sums}
 use Rattle.sg_recount.proofs.Each.{each_none, each_one}
+use Rattle.sg_recount.specs.inside.Basis.{lines_in, plan_in, printing_in}
 use Rattle.sg_recount.proofs.sums.all_sums.Goals as goal
 
 pub loop-race-init : goal.loop-race-init
-loop-race-init c = c.new-sums.ensures ∙ sym (each_none (λ n. race_sums c.args.posted.now.plan (places_in c.args.posted.now) (printing_of c.args.lists.now) n ∷ []))
+loop-race-init c = c.new-sums.ensures ∙ sym (each_none (λ n. race_sums (plan_in c.args.basis.now) (lines_in c.args.basis.now) (printing_in c.args.basis.now) n ∷ []))
 
 pub loop-race-preserved : goal.loop-race-preserved
-loop-race-preserved c = each_one (λ n. race_sums c.args.posted.now.plan (places_in c.args.posted.now) (printing_of c.args.lists.now) n) c.loop-race.race c.loop-race.sums c.push.new.self c.in_ok-found.found c.loop-race.invariant c.in_ok-found.ensures c.in_ok-push.ensures.ok
+loop-race-preserved c = each_one (λ n. race_sums (plan_in c.args.basis.now) (lines_in c.args.basis.now) (printing_in c.args.basis.now) n) c.loop-race.race c.loop-race.sums c.push.new.self c.in_ok-found.found c.loop-race.invariant c.in_ok-found.ensures c.in_ok-push.ensures.ok

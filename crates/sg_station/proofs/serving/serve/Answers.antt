@@ -16,16 +16,16 @@ returns-in-Ok-clause-says g c =
       keep_faults = g.K.Keeper.faults c.args.keeper.now;
     } in
     let now : Scene = record {
-      board = g.L.Links.board c.serve_calls.new.links;
-      written = g.O.Sink.written c.serve_calls.new.out;
-      link_faults = g.L.Links.faults c.serve_calls.new.links;
-      write_faults = g.O.Sink.faults c.serve_calls.new.out;
-      keep_faults = g.K.Keeper.faults c.serve_calls.new.keeper;
+      board = g.L.Links.board c.serve_calls-ending.new.links;
+      written = g.O.Sink.written c.serve_calls-ending.new.out;
+      link_faults = g.L.Links.faults c.serve_calls-ending.new.links;
+      write_faults = g.O.Sink.faults c.serve_calls-ending.new.out;
+      keep_faults = g.K.Keeper.faults c.serve_calls-ending.new.keeper;
     } in
     rw c.ending_status.ensures
-    (office_serves c.serve_calls.result c.in-Ok.office c.args.port c.args.count (g.K.Keeper.tells c.args.keeper.now) (g.K.Keeper.tells c.open_kept.new.keeper)
-    (g.K.Keeper.rows c.args.keeper.now) (g.K.Keeper.rows c.open_kept.new.keeper) (g.K.Keeper.rows c.serve_calls.new.keeper) before now (g.K.Keeper.faults c.open_kept.new.keeper)
-    c.in-Ok.ensures.starts c.in-Ok.ensures.opens c.in-Ok.ensures.told c.in-Ok.ensures.same c.in-Ok.ensures.later c.serve_calls.ensures.serves)
+    (office_serves c.serve_calls-ending.result c.in-Ok.office c.args.port c.args.count (g.K.Keeper.tells c.args.keeper.now) (g.K.Keeper.tells c.open_kept.new.keeper)
+    (g.K.Keeper.rows c.args.keeper.now) (g.K.Keeper.rows c.open_kept.new.keeper) (g.K.Keeper.rows c.serve_calls-ending.new.keeper) before now (g.K.Keeper.faults c.open_kept.new.keeper)
+    c.in-Ok.ensures.starts c.in-Ok.ensures.opens c.in-Ok.ensures.told c.in-Ok.ensures.same c.in-Ok.ensures.later c.serve_calls-ending.ensures.serves)
 
 pub returns-in-Ok-clause-unlinked : goal.returns-in-Ok-clause-unlinked
 returns-in-Ok-clause-unlinked g c = λ closed.
@@ -37,14 +37,14 @@ returns-in-Ok-clause-unlinked g c = λ closed.
       keep_faults = g.K.Keeper.faults c.open_kept.new.keeper;
     } in
     let now : Scene = record {
-      board = g.L.Links.board c.serve_calls.new.links;
-      written = g.O.Sink.written c.serve_calls.new.out;
-      link_faults = g.L.Links.faults c.serve_calls.new.links;
-      write_faults = g.O.Sink.faults c.serve_calls.new.out;
-      keep_faults = g.K.Keeper.faults c.serve_calls.new.keeper;
+      board = g.L.Links.board c.serve_calls-ending.new.links;
+      written = g.O.Sink.written c.serve_calls-ending.new.out;
+      link_faults = g.L.Links.faults c.serve_calls-ending.new.links;
+      write_faults = g.O.Sink.faults c.serve_calls-ending.new.out;
+      keep_faults = g.K.Keeper.faults c.serve_calls-ending.new.keeper;
     } in
-    absurd (never_closed c.serve_calls.result c.in-Ok.office c.args.port c.args.count (g.K.Keeper.tells c.args.keeper.now) (g.K.Keeper.tells c.open_kept.new.keeper)
-    (g.K.Keeper.rows c.args.keeper.now) (g.K.Keeper.rows c.open_kept.new.keeper) (g.K.Keeper.rows c.serve_calls.new.keeper) before now c.in-Ok.ensures.starts c.serve_calls.ensures.serves
+    absurd (never_closed c.serve_calls-ending.result c.in-Ok.office c.args.port c.args.count (g.K.Keeper.tells c.args.keeper.now) (g.K.Keeper.tells c.open_kept.new.keeper)
+    (g.K.Keeper.rows c.args.keeper.now) (g.K.Keeper.rows c.open_kept.new.keeper) (g.K.Keeper.rows c.serve_calls-ending.new.keeper) before now c.in-Ok.ensures.starts c.serve_calls-ending.ensures.serves
     (subst (λ (status : ℕ). SaysClosed status) c.ending_status.ensures closed))
 
 pub returns-in-Err-clause-says : goal.returns-in-Err-clause-says
