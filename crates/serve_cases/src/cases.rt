@@ -150,6 +150,28 @@ fn tell_calls<K: Keeper>(
     add_sent(text, &calls)
 }
 
+/// A keeper without rows, which fails at the calls that the case says.
+fn keeper_for(alloc: Global, case: &str) -> Result<MemoryKeeper, Fault> {
+    let fails = numbers(alloc, value(case, "keeper"))?;
+    let items = items_of(alloc, &fails);
+    drop(fails);
+    Ok(keeper_of(alloc, items?))
+}
+
+/// Tells a case over this keeper.
+fn tell_over<K: Keeper>(
+    alloc: Global,
+    office: &mut Office,
+    keeper: &mut K,
+    case: &str,
+    piece: usize,
+    text: &mut String,
+) -> Result<(), Fault> {
+    ask_first(alloc, office, keeper, case)?;
+    tell_calls(alloc, office, keeper, case, piece, text)?;
+    add_rows(alloc, text, keeper)
+}
+
 /// Tells a case over a keeper of its own.
 fn tell_kept(
     alloc: Global,
@@ -158,18 +180,30 @@ fn tell_kept(
     piece: usize,
     text: &mut String,
 ) -> Result<(), Fault> {
-    let fails = numbers(alloc, value(case, "keeper"))?;
-    let mut keeper = keeper_of(alloc, items_of(alloc, &fails)?);
-    ask_first(alloc, office, &mut keeper, case)?;
-    tell_calls(alloc, office, &mut keeper, case, piece, text)?;
-    add_rows(alloc, text, &mut keeper)
+    let mut keeper = keeper_for(alloc, case)?;
+    let told = tell_over(alloc, office, &mut keeper, case, piece, text);
+    drop(keeper);
+    told
+}
+
+/// Tells a case of an office of its own.
+fn tell_case_of(
+    alloc: Global,
+    setup: &str,
+    case: &str,
+    piece: usize,
+    text: &mut String,
+) -> Result<(), Fault> {
+    let mut office = office_of(alloc, setup)?;
+    let told = tell_kept(alloc, &mut office, case, piece, text);
+    drop(office);
+    told
 }
 
 /// What comes of a case whose connections come in pieces of this size.
 fn told(alloc: Global, setup: &str, case: &str, piece: usize) -> Result<String, Fault> {
-    let mut office = office_of(alloc, setup)?;
     let mut text = String::new(alloc);
-    tell_kept(alloc, &mut office, case, piece, &mut text)?;
+    tell_case_of(alloc, setup, case, piece, &mut text)?;
     Ok(text)
 }
 
