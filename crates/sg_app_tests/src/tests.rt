@@ -44,6 +44,22 @@ fn no_calls(alloc: Global) -> Result<Calls, Fail>
     Ok(Calls::new(alloc, Vec::new(alloc), 0, 0, Vec::new(alloc))?)
 }
 
+/// Answers these words, where the input comes in pieces and these reads fail, and answers the status.
+fn answer(
+    texts: &[&'static [u8]],
+    record: &[u8],
+    piece: usize,
+    fails: Vec<u32>,
+    page: &mut Page,
+    alloc: Global,
+) -> Result<u8, Fail> {
+    let words = words_of(alloc, texts)?;
+    let mut input = Bytes::new(Vec::from_slice(alloc, record)?, piece.max(1), fails);
+    let mut keeper = keeper_of(alloc);
+    let mut links = no_calls(alloc)?;
+    Ok(run(alloc, &words, &mut input, &mut keeper, &mut links, page))
+}
+
 /// Audits bytes that come in pieces, where these reads fail, and answers the status.
 fn audit(
     record: &[u8],
@@ -52,11 +68,7 @@ fn audit(
     page: &mut Page,
     alloc: Global,
 ) -> Result<u8, Fail> {
-    let words = words_of(alloc, &[b"audit"])?;
-    let mut input = Bytes::new(Vec::from_slice(alloc, record)?, piece.max(1), fails);
-    let mut keeper = keeper_of(alloc);
-    let mut links = no_calls(alloc)?;
-    Ok(run(alloc, &words, &mut input, &mut keeper, &mut links, page))
+    answer(&[b"audit"], record, piece, fails, page, alloc)
 }
 
 /// The text that stands in the place of the line of this number, from 1.
@@ -204,23 +216,9 @@ fn other_words_have_status_2(rt: HostRuntime) -> Result<(), Fail> {
         &[b"Audit"],
     ];
     for texts in lists {
-        let words = words_of(rt.alloc(), texts)?;
-        let mut input = Bytes::new(
-            Vec::from_slice(rt.alloc(), FIRST)?,
-            64,
-            Vec::new(rt.alloc()),
-        );
         let mut page = Page::new(rt.alloc(), 100, Vec::new(rt.alloc()), 0)?;
-        let mut keeper = keeper_of(rt.alloc());
-        let mut links = no_calls(rt.alloc())?;
-        let status = run(
-            rt.alloc(),
-            &words,
-            &mut input,
-            &mut keeper,
-            &mut links,
-            &mut page,
-        );
+        let fails = Vec::new(rt.alloc());
+        let status = answer(texts, FIRST, 64, fails, &mut page, rt.alloc())?;
         assert_eq!(rt; status, 2);
         assert_eq!(rt; page.written(), b"".as_slice());
     }
