@@ -16,8 +16,8 @@ import sys
 CRATES = os.path.join(os.path.dirname(os.path.abspath(__file__)), "..", "crates")
 KNOWN = [
     ("status 0 of audit", ["sg_check/Verdict.IsGood"]),
-    ("headline with what each status of audit says", ["sg_app/Headline.Headline", "sg_audit/Audit.AuditSays"]),
-    ("all that run says", ["sg_app/Headline.Headline", "sg_app/Says.CommandSays"]),
+    ("headline with what each status of audit says", ["sg_app/Headline.Headline", "sg_reports/audit/Audit.AuditSays"]),
+    ("all that run says", ["sg_app/Headline.Headline", "sg_app/Says.Ended"]),
 ]
 BEGINS = re.compile(r"^(?:abbrev |unfoldable )?(?:pub )?(?:record |data )?([^\s:({]+)")
 WORD = re.compile(r"[A-Za-z_][A-Za-z0-9_']*(?:\.[A-Za-z_][A-Za-z0-9_']*)*")

@@ -3,7 +3,7 @@ use crate::fault::Fault;
 use sg_keeper::Keeper;
 use sg_office::Office;
 use sg_plan::Word;
-use sg_turns::{answer_to, version_of};
+use sg_talk::{answer_to, version_of};
 use std::alloc::Global;
 use std::io::Write;
 

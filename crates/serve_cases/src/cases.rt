@@ -5,13 +5,13 @@ ghost use Rattle.sg_keeper.specs.SetupText.{IsSetup};
 use crate::fault::Fault;
 use crate::script::{bytes_of, number, numbers, value};
 use crate::told::{add_ending, add_rows, add_sent};
+use sg_clerk::calls::serve_calls;
 use sg_keeper::{Keeper, MemoryKeeper, Rows, Setup};
 use sg_links::{Calls, Incoming};
 use sg_office::Office;
 use sg_outside::Page;
 use sg_plan::Items;
-use sg_station::serve_calls;
-use sg_turns::answer_to;
+use sg_talk::answer_to;
 use std::alloc::Global;
 use std::io::Write;
 

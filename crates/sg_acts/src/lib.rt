@@ -1,7 +1,8 @@
-//! The acts that an office has done: a new one goes in at once, and each is found by its stamp in logarithmic time.
+//! What an office is asked and what it answers: plain types, which a desk, an office and its texts share.
 #![tactic(auto)]
 
-mod done_list;
-mod run;
+mod asks;
+mod replies;
 
-pub use done_list::DoneList;
+pub use asks::{Act, Ask, Look, Stamp};
+pub use replies::{Body, CodeSeen, FateWord, Phase, Receipt, Reply};

@@ -4,14 +4,13 @@ use Rattle.std.specs.Prelude.{Option}
 use Rattle.sg_keeper.specs.declared.rows.Rows.{Rows}
 use Rattle.sg_clerk.specs.Laws.{KeepsPosted}
 use Rattle.sg_clerk.proofs.Grown.{do_grows, init_grows, same_grows}
-use Rattle.sg_batch.proofs.Keeping.{scans_grow}
-use Rattle.sg_station.proofs.Keeping.{serve_grows}
+use Rattle.sg_clerk.proofs.ScanFiles.Keeping.{scans_grow}
+use Rattle.sg_clerk.proofs.Connections.Keeping.{serve_grows}
 use Rattle.sg_words.specs.declared.command.Command.{Command}
 use Rattle.sg_words.specs.declared.command.Command.TheVariants as command
 use Rattle.sg_app.specs.Outside.{Outside, input_at, moment_of, output_at, scene_of}
 use Rattle.sg_app.specs.Says.{CommandSays}
-use Rattle.sg_app.specs.Touches.{asks_keeper}
-use Rattle.sg_app.specs.inside.Obeying.{ShowsRows}
+use Rattle.sg_app.specs.Touches.{ShowsRows, asks_keeper}
 
 pub command_grows : (asked : Command) (status : ℕ) (tells : Type 0) (rows rows' : Rows) (before now : Outside) → CommandSays asked status tells rows rows' before now
     → (asks_keeper asked ≡ false → rows' ≡ rows) → (ShowsRows asked → tells → rows' ≡ rows) → tells → KeepsPosted rows rows'

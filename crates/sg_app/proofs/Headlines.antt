@@ -14,9 +14,9 @@ use Rattle.sg_accepted.specs.Totals.{told_totals}
 use Rattle.sg_accepted.specs.Unaltered.{IsUnaltered}
 use Rattle.sg_histories.specs.Stories.{story_of}
 use Rattle.sg_unaltered.proofs.UnalteredStories.{unaltered_tell_so}
-use Rattle.sg_audit.specs.Audit.{AuditSays}
-use Rattle.sg_audit.specs.Promise.{IsAnsweredYes}
-use Rattle.sg_audit.proofs.Promises.{answers_yes, promise_of}
+use Rattle.sg_reports.specs.audit.Audit.{AuditSays}
+use Rattle.sg_reports.specs.audit.Promise.{IsAnsweredYes}
+use Rattle.sg_reports.proofs.Auditing.Promises.{answers_yes, promise_of}
 use Rattle.sg_app.specs.Headline.{Headline}
 
 -- what is posted of an unaltered story is answered yes

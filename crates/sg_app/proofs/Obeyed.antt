@@ -8,7 +8,9 @@ use Rattle.sg_clerk.proofs.Beginning.{took_nothing}
 use Rattle.sg_words.specs.declared.command.Command.{Command}
 use Rattle.sg_words.specs.declared.command.Command.TheVariants as command
 use Rattle.sg_app.specs.Outside.{Outside, input_at, output_at}
-use Rattle.sg_app.specs.Says.{CommandSays}
+use Rattle.sg_app.specs.Says.{CommandSays, Ended}
+use Rattle.sg_app.specs.Touches.{ShowsRows}
+use Rattle.sg_app.proofs.Completing.{says_complete}
 use Rattle.sg_reports.proofs.Reporting.{memory_reports}
 use Rattle.sg_reports.specs.declared.report.Report.TheVariants.{Audit, Recount, Odds, County}
 use Rattle.sg_links.specs.Board.{Board}
@@ -27,8 +29,18 @@ pub says_for : (here asked : Command) (found : Option Command) (status : ℕ) (t
 says_for here asked found status tells rows rows' before now is said says =
     subst (λ (a : Command). CommandSays a status tells rows rows' before now) (asked_is here asked found is said) says
 
+pub ended_for : (here asked : Command) (found : Option Command) (status : ℕ) (tells : Type 0) (rows rows' : Rows) (before now : Outside) → Some here ≡ found → found ≡ Some asked
+    → CommandSays here status tells rows rows' before now → (ShowsRows here → tells → rows' ≡ rows) → Ended asked status tells rows rows' before now
+ended_for here asked found status tells rows rows' before now is said says same =
+    let found_says = says_for here asked found status tells rows rows' before now is said says in
+    record {
+      says = found_says;
+      complete = says_complete asked status tells rows rows' before now found_says;
+      same = subst (λ (a : Command). ShowsRows a → tells → rows' ≡ rows) (asked_is here asked found is said) same;
+    }
+
 -- where memory was wanted, and nothing was done
-pub memory_says : (asked : Command) (tells : Type 0) (rows : Rows) (now : Outside) → CommandSays asked 9 tells rows rows now now
+memory_says : (asked : Command) (tells : Type 0) (rows : Rows) (now : Outside) → CommandSays asked 9 tells rows rows now now
 memory_says command.Audit tells rows now = memory_reports Audit (input_at now) (output_at now)
 memory_says command.Init tells rows now = record { took = took_nothing (longest_election + 1) now.left; says = inr (inr (inr (inr (inr (refl, record { same = λ _. refl; quiet = refl }))))) }
 memory_says command.Sheet tells rows now = inr (inr (inr (inr (inr (refl, inl refl)))))
@@ -41,3 +53,6 @@ memory_says (command.Sample asked) tells rows now = inr (inr (refl, refl))
 memory_says command.Recount tells rows now = memory_reports Recount (input_at now) (output_at now)
 memory_says command.Odds tells rows now = memory_reports Odds (input_at now) (output_at now)
 memory_says command.County tells rows now = memory_reports County (input_at now) (output_at now)
+
+pub memory_ended : (asked : Command) (tells : Type 0) (rows : Rows) (now : Outside) → Ended asked 9 tells rows rows now now
+memory_ended asked tells rows now = record { says = memory_says asked tells rows now; complete = λ none. inr (inr (inr (inr refl))); same = λ shows told. refl }

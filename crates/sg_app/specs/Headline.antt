@@ -12,7 +12,7 @@ use Rattle.sg_histories.specs.Stories.{story_of}
 use Rattle.sg_accepted.specs.Totals.{told_totals}
 use Rattle.sg_accepted.specs.Unaltered.{IsUnaltered}
 use Rattle.sg_unaltered.specs.UnalteredHistories.{IsUnalteredHistory}
-use Rattle.sg_audit.specs.Promise.{IsAnsweredYes, Promise}
+use Rattle.sg_reports.specs.audit.Promise.{IsAnsweredYes, Promise}
 
 -- what the status says of the lines of the bytes that the input had; 0 answers yes, and 1 no
 pub record Headline (lines : List (List ℕ)) (status : ℕ) (input input' out out' : Seen) : Type 0 where

@@ -1,8 +1,6 @@
 -- The modules of definitions.
-pub mod Complete
 pub mod Headline
 pub mod Outside
 pub mod Sampling
 pub mod Says
 pub mod Touches
-pub mod inside

@@ -3,7 +3,7 @@ use Rattle.std.specs.Prelude.{ℕ, List, Option}
 use Rattle.sg_outside.specs.Streams.{Seen}
 use Rattle.sg_links.specs.Board.{Board}
 use Rattle.sg_clerk.specs.Ends.{Moment}
-use Rattle.sg_station.specs.Serves.{Scene}
+use Rattle.sg_clerk.specs.calls.Serves.{Scene}
 
 -- the bytes that the input still has, the connections, and the bytes that the output took, where they are told; and the four
 -- counts of faults

@@ -6,15 +6,17 @@ use Rattle.sg_clerk.specs.Begun.{InitSays}
 use Rattle.sg_clerk.specs.Sheet.{sheet_of}
 use Rattle.sg_clerk.specs.Shown.{ShowSays, posted_of}
 use Rattle.sg_handed.specs.Handed.{OpeningsSays}
-use Rattle.sg_batch.specs.ScansAsked.{ScansSay}
-use Rattle.sg_station.specs.Says.{ServeSays}
-use Rattle.sg_reports.specs.Reports.{ReportSays}
+use Rattle.sg_clerk.specs.scans.ScansAsked.{ScansSay}
+use Rattle.sg_clerk.specs.calls.Says.{ServeSays}
+use Rattle.sg_reports.specs.Reports.{ReportSays, TellsNoFailure}
 use Rattle.sg_reports.specs.declared.report.Report.TheVariants as report
 use Rattle.sg_app.specs.Outside.{Outside, input_at, moment_of, output_at, scene_of}
 use Rattle.sg_app.specs.Sampling.{SampleSays}
+use Rattle.sg_app.specs.Touches.{NothingFailed, ShowsRows}
 use Rattle.sg_words.specs.declared.command.Command.{Command}
 use Rattle.sg_words.specs.declared.command.Command.TheVariants as command
 
+-- how a command ended, by its status: what was read, what the rows are, and what was written
 abbrev pub CommandSays : Command → ℕ → (tells : Type 0) → Rows → Rows → Outside → Outside → Type 0
 CommandSays command.Audit status tells rows rows' before now = ReportSays report.Audit status (input_at before) (input_at now) (output_at before) (output_at now)
 CommandSays command.Init status tells rows rows' before now =
@@ -33,3 +35,10 @@ CommandSays (command.Sample asked) status tells rows rows' before now = SampleSa
 CommandSays command.Recount status tells rows rows' before now = ReportSays report.Recount status (input_at before) (input_at now) (output_at before) (output_at now)
 CommandSays command.Odds status tells rows rows' before now = ReportSays report.Odds status (input_at before) (input_at now) (output_at before) (output_at now)
 CommandSays command.County status tells rows rows' before now = ReportSays report.County status (input_at before) (input_at now) (output_at before) (output_at now)
+
+-- how a command ended: the status says so; where no count of faults rose, it tells no failure, so all the work was done, but for
+-- want of memory; and what only shows the rows leaves them as they are
+pub record Ended (asked : Command) (status : ℕ) (tells : Type 0) (rows rows' : Rows) (before now : Outside) : Type 0 where
+  pub says : CommandSays asked status tells rows rows' before now
+  pub complete : NothingFailed asked before now → TellsNoFailure status
+  pub same : ShowsRows asked → tells → rows' ≡ rows

@@ -1,64 +1,61 @@
--- What a command does not touch (this project's command line).
-use Rattle.std.specs.Prelude.{Bool, true, false}
+-- What a command touches of what stands outside, and when nothing of that failed (this project's command line).
+use Rattle.std.specs.Prelude.{◌≡◌, ◌⊎◌, Bool, true, false}
+use Rattle.sg_outside.specs.Faults.{Rose}
+use Rattle.sg_app.specs.Outside.{Outside}
 use Rattle.sg_words.specs.declared.command.Command.{Command}
 use Rattle.sg_words.specs.declared.command.Command.TheVariants as command
 
--- whether it reads the input
+-- whether a command reads the input, asks the keeper, and takes connections; and whether it reports on what it reads: then it
+-- writes nothing before all of that is read
+pub record Touched : Type 0 where
+  pub reads : Bool
+  pub keeps : Bool
+  pub links : Bool
+  pub reports : Bool
+
+-- what reports on the input alone; what asks the keeper about the input; and what shows what the keeper has
+abbrev pub reports : Touched
+reports = record { reads = true; keeps = false; links = false; reports = true }
+
+abbrev pub asks : Touched
+asks = record { reads = true; keeps = true; links = false; reports = false }
+
+abbrev pub shows : Touched
+shows = record { reads = false; keeps = true; links = false; reports = false }
+
+abbrev pub touched : Command → Touched
+touched command.Audit = reports
+touched command.Init = asks
+touched command.Sheet = shows
+touched command.Do = asks
+touched command.Scans = asks
+touched (command.Serve asked) = record { reads = false; keeps = true; links = true; reports = false }
+touched command.Record = shows
+touched command.Openings = shows
+touched (command.Sample asked) = record { reads = false; keeps = false; links = false; reports = false }
+touched command.Recount = reports
+touched command.Odds = reports
+touched command.County = reports
+
 abbrev pub reads_input : Command → Bool
-reads_input command.Audit = true
-reads_input command.Init = true
-reads_input command.Sheet = false
-reads_input command.Do = true
-reads_input command.Scans = true
-reads_input (command.Serve asked) = false
-reads_input command.Record = false
-reads_input command.Openings = false
-reads_input (command.Sample asked) = false
-reads_input command.Recount = true
-reads_input command.Odds = true
-reads_input command.County = true
+reads_input asked = (touched asked).reads
 
--- whether it asks the keeper
 abbrev pub asks_keeper : Command → Bool
-asks_keeper command.Audit = false
-asks_keeper command.Init = true
-asks_keeper command.Sheet = true
-asks_keeper command.Do = true
-asks_keeper command.Scans = true
-asks_keeper (command.Serve asked) = true
-asks_keeper command.Record = true
-asks_keeper command.Openings = true
-asks_keeper (command.Sample asked) = false
-asks_keeper command.Recount = false
-asks_keeper command.Odds = false
-asks_keeper command.County = false
+asks_keeper asked = (touched asked).keeps
 
--- whether it takes connections
 abbrev pub takes_links : Command → Bool
-takes_links command.Audit = false
-takes_links command.Init = false
-takes_links command.Sheet = false
-takes_links command.Do = false
-takes_links command.Scans = false
-takes_links (command.Serve asked) = true
-takes_links command.Record = false
-takes_links command.Openings = false
-takes_links (command.Sample asked) = false
-takes_links command.Recount = false
-takes_links command.Odds = false
-takes_links command.County = false
+takes_links asked = (touched asked).links
 
--- whether it reports on what it reads: then it writes nothing before all of that is read
 abbrev pub is_report : Command → Bool
-is_report command.Audit = true
-is_report command.Init = false
-is_report command.Sheet = false
-is_report command.Do = false
-is_report command.Scans = false
-is_report (command.Serve asked) = false
-is_report command.Record = false
-is_report command.Openings = false
-is_report (command.Sample asked) = false
-is_report command.Recount = true
-is_report command.Odds = true
-is_report command.County = true
+is_report asked = (touched asked).reports
+
+-- whether it only shows the rows
+abbrev pub ShowsRows : Command → Type 0
+ShowsRows asked = (asked ≡ command.Sheet) ⊎ (asked ≡ command.Record) ⊎ (asked ≡ command.Openings)
+
+-- no count of faults rose of what the command touches: of the input, of the keeper, of the links, of the output
+pub record NothingFailed (asked : Command) (before now : Outside) : Type 0 where
+  pub reads : reads_input asked ≡ true → ¬ Rose before.read_faults now.read_faults
+  pub keeps : asks_keeper asked ≡ true → ¬ Rose before.keep_faults now.keep_faults
+  pub links : takes_links asked ≡ true → ¬ Rose before.link_faults now.link_faults
+  pub writes : ¬ Rose before.write_faults now.write_faults

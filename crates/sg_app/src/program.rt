@@ -4,9 +4,8 @@ ghost use Rattle.sg_outside.specs.Streams.{seen};
 ghost use Rattle.sg_outside.specs.TextLines.{lines_of};
 ghost use Rattle.sg_clerk.specs.Laws.{KeepsPosted};
 ghost use Rattle.sg_words.specs.Command.{command_in};
-ghost use Rattle.sg_app.specs.Complete.{IsComplete};
 ghost use Rattle.sg_app.specs.Headline.{Headline};
-ghost use Rattle.sg_app.specs.Says.{CommandSays};
+ghost use Rattle.sg_app.specs.Says.{Ended};
 ghost use Rattle.sg_app.specs.Touches.{asks_keeper, is_report, reads_input, takes_links};
 ghost use Rattle.sg_words.specs.declared.command.Command.{Command as CommandSeen};
 ghost use Rattle.sg_words.specs.declared.service.Service.{Service as ServiceSeen};
@@ -50,18 +49,12 @@ pub fn run<S: Source, K: Keeper, L: Links, O: Sink>(
     ensures headline { command_in words.now ≡ Some Command.Audit → IfSome (S.left input.old) (λ bytes. Headline (lines_of bytes) result (seen (S.left input.old) (S.faults input.old)) (seen (S.left input.new) (S.faults input.new))
         (seen (O.written out.old) (O.faults out.old)) (seen (O.written out.new) (O.faults out.new))) }
     // The status says how the command ended, by a relation for each command: what was read, what the rows are, and what was
-    // written.
-    ensures says { (command : CommandSeen) → command_in words.now ≡ Some command → CommandSays command result (K.tells keeper.old) (K.rows keeper.old) (K.rows keeper.new)
-        (record { left = S.left input.old; board = L.board links.old; written = O.written out.old; read_faults = S.faults input.old; link_faults = L.faults links.old; write_faults = O.faults out.old; keep_faults = K.faults keeper.old })
-        (record { left = S.left input.new; board = L.board links.new; written = O.written out.new; read_faults = S.faults input.new; link_faults = L.faults links.new; write_faults = O.faults out.new; keep_faults = K.faults keeper.new }) }
-    // Where no count of faults rose, each command does all its work, but for want of memory.
-    ensures complete { (command : CommandSeen) → command_in words.now ≡ Some command → IsComplete command result (K.tells keeper.old) (K.rows keeper.old) (K.rows keeper.new)
+    // written. Where no count of faults rose, it tells no failure. `sheet`, `record` and `openings` leave the rows as they are.
+    ensures ended { (command : CommandSeen) → command_in words.now ≡ Some command → Ended command result (K.tells keeper.old) (K.rows keeper.old) (K.rows keeper.new)
         (record { left = S.left input.old; board = L.board links.old; written = O.written out.old; read_faults = S.faults input.old; link_faults = L.faults links.old; write_faults = O.faults out.old; keep_faults = K.faults keeper.old })
         (record { left = S.left input.new; board = L.board links.new; written = O.written out.new; read_faults = S.faults input.new; link_faults = L.faults links.new; write_faults = O.faults out.new; keep_faults = K.faults keeper.new }) }
     // After a read that failed, and where memory was wanted, `audit`, `recount`, `odds` and `county` leave the output as it was.
     ensures unwritten { (command : CommandSeen) → command_in words.now ≡ Some command → is_report command ≡ true → (result ≡ 3) ⊎ (result ≡ 9) → out.new ≡ out.old }
-    // `sheet`, `record` and `openings` leave the rows as they are.
-    ensures same { (command_in words.now ≡ Some Command.Sheet) ⊎ (command_in words.now ≡ Some Command.Record) ⊎ (command_in words.now ≡ Some Command.Openings) → K.tells keeper.old → K.rows keeper.new ≡ K.rows keeper.old }
     // Where rows are told that are an office's, they stay that office's, and what `record` writes of them only grows.
     ensures grows { K.tells keeper.old → KeepsPosted (K.rows keeper.old) (K.rows keeper.new) }
     // Where no office is opened, `serve` leaves the links as they were.

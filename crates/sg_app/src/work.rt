@@ -1,13 +1,13 @@
 //! The work of each command.
 ghost use Rattle.std.specs.Prelude.{◌≡◌, ◌≢◌, ◌⊎◌, false, true};
-ghost use Rattle.sg_app.specs.Touches.{asks_keeper, is_report, reads_input, takes_links};
+ghost use Rattle.sg_app.specs.Touches.{ShowsRows, asks_keeper, is_report, reads_input, takes_links};
 ghost use Rattle.sg_words.specs.declared.command.Command.TheVariants.{Serve};
 ghost use Rattle.sg_words.specs.declared.service.Service.{Service as ServiceSeen};
 ghost use Rattle.sg_app.specs.Says.{CommandSays};
-ghost use Rattle.sg_app.specs.inside.Obeying.{ShowsRows};
 ghost use Rattle.sg_words.specs.Command.{IsSized};
 
-use sg_batch::answer_scans;
+use sg_clerk::calls::serve;
+use sg_clerk::scans::answer_scans;
 use sg_clerk::{answer_asks, begun_status, init, record, sheet, shown_status};
 use sg_handed::answer_openings;
 use sg_keeper::Keeper;
@@ -15,7 +15,6 @@ use sg_links::Links;
 use sg_outside::{Sink, Source};
 use sg_reports::{Report, write_report};
 use sg_sample::{sample, sampled_status};
-use sg_station::serve;
 use sg_words::Command;
 use std::alloc::Global;
 

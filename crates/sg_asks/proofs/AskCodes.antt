@@ -9,13 +9,13 @@ use Rattle.sg_plan.specs.Codes.{codes_of}
 use Rattle.sg_plan.specs.declared.plan.Mark.{Mark}
 use Rattle.sg_lines.specs.Words.{code_of}
 use Rattle.sg_lines.proofs.Signs.{codes_are_spelled}
-use Rattle.sg_keeper.specs.declared.asks.Act.{Act}
-use Rattle.sg_keeper.specs.declared.asks.Act.TheVariants as act
-use Rattle.sg_keeper.specs.declared.asks.Ask.{Ask}
-use Rattle.sg_keeper.specs.declared.asks.Ask.TheVariants.{Do, See}
-use Rattle.sg_keeper.specs.declared.asks.Look.{Look}
-use Rattle.sg_keeper.specs.declared.asks.Look.TheVariants as look
-use Rattle.sg_keeper.specs.declared.asks.Stamp.{Stamp}
+use Rattle.sg_acts.specs.declared.asks.Act.{Act}
+use Rattle.sg_acts.specs.declared.asks.Act.TheVariants as act
+use Rattle.sg_acts.specs.declared.asks.Ask.{Ask}
+use Rattle.sg_acts.specs.declared.asks.Ask.TheVariants.{Do, See}
+use Rattle.sg_acts.specs.declared.asks.Look.{Look}
+use Rattle.sg_acts.specs.declared.asks.Look.TheVariants as look
+use Rattle.sg_acts.specs.declared.asks.Stamp.{Stamp}
 use Rattle.sg_asks.specs.Json.{json_of}
 use Rattle.sg_asks.specs.Members.{all_three, both, code_in, each_by, has_members, list_by, member_by, number_in}
 use Rattle.sg_asks.specs.Asks.{IsAsked, ask_in, ask_of_form, ask_read, ask_to_do, ask_to_see, asked, audit_in, ballot_in, claim_in, codes_in, draw_in, form_in, mark_in, or_shape, paper_in, scan_in, stamp_in}

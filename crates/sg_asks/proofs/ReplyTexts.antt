@@ -13,14 +13,14 @@ use Rattle.sg_plan.specs.declared.memory.NoMemory.{NoMemory}
 use Rattle.sg_plan.specs.declared.plan.ClaimWord.TheVariants.{Posted, Unposted, Absent}
 use Rattle.sg_lines.specs.Words.{code_word, digit_of, sign_of}
 use Rattle.sg_lines.proofs.Signs.{by_version}
-use Rattle.sg_keeper.specs.declared.replies.Body.{Body}
-use Rattle.sg_keeper.specs.declared.replies.Body.TheVariants as body
-use Rattle.sg_keeper.specs.declared.replies.CodeSeen.{CodeSeen}
-use Rattle.sg_keeper.specs.declared.replies.FateWord.{FateWord}
-use Rattle.sg_keeper.specs.declared.replies.FateWord.TheVariants as fate
-use Rattle.sg_keeper.specs.declared.replies.Phase.TheVariants as phase
-use Rattle.sg_keeper.specs.declared.replies.Reply.{Reply}
-use Rattle.sg_keeper.specs.declared.replies.Reply.TheVariants as reply
+use Rattle.sg_acts.specs.declared.replies.Body.{Body}
+use Rattle.sg_acts.specs.declared.replies.Body.TheVariants as body
+use Rattle.sg_acts.specs.declared.replies.CodeSeen.{CodeSeen}
+use Rattle.sg_acts.specs.declared.replies.FateWord.{FateWord}
+use Rattle.sg_acts.specs.declared.replies.FateWord.TheVariants as fate
+use Rattle.sg_acts.specs.declared.replies.Phase.TheVariants as phase
+use Rattle.sg_acts.specs.declared.replies.Reply.{Reply}
+use Rattle.sg_acts.specs.declared.replies.Reply.TheVariants as reply
 use Rattle.sg_asks.specs.Replies.{HasPlainText, HasReplyCodes, IsFrom, IsPlain, body_value, fate_word, list_of, receipt_value, reply_value, seen_value, text_of_reply, whole}
 use Rattle.sg_asks.specs.inside.Pieces.{body_pieces, joined, list_text, numbers_text, reply_pieces, seen_text}
 

@@ -7,13 +7,13 @@ use Rattle.sg_lines.specs.Words.{hex_of}
 use Rattle.sg_plan.specs.declared.plan.Mark.{Mark}
 use Rattle.sg_plan.specs.declared.plan.Draw.{Draw}
 use Rattle.sg_plan.specs.declared.plan.Draw.TheVariants.{Full, Public}
-use Rattle.sg_keeper.specs.declared.asks.Stamp.{Stamp}
-use Rattle.sg_keeper.specs.declared.asks.Act.{Act}
-use Rattle.sg_keeper.specs.declared.asks.Act.TheVariants as act
-use Rattle.sg_keeper.specs.declared.asks.Look.{Look}
-use Rattle.sg_keeper.specs.declared.asks.Look.TheVariants as look
-use Rattle.sg_keeper.specs.declared.asks.Ask.{Ask}
-use Rattle.sg_keeper.specs.declared.asks.Ask.TheVariants.{Do, See}
+use Rattle.sg_acts.specs.declared.asks.Stamp.{Stamp}
+use Rattle.sg_acts.specs.declared.asks.Act.{Act}
+use Rattle.sg_acts.specs.declared.asks.Act.TheVariants as act
+use Rattle.sg_acts.specs.declared.asks.Look.{Look}
+use Rattle.sg_acts.specs.declared.asks.Look.TheVariants as look
+use Rattle.sg_acts.specs.declared.asks.Ask.{Ask}
+use Rattle.sg_acts.specs.declared.asks.Ask.TheVariants.{Do, See}
 use Rattle.sg_asks.specs.Json.{json_of}
 use Rattle.sg_asks.specs.Members.{all_three, both, code_in, list_by, member_by, number_in, secret_in, text_in, where_has}
 use Rattle.sg_asks.specs.declared.forms.Form.{Form}

@@ -1,10 +1,10 @@
 -- The codes of an ask.
 use Rattle.std.specs.Prelude.{ℕ, ◌<◌, All}
 use Rattle.sg_plan.specs.Codes.{codes_of}
-use Rattle.sg_keeper.specs.declared.asks.Act.{Act}
-use Rattle.sg_keeper.specs.declared.asks.Act.TheVariants as act
-use Rattle.sg_keeper.specs.declared.asks.Ask.{Ask}
-use Rattle.sg_keeper.specs.declared.asks.Ask.TheVariants.{Do, See}
+use Rattle.sg_acts.specs.declared.asks.Act.{Act}
+use Rattle.sg_acts.specs.declared.asks.Act.TheVariants as act
+use Rattle.sg_acts.specs.declared.asks.Ask.{Ask}
+use Rattle.sg_acts.specs.declared.asks.Ask.TheVariants.{Do, See}
 
 -- every code of the act is a code of the version
 abbrev pub HasActCodes : ℕ → Act → Type 0

@@ -8,16 +8,16 @@ use Rattle.sg_plan.specs.Codes.{codes_of}
 use Rattle.sg_plan.specs.declared.plan.ClaimWord.{ClaimWord}
 use Rattle.sg_plan.specs.declared.plan.ClaimWord.TheVariants.{Posted, Unposted, Absent}
 use Rattle.sg_lines.specs.Words.{code_word}
-use Rattle.sg_keeper.specs.declared.replies.Body.{Body}
-use Rattle.sg_keeper.specs.declared.replies.Body.TheVariants as body
-use Rattle.sg_keeper.specs.declared.replies.CodeSeen.{CodeSeen}
-use Rattle.sg_keeper.specs.declared.replies.FateWord.{FateWord}
-use Rattle.sg_keeper.specs.declared.replies.FateWord.TheVariants as fate
-use Rattle.sg_keeper.specs.declared.replies.Phase.{Phase}
-use Rattle.sg_keeper.specs.declared.replies.Phase.TheVariants as phase
-use Rattle.sg_keeper.specs.declared.replies.Receipt.{Receipt}
-use Rattle.sg_keeper.specs.declared.replies.Reply.{Reply}
-use Rattle.sg_keeper.specs.declared.replies.Reply.TheVariants as reply
+use Rattle.sg_acts.specs.declared.replies.Body.{Body}
+use Rattle.sg_acts.specs.declared.replies.Body.TheVariants as body
+use Rattle.sg_acts.specs.declared.replies.CodeSeen.{CodeSeen}
+use Rattle.sg_acts.specs.declared.replies.FateWord.{FateWord}
+use Rattle.sg_acts.specs.declared.replies.FateWord.TheVariants as fate
+use Rattle.sg_acts.specs.declared.replies.Phase.{Phase}
+use Rattle.sg_acts.specs.declared.replies.Phase.TheVariants as phase
+use Rattle.sg_acts.specs.declared.replies.Receipt.{Receipt}
+use Rattle.sg_acts.specs.declared.replies.Reply.{Reply}
+use Rattle.sg_acts.specs.declared.replies.Reply.TheVariants as reply
 
 -- ---- values
 

@@ -9,7 +9,7 @@ use crate::kinds::{Kind, member};
 use crate::papers::{code_of, paper_of};
 use crate::unread::Unread;
 use serde_json::Value;
-use sg_keeper::{Act, Stamp};
+use sg_acts::{Act, Stamp};
 use sg_lines::hex_bytes;
 use sg_plan::{Draw, Mark, Paper};
 use std::alloc::Global;

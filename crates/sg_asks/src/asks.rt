@@ -11,7 +11,7 @@ use crate::kinds::{has_members, member};
 use crate::reading::value_of;
 use crate::unread::Unread;
 use serde_json::Value;
-use sg_keeper::{Act, Ask, Look};
+use sg_acts::{Act, Ask, Look};
 use std::alloc::Global;
 
 /// Why bytes are no ask.

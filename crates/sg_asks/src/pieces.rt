@@ -6,7 +6,7 @@ ghost use Rattle.sg_plan.specs.Codes.{codes_of};
 ghost use Rattle.sg_lines.specs.Words.{code_word};
 ghost use Rattle.sg_asks.specs.inside.Pieces.{ArePieces, IsPiece, joined, list_text, numbers_text, piece_text, seen_text};
 
-use sg_keeper::CodeSeen;
+use sg_acts::CodeSeen;
 use sg_lines::{write_code, write_decimal};
 use sg_plan::{Items, NoMemory, Word};
 use std::alloc::Global;

@@ -2,13 +2,13 @@
 ghost use Rattle.std.specs.Prelude.{◌≡◌, ◌<◌, ◌∷◌, [], All, IfOk, codes};
 ghost use Rattle.std.specs.List.{concat};
 ghost use Rattle.sg_plan.specs.Codes.{codes_of};
-ghost use Rattle.sg_keeper.specs.declared.replies.Reply.TheVariants as reply;
+ghost use Rattle.sg_acts.specs.declared.replies.Reply.TheVariants as reply;
 ghost use Rattle.sg_asks.specs.Replies.{HasPlainText, HasReplyCodes, claim_word, fate_word, phase_word, text_of_reply};
 ghost use Rattle.sg_asks.specs.inside.Pieces.{body_pieces, bool_text, mark_pieces, receipt_pieces, reply_pieces};
 
 use crate::pieces::Piece::{Lists, Number, Numbers, Seen, Text};
 use crate::pieces::text_of;
-use sg_keeper::{Body, FateWord, Phase, Receipt, Reply};
+use sg_acts::{Body, FateWord, Phase, Receipt, Reply};
 use sg_plan::{ClaimWord, NoMemory, Word};
 use std::alloc::Global;
 

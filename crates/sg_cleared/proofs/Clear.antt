@@ -21,9 +21,9 @@ use Rattle.sg_accepted.specs.Unaltered.{IsUnaltered}
 use Rattle.sg_histories.specs.Stories.{story_of}
 use Rattle.sg_clerk.specs.Sheet.{sheet_text}
 use Rattle.sg_unaltered.proofs.UnalteredStories.{unaltered_tell_so}
-use Rattle.sg_court.specs.Odds.{OddsDue}
-use Rattle.sg_court.specs.Recounts.{RecountDue, findings_text}
-use Rattle.sg_court.specs.Says.{Answers, Says}
+use Rattle.sg_reports.specs.court.Odds.{OddsDue}
+use Rattle.sg_reports.specs.court.Recounts.{RecountDue, findings_text}
+use Rattle.sg_reports.specs.court.Says.{Answers, Says}
 use Rattle.sg_cleared.proofs.Clearing.{odds_due, recount_due}
 use Rattle.sg_cleared.proofs.Handed.{behind_text, handed_lines, lines_handed}
 use Rattle.sg_cleared.proofs.Standing.{odds_are_due, recount_is_due}

@@ -30,9 +30,9 @@ use Rattle.sg_recount.specs.Findings.{all_altered, all_sums, altered_in, altered
 use Rattle.sg_recount.specs.declared.findings.Findings.{Findings}
 use Rattle.sg_recount.specs.declared.findings.Sum.{Sum}
 use Rattle.sg_odds.specs.Odds.{exponent, is_lacking}
-use Rattle.sg_court.specs.Odds.{FindsOdds, LacksRow, OddsDue}
-use Rattle.sg_court.specs.Recounts.{Finds, RecountDue, findings_text}
-use Rattle.sg_court.specs.Texts.{numbers_line}
+use Rattle.sg_reports.specs.court.Odds.{FindsOdds, LacksRow, OddsDue}
+use Rattle.sg_reports.specs.court.Recounts.{Finds, RecountDue, findings_text}
+use Rattle.sg_reports.specs.court.Texts.{numbers_line}
 use Rattle.sg_cleared.proofs.Counting.{count_is}
 use Rattle.sg_cleared.proofs.Handed.{handed_lines, office_has}
 use Rattle.sg_cleared.proofs.Leading.{exponent_none, row_there}

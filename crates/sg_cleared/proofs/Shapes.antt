@@ -12,7 +12,7 @@ use Rattle.sg_post.proofs.Each.{EachOf, of-append}
 use Rattle.sg_parts.proofs.RowLines.{all_long}
 use Rattle.sg_parts.proofs.Wholes.{joined_both}
 use Rattle.sg_parts.specs.Given.{joined}
-use Rattle.sg_court.proofs.Given.{head_same, tail_same}
+use Rattle.sg_reports.proofs.Courts.Given.{head_same, tail_same}
 
 -- ONE AFTER ANOTHER
 

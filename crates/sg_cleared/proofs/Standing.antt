@@ -24,8 +24,8 @@ use Rattle.sg_recount.specs.Findings.{AreFindings}
 use Rattle.sg_odds.proofs.Bounding.{found_is_bound}
 use Rattle.sg_odds.specs.Answers.{IsRaceFull}
 use Rattle.sg_odds.specs.declared.found.OddsFound.TheVariants as found
-use Rattle.sg_court.specs.Odds.{FindsOdds, OddsDue, exponent_of}
-use Rattle.sg_court.specs.Recounts.{Finds, RecountDue, findings_text}
+use Rattle.sg_reports.specs.court.Odds.{FindsOdds, OddsDue, exponent_of}
+use Rattle.sg_reports.specs.court.Recounts.{Finds, RecountDue, findings_text}
 use Rattle.sg_cleared.proofs.Clearing.{altered_none, exponents_none, sums_even}
 use Rattle.sg_cleared.proofs.Handed.{both_given, handed_lines, office_codes, office_given, office_has, office_is, office_openings, office_printed, office_rows, printed_same, rows_are}
 use Rattle.sg_cleared.proofs.Leading.{row_there}

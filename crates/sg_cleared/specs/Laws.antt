@@ -21,10 +21,10 @@ use Rattle.sg_unaltered.specs.UnalteredHistories.{IsUnalteredHistory}
 use Rattle.sg_parts.specs.Given.{printing_line}
 use Rattle.sg_recount.specs.declared.findings.Findings.{Findings}
 use Rattle.sg_recount.specs.declared.findings.Sum.{Sum}
-use Rattle.sg_court.specs.Odds.{OddsDue}
-use Rattle.sg_court.specs.Recounts.{RecountDue, findings_text}
-use Rattle.sg_court.specs.Says.{OddsSays, ReadFails, RecountSays}
-use Rattle.sg_court.specs.Texts.{numbers_line}
+use Rattle.sg_reports.specs.court.Odds.{OddsDue}
+use Rattle.sg_reports.specs.court.Recounts.{RecountDue, findings_text}
+use Rattle.sg_reports.specs.court.Says.{OddsSays, ReadFails, RecountSays}
+use Rattle.sg_reports.specs.court.Texts.{numbers_line}
 
 -- WHAT IS HANDED OVER
 

@@ -4,13 +4,15 @@ pub mod Follows
 pub mod Grown
 pub mod Hearing
 pub mod Keeping
-mod NextLine
+mod LineAsks
 mod Opening
 mod Sheets
 pub mod Showing
 mod Staying
 mod Taking
-pub mod TalkGrows
 pub mod TalkGoes
-pub mod TalkEnds
+pub mod TalkGrows
+mod TalkEnds
 pub mod Talking
+pub mod ScanFiles
+pub mod Connections

@@ -1,12 +1,11 @@
 -- What was taken of the input of `do`, by how far its lines were cut.
-use Rattle.std.proofs.Common.{ℕ, ◌+◌, ◌≤◌, List, [], ◌∷◌, ◌++◌, length, sym, subst, append_assoc, length-append, arith}
+use Rattle.std.proofs.Common.{ℕ, ◌+◌, ◌≤◌, List, [], ◌∷◌, ◌++◌, length, subst, append_assoc, length-append, arith}
 use Rattle.std.specs.Prelude.{Option}
 use Rattle.std.specs.List.{concat}
 use Rattle.std.specs.Io.KnownBytes.{Consumes, prepend_known}
 use Rattle.sg_plan.specs.Limits.{longest_ask}
 use Rattle.sg_outside.proofs.StreamLemmas.{Consumes-front, Consumes-nil, Consumes-trans}
 use Rattle.sg_clerk.specs.Taken.{AreShort, TookLines}
-use Rattle.sg_clerk.proofs.TalkGrows.{concat-push}
 
 -- behind these lines a text was cut, and some bytes are held behind it, together at most as many as an ask has
 pub record CutBehind (lines : List (List ℕ)) (text : List ℕ) (before left : Option (List ℕ)) : Type 0 where
@@ -37,13 +36,4 @@ took-behind lines text before left behind = record {
   short = behind.short;
   taken = subst (λ (l : List ℕ). Consumes before left l) (append_assoc (concat lines) text behind.ahead) (all-taken lines text behind.ahead before left behind.cut);
   few = omega (arith, behind.few, length-append text behind.ahead);
-}
-
--- the text is one more line
-pub took-with : (lines : List (List ℕ)) (text : List ℕ) (before left : Option (List ℕ)) → CutBehind lines text before left → TookLines (lines ++ text ∷ []) before left
-took-with lines text before left behind = record {
-  rest = behind.ahead;
-  short = short-push lines text behind.short (omega (arith, behind.few));
-  taken = subst (λ (l : List ℕ). Consumes before left (l ++ behind.ahead)) (sym (concat-push lines text)) (all-taken lines text behind.ahead before left behind.cut);
-  few = omega (arith, behind.few);
 }

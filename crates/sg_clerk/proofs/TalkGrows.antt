@@ -1,15 +1,13 @@
 -- Exchanges, lines and outputs that grow by one more.
-use Rattle.std.proofs.Common.{◌≡◌, ℕ, ◌<◌, List, [], ◌∷◌, ◌++◌, length, Some, None, refl, sym, ap, ◌∙◌, append_assoc, append-nil, length-append, arith}
+use Rattle.std.proofs.Common.{◌≡◌, ℕ, ◌<◌, List, [], ◌∷◌, ◌++◌, length, Some, None, refl, sym, ap, ◌∙◌, append_assoc, append-nil, arith}
 use Rattle.std.specs.Prelude.{Option, IfSome}
 use Rattle.std.specs.List.{concat}
 use Rattle.std.specs.Io.KnownBytes.{Appends, Consumes, IsAtEnd}
-use Rattle.sg_outside.specs.Streams.{AppendsFront}
 use Rattle.sg_outside.specs.TextLines.{AreLines, HasNoFeed, lines_of}
 use Rattle.sg_outside.proofs.LineLemmas.{lines_of-concat, lines_of-lines, lines_of-part}
-use Rattle.sg_outside.proofs.StreamLemmas.{Appends-trans}
 use Rattle.sg_talk.specs.Talk.{Exchange}
-use Rattle.sg_clerk.specs.Does.{lines_in, texts_in}
-use Rattle.sg_clerk.specs.Ends.{MissesLast, answer_line, last_of}
+use Rattle.sg_clerk.specs.Does.{lines_in}
+use Rattle.sg_clerk.specs.Ends.{MissesLast, last_of}
 use Rattle.sg_clerk.specs.Lines.{AreAllLines, AreFirstLines}
 
 -- EXCHANGES
@@ -17,10 +15,6 @@ use Rattle.sg_clerk.specs.Lines.{AreAllLines, AreFirstLines}
 pub lines-push : (exchanges : List Exchange) (x : Exchange) → lines_in (exchanges ++ x ∷ []) ≡ lines_in exchanges ++ x.bytes ∷ []
 lines-push [] x = refl
 lines-push (y ∷ ys) x = ap (λ l. y.bytes ∷ l) (lines-push ys x)
-
-pub texts-push : (version : ℕ) (exchanges : List Exchange) (x : Exchange) → texts_in version (exchanges ++ x ∷ []) ≡ texts_in version exchanges ++ answer_line version x.answer ∷ []
-texts-push version [] x = refl
-texts-push version (y ∷ ys) x = ap (λ l. answer_line version y.answer ∷ l) (texts-push version ys x)
 
 pub lines-length : (exchanges : List Exchange) → length (lines_in exchanges) ≡ length exchanges
 lines-length [] = refl
@@ -76,20 +70,10 @@ first-of_all (Some bytes) lines all = ([], all ∙ sym (append-nil lines))
 
 -- THE OUTPUT
 
-last-push : (lines : List (List ℕ)) (line : List ℕ) → last_of (lines ++ line ∷ []) ≡ line
+pub last-push : (lines : List (List ℕ)) (line : List ℕ) → last_of (lines ++ line ∷ []) ≡ line
 last-push [] line = refl
 last-push (x ∷ []) line = refl
 last-push (x ∷ y ∷ ys) line = last-push (y ∷ ys) line
-
-pub misses-last : (before mid now : Option (List ℕ)) (texts : List (List ℕ)) (text : List ℕ) → Appends before mid (concat texts) → AppendsFront mid now text
-    → MissesLast before now (texts ++ text ∷ [])
-misses-last before mid now texts text done more = record {
-  front = concat texts ++ more.0;
-  rest = more.1;
-  due_is = concat-push texts text ∙ (ap (λ l. concat texts ++ l) more.2 ∙ sym (append_assoc (concat texts) more.0 more.1));
-  few = omega (arith, ap (λ l. length l) more.2, length-append more.0 more.1, ap (λ l. length l) (last-push texts text));
-  appended = Appends-trans before mid now (concat texts) more.0 done more.3;
-}
 
 pub misses-none : (before now : Option (List ℕ)) (texts : List (List ℕ)) → Appends before now (concat texts) → MissesLast before now texts
 misses-none before now texts done = record { front = concat texts; rest = []; due_is = sym (append-nil (concat texts)); few = omega arith; appended = done }

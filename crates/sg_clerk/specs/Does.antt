@@ -6,7 +6,7 @@ use Rattle.sg_keeper.specs.declared.rows.Rows.{Rows}
 use Rattle.sg_keeper.specs.declared.setup.Setup.{Setup}
 use Rattle.sg_talk.specs.Talk.{Exchange, Talk, stores_in}
 use Rattle.sg_histories.specs.Histories.{Entry}
-use Rattle.sg_turns.specs.Turns.{AskTurn}
+use Rattle.sg_talk.specs.Turns.{AskTurn}
 use Rattle.sg_clerk.specs.Ends.{HasFailed, Moment, answer_line, input_at, out_at}
 use Rattle.sg_clerk.specs.Lines.{AreFirstLines, EndsSo}
 use Rattle.sg_clerk.specs.Taken.{TookLines}

@@ -82,6 +82,16 @@ pub record MissesLast (before now : Option (List ℕ)) (due : List (List ℕ)) :
   pub few : length rest ≤ length (last_of due)
   pub appended : Appends before now front
 
+-- of these lines the last was cut: it is missing, or a front of it was written
+pub record CutsLast (before now : Option (List ℕ)) (lines : List (List ℕ)) : Type 0 where
+  pub whole : List (List ℕ)
+  pub last : List ℕ
+  pub front : List ℕ
+  pub rest : List ℕ
+  pub lines_are : lines ≡ whole ++ last ∷ []
+  pub last_is : last ≡ front ++ rest
+  pub written : Appends before now (concat whole ++ front)
+
 -- WHAT IS WRITTEN
 
 -- a talk ends at a line that was cut: its write failed behind a front of it, or memory was wanted for it

@@ -9,8 +9,8 @@ use Rattle.sg_talk.specs.Talk.{Exchange, Talk}
 use Rattle.sg_histories.specs.Histories.{Entry}
 use Rattle.sg_histories.specs.Lawful.{Lawful}
 use Rattle.sg_histories.specs.ValidRows.{Whole, opening}
-use Rattle.sg_turns.specs.Laws.{GrowsTo}
-use Rattle.sg_turns.specs.Turns.{AskTurn}
+use Rattle.sg_talk.specs.Laws.{GrowsTo}
+use Rattle.sg_talk.specs.Turns.{AskTurn}
 use Rattle.sg_sheet.specs.Sheet.{SheetLine, codes_line}
 use Rattle.sg_sheet.specs.Sheet.SheetLine.{Ballot, Codes}
 use Rattle.sg_clerk.specs.Shown.{IsDueOf, posted_of}

@@ -1,5 +1,6 @@
 -- The modules of definitions.
 pub mod Asked
+pub mod Asking
 pub mod Begun
 pub mod Does
 pub mod Ends
@@ -10,4 +11,6 @@ pub mod Sheet
 pub mod Shown
 pub mod Taken
 pub mod Talks
+pub mod scans
+pub mod calls
 pub mod inside

@@ -2,8 +2,11 @@
 //! keeper.
 #![tactic(auto)]
 
+mod asker;
 mod asking;
 mod begun;
+pub mod calls;
+mod conversing;
 mod ended;
 mod filling;
 pub mod laws;
@@ -12,11 +15,14 @@ mod opened;
 mod posted;
 mod printing;
 mod refusal;
+pub mod scans;
 mod shown;
 mod talk;
 
+pub use asker::{Asker, Stop};
 pub use asking::answer_asks;
 pub use begun::{Begun, begun_status, init};
+pub use conversing::converse;
 pub use ended::{Ending, Unfit, ending_status, put_line, refuse, write_answer};
 pub use filling::fill;
 pub use opened::{Closed, open_kept};

@@ -1,133 +1,119 @@
-//! The loop of `do`: it answers the lines of the input, one after another.
-ghost use Rattle.std.specs.Prelude.{◌≡◌, ◌≤◌, ℕ, [], List, IsOk, false};
+//! The lines of an input are asks of an office, and each is answered by a line.
+ghost use Rattle.std.specs.Prelude.{◌≡◌, List};
 ghost use Rattle.sg_plan.specs.Limits.{longest_ask};
+ghost use Rattle.sg_outside.specs.Streams.{seen};
 ghost use Rattle.sg_histories.specs.Histories.{Entry};
 ghost use Rattle.sg_histories.specs.Standing.{StandsFor};
 ghost use Rattle.sg_clerk.specs.Does.{Does};
-ghost use Rattle.sg_clerk.specs.inside.Steps.{EndsBehind, Steps, TakesNext, last_ending};
+ghost use Rattle.sg_clerk.specs.inside.LineAsks.{CutsNext, EndsBehind};
 
-use crate::ended::{Ending, Unfit, refuse, write_answer};
+use crate::asker::{Asker, Stop};
+use crate::conversing::converse;
+use crate::ended::{Ending, Unfit, write_answer};
 use sg_keeper::Keeper;
 use sg_office::Office;
 use sg_outside::{Got, Lines, Sink, Source};
 use sg_plan::NoMemory;
 use sg_plan::limits::{LONGEST_ASK, MOST_ASKS};
-use sg_turns::{answer_to, version_of};
+use sg_talk::{Answered, answer_to};
 use std::alloc::Global;
 
-/// Answers a line, and writes the answer. Where it is not written, the run ends so.
-fn take_line<K: Keeper, O: Sink>(
-    alloc: Global,
-    office: &mut Office,
-    line: &[u8],
-    keeper: &mut K,
-    out: &mut O,
-) -> Result<(), Ending>
-    ensures steps { (history : List Entry) → StandsFor office.old history
-        → Steps result office.old.setup office.new (K.tells keeper.old) (K.rows keeper.old) (K.rows keeper.new) line.now history
-        (record { written = O.written out.old; write_faults = O.faults out.old; keep_faults = K.faults keeper.old })
-        (record { written = O.written out.new; write_faults = O.faults out.new; keep_faults = K.faults keeper.new }) }
-    ensures setup { office.new.setup ≡ office.old.setup }
-    ensures told { K.tells keeper.old → K.tells keeper.new }
-    ensures keeper_later { K.faults keeper.old ≤ K.faults keeper.new }
-    ensures later { O.faults out.old ≤ O.faults out.new }
-{
-    let version = version_of(office);
-    match answer_to(alloc, office, keeper, line) {
-        Ok(answer) => write_answer(alloc, version, &answer, out),
-        Err(NoMemory) => Err(Ending::NoMemory),
+/// Asks what the lines of an input are.
+#[derive(Debug, Drop)]
+struct LineAsks {
+    lines: Lines,
+    /// How many more may be answered.
+    left: u32,
+}
+
+impl<S: Source> Asker<S> for LineAsks {
+    ghost use Rattle.std.specs.Prelude.{◌≡◌};
+    ghost use Rattle.sg_plan.specs.Limits.{longest_ask};
+    ghost use Rattle.sg_outside.specs.Streams.{seen};
+    ghost use Rattle.sg_talk.specs.Talk.{Exchange as LineExchange};
+    ghost use Rattle.sg_clerk.specs.inside.LineAsks.{LinesCame, LinesOver, by_lines};
+
+    type Reply = Answered;
+
+    ghost Exchange = { LineExchange };
+
+    ghost exchanging = { by_lines };
+
+    ghost came = { λ start first asks input exchanges.
+        LinesCame asks.lines asks.left (seen (S.left first) (S.faults first)) (seen (S.left input) (S.faults input)) exchanges };
+
+    ghost over = { λ start first asks input why exchanges.
+        LinesOver why (seen (S.left first) (S.faults first)) (seen (S.left input) (S.faults input)) exchanges };
+
+    ghost is_ready = { λ asks input. asks.lines.limit ≡ longest_ask };
+
+    ghost left_in = { λ asks input. asks.left };
+
+    fn ask<K: Keeper>(
+        &mut self,
+        alloc: Global,
+        input: &mut S,
+        office: &mut Office,
+        keeper: &mut K,
+    ) -> Result<Answered, Stop> {
+        if self.left == 0 {
+            return Err(end_behind(&mut self.lines, input));
+        }
+        self.left -= 1;
+        match cut_ask(&mut self.lines, input) {
+            Ok(()) => {}
+            Err(why) => return Err(why),
+        }
+        match answer_to(alloc, office, keeper, self.lines.text()) {
+            Ok(answer) => Ok(answer),
+            Err(NoMemory) => Err(Stop::NoMemory),
+        }
+    }
+
+    fn write_reply<O: Sink>(
+        alloc: Global,
+        version: u32,
+        reply: &Answered,
+        out: &mut O,
+    ) -> Result<(), Ending> {
+        write_answer(alloc, version, reply, out)
     }
 }
 
-/// How the run ends behind its last line, by what became of that.
-fn ended_by(step: Result<(), Ending>) -> Ending
-    ensures { result ≡ last_ending step }
-{
-    match step {
-        Ok(()) => Ending::Done,
-        Err(ending) => ending,
-    }
-}
-
-/// Answers the next line. Where there is none, or its answer is not written, or it is the last, the run ends so.
-fn take_next<S: Source, K: Keeper, O: Sink>(
-    alloc: Global,
-    office: &mut Office,
-    lines: &mut Lines,
-    input: &mut S,
-    keeper: &mut K,
-    out: &mut O,
-) -> Result<(), Ending>
-    requires goes_on { lines.old.is_over ≡ false }
-    requires limit { lines.old.limit ≡ longest_ask }
-    ensures takes { (history : List Entry) → StandsFor office.old history
-        → TakesNext result lines.old lines.new office.old.setup office.new (K.tells keeper.old) (K.rows keeper.old) (K.rows keeper.new) history
-        (record { left = S.left input.old; written = O.written out.old; read_faults = S.faults input.old; write_faults = O.faults out.old; keep_faults = K.faults keeper.old })
-        (record { left = S.left input.new; written = O.written out.new; read_faults = S.faults input.new; write_faults = O.faults out.new; keep_faults = K.faults keeper.new }) }
-    ensures goes_on { IsOk result → lines.new.is_over ≡ false }
+/// Cuts the next line. Or says why there is none, or none that is no longer than it may be.
+fn cut_ask<S: Source>(lines: &mut Lines, input: &mut S) -> Result<(), Stop>
+    requires { lines.old.limit ≡ longest_ask }
+    ensures cuts { CutsNext result lines.old lines.new (seen (S.left input.old) (S.faults input.old)) (seen (S.left input.new) (S.faults input.new)) }
     ensures limit { lines.new.limit ≡ longest_ask }
-    ensures setup { office.new.setup ≡ office.old.setup }
-    ensures told { K.tells keeper.old → K.tells keeper.new }
-    ensures read_later { S.faults input.old ≤ S.faults input.new }
-    ensures keeper_later { K.faults keeper.old ≤ K.faults keeper.new }
-    ensures later { O.faults out.old ≤ O.faults out.new }
 {
     match lines.next(input) {
-        Got::Line => take_line(alloc, office, lines.text(), keeper, out),
-        Got::Part => Err(ended_by(take_line(alloc, office, lines.text(), keeper, out))),
-        Got::Long => Err(refuse(out, Unfit::Line)),
-        Got::End => Err(Ending::Done),
-        Got::ReadFault => Err(Ending::ReadFault),
+        Got::Line => Ok(()),
+        Got::Part => Ok(()),
+        Got::Long => Err(Stop::Unfit(Unfit::Line)),
+        Got::End => Err(Stop::Done),
+        Got::ReadFault => Err(Stop::ReadFault),
     }
 }
 
-/// How the run ends behind as many lines as may be answered: a byte more is refused.
-fn end_behind<S: Source, O: Sink>(lines: &mut Lines, input: &mut S, out: &mut O) -> Ending
-    requires goes_on { lines.old.is_over ≡ false }
-    requires limit { lines.old.limit ≡ longest_ask }
-    ensures ends { (keep_faults : ℕ) → EndsBehind result lines.old lines.new
-        (record { left = S.left input.old; written = O.written out.old; read_faults = S.faults input.old; write_faults = O.faults out.old; keep_faults = keep_faults })
-        (record { left = S.left input.new; written = O.written out.new; read_faults = S.faults input.new; write_faults = O.faults out.new; keep_faults = keep_faults }) }
-    ensures read_later { S.faults input.old ≤ S.faults input.new }
+/// Why no more lines come behind as many as may be answered: a byte more is refused.
+fn end_behind<S: Source>(lines: &mut Lines, input: &mut S) -> Stop
+    requires { lines.old.limit ≡ longest_ask }
+    ensures ends { EndsBehind result lines.old (seen (S.left input.old) (S.faults input.old)) (seen (S.left input.new) (S.faults input.new)) }
+    ensures limit { lines.new.limit ≡ longest_ask }
 {
     match lines.next(input) {
-        Got::Line => refuse(out, Unfit::Count),
-        Got::Part => refuse(out, Unfit::Count),
-        Got::Long => refuse(out, Unfit::Count),
-        Got::End => Ending::Done,
+        Got::Line => Stop::Unfit(Unfit::Count),
+        Got::Part => Stop::Unfit(Unfit::Count),
+        Got::Long => Stop::Unfit(Unfit::Count),
+        Got::End => Stop::Done,
         Got::ReadFault => {
             if lines.held().is_empty() {
-                Ending::ReadFault
+                Stop::ReadFault
             } else {
-                refuse(out, Unfit::Count)
+                Stop::Unfit(Unfit::Count)
             }
         }
     }
-}
-
-/// Answers the lines that the cutter gives, one after another.
-fn converse<S: Source, K: Keeper, O: Sink>(
-    alloc: Global,
-    office: &mut Office,
-    lines: &mut Lines,
-    input: &mut S,
-    keeper: &mut K,
-    out: &mut O,
-) -> Ending
-    requires fresh { lines.old ≡ record { limit = longest_ask; text = []; ahead = []; is_over = false } }
-    ensures does { (history : List Entry) → StandsFor office.old history
-        → Does result office.old.setup history (K.tells keeper.old) (K.rows keeper.old) (K.rows keeper.new)
-        (record { left = S.left input.old; written = O.written out.old; read_faults = S.faults input.old; write_faults = O.faults out.old; keep_faults = K.faults keeper.old })
-        (record { left = S.left input.new; written = O.written out.new; read_faults = S.faults input.new; write_faults = O.faults out.new; keep_faults = K.faults keeper.new }) }
-    ensures told { K.tells keeper.old → K.tells keeper.new }
-{
-    for _at in 0..MOST_ASKS {
-        match take_next(alloc, office, lines, input, keeper, out) {
-            Ok(()) => {}
-            Err(ending) => return ending,
-        }
-    }
-    end_behind(lines, input, out)
 }
 
 /// Answers the lines of the input, one after another: at most 100,000, of at most 65,536 bytes with their line feed. The
@@ -152,6 +138,9 @@ pub fn do_lines<S: Source, K: Keeper, O: Sink>(
     let Ok(lines) = Lines::new(alloc, LONGEST_ASK) else {
         return Ending::NoMemory;
     };
-    let mut lines = lines;
-    converse(alloc, office, &mut lines, input, keeper, out)
+    let mut asks = LineAsks {
+        lines,
+        left: MOST_ASKS,
+    };
+    converse(alloc, office, &mut asks, input, keeper, out)
 }

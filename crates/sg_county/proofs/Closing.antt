@@ -21,8 +21,8 @@ use Rattle.sg_grammar.specs.declared.state.Head.{Head}
 use Rattle.sg_grammar.specs.declared.state.Head.TheVariants as head
 use Rattle.sg_grammar.specs.declared.state.Part.{Part}
 use Rattle.sg_grammar.specs.declared.state.Slot.{Slot}
-use Rattle.sg_pass.specs.FirstSeal.{first_seal}
-use Rattle.sg_pass.specs.Pass.{is_behind_plan}
+use Rattle.sg_judge.specs.FirstSeal.{first_seal}
+use Rattle.sg_judge.specs.Pass.{is_behind_plan}
 
 -- A GOOD PART HAS A PLAN
 

@@ -8,8 +8,8 @@ use Rattle.sg_grammar.proofs.Walking.{walk-empty}
 use Rattle.sg_grammar.specs.Left.{lines_left}
 use Rattle.sg_grammar.specs.Walk.{Next, Walked, start}
 use Rattle.sg_check.specs.declared.judged.Kind.{Kind}
-use Rattle.sg_pass.specs.Pass.{AreKept as PassKept, Judges as PassJudges, StandsFor as HasTaken, is_open as is_fine_so_far, left_in as lines_left_in}
-use Rattle.sg_pass.specs.declared.pass.Pass.{Pass}
+use Rattle.sg_judge.specs.Pass.{AreKept as PassKept, Judges as PassJudges, StandsFor as HasTaken, is_open as is_fine_so_far, left_in as lines_left_in}
+use Rattle.sg_judge.specs.declared.pass.Pass.{Pass}
 use Rattle.sg_county.specs.County.{most_parts}
 use Rattle.sg_county.specs.Tally.{is_more, left_in}
 use Rattle.sg_county.specs.inside.Going.{added_by, closed, settled_by, step_behind}

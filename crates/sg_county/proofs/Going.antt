@@ -24,9 +24,9 @@ use Rattle.sg_county.specs.declared.kept.Kept.{Kept}
 use Rattle.sg_county.specs.declared.tally.Tally.{Tally}
 use Rattle.sg_county.specs.declared.verdict.CountyVerdict.{CountyVerdict}
 use Rattle.sg_county.specs.declared.verdict.CountyVerdict.TheVariants.{Yes, No, Differs, Repeats, Parts}
-use Rattle.sg_pass.specs.Pass.{StandsFor as HasTaken, is_open as is_fine_so_far}
-use Rattle.sg_pass.specs.declared.pass.Pass.{Pass}
-use Rattle.sg_pass.specs.declared.pass.Step.TheVariants.{More, Over}
+use Rattle.sg_judge.specs.Pass.{StandsFor as HasTaken, is_open as is_fine_so_far}
+use Rattle.sg_judge.specs.declared.pass.Pass.{Pass}
+use Rattle.sg_judge.specs.declared.pass.Step.TheVariants.{More, Over}
 
 -- A TALLY IN WHICH NOTHING IS SETTLED
 

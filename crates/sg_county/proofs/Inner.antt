@@ -14,10 +14,10 @@ use Rattle.sg_county.specs.Tally.{AreKept, AreParts, IsSettled, Judges, Says, St
 use Rattle.sg_county.specs.declared.tally.Tally.{Tally}
 use Rattle.sg_county.specs.declared.verdict.CountyVerdict.{CountyVerdict}
 use Rattle.sg_county.specs.declared.verdict.CountyVerdict.TheVariants.{No}
-use Rattle.sg_pass.specs.Pass.{Judges as PassJudges, SaysBehind, StandsFor as HasTaken, is_fine, is_open as is_fine_so_far}
-use Rattle.sg_pass.specs.declared.pass.Pass.{Pass}
-use Rattle.sg_pass.specs.declared.pass.Step.{Step}
-use Rattle.sg_pass.specs.declared.pass.Step.TheVariants.{More, Over, Ready}
+use Rattle.sg_judge.specs.Pass.{Judges as PassJudges, SaysBehind, StandsFor as HasTaken, is_fine, is_open as is_fine_so_far}
+use Rattle.sg_judge.specs.declared.pass.Pass.{Pass}
+use Rattle.sg_judge.specs.declared.pass.Step.{Step}
+use Rattle.sg_judge.specs.declared.pass.Step.TheVariants.{More, Over, Ready}
 
 -- a pass that has found a bad line knows it
 bad_known : (pass : Pass) (part : List (List ℕ)) → HasTaken pass part → is_fine_so_far pass ≡ false → (k : Kind) × IsFirstBad part pass.number k

@@ -17,8 +17,8 @@ use Rattle.sg_county.specs.declared.ending.Close.TheVariants as close
 use Rattle.sg_county.specs.declared.ending.Found.{Found}
 use Rattle.sg_county.specs.declared.kept.Kept.{Kept}
 use Rattle.sg_county.specs.declared.verdict.CountyVerdict.{CountyVerdict}
-use Rattle.sg_pass.specs.Pass.{StandsFor as HasTaken, is_open as is_fine_so_far}
-use Rattle.sg_pass.specs.declared.pass.Pass.{Pass}
+use Rattle.sg_judge.specs.Pass.{StandsFor as HasTaken, is_open as is_fine_so_far}
+use Rattle.sg_judge.specs.declared.pass.Pass.{Pass}
 
 -- so many seals are kept at most
 pub few_seals : (pass : Pass) (kept : Kept) → IsSomeLast pass kept → length kept.seals < most_parts

@@ -3,7 +3,7 @@ use Rattle.std.proofs.Common.{◌≡◌, ℕ, Bool, true, false, List, [], ◌�
 use Rattle.sg_county.specs.County.{is_next}
 use Rattle.sg_county.specs.Tally.{Says, StandsFor}
 use Rattle.sg_county.specs.declared.tally.Tally.{Tally}
-use Rattle.sg_pass.specs.declared.pass.Step.{Step}
+use Rattle.sg_judge.specs.declared.pass.Step.{Step}
 
 -- a tally is over or open
 pub never_both : (P : Type 0) (b : Bool) → b ≡ true → b ≡ false → P

@@ -9,8 +9,8 @@ use Rattle.sg_county.specs.County.{races_of}
 use Rattle.sg_county.specs.inside.Keeping.{FirstRaces, IsFound, IsNoted, Keeps}
 use Rattle.sg_county.specs.declared.ending.Found.{Found}
 use Rattle.sg_county.specs.declared.kept.Kept.{Kept}
-use Rattle.sg_pass.specs.FirstSeal.{first_seal}
-use Rattle.sg_pass.specs.Pass.{is_behind_plan}
+use Rattle.sg_judge.specs.FirstSeal.{first_seal}
+use Rattle.sg_judge.specs.Pass.{is_behind_plan}
 use Rattle.sg_plan.specs.declared.plan.Race.{Race}
 
 -- the races that are kept: those given, or else those of before

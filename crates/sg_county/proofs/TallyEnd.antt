@@ -10,7 +10,7 @@ use Rattle.sg_county.specs.Tally.{AreKept, IsOver, IsRefusal, Judges, StandsFor,
 use Rattle.sg_county.specs.inside.Ending.{IsLast, IsSomeLast}
 use Rattle.sg_county.specs.declared.tally.Tally.{Tally}
 use Rattle.sg_county.specs.declared.verdict.CountyVerdict.{CountyVerdict}
-use Rattle.sg_pass.specs.Pass.{is_open as is_fine_so_far}
+use Rattle.sg_judge.specs.Pass.{is_open as is_fine_so_far}
 
 -- WHERE THE ANSWER WAS SETTLED
 

@@ -7,8 +7,8 @@ use Rattle.sg_check.specs.Verdict.{IsVerdict, totals_of}
 use Rattle.sg_check.specs.declared.judged.Judged.{Judged}
 use Rattle.sg_check.specs.declared.judged.Judged.TheVariants as judged
 use Rattle.sg_check.specs.declared.judged.Total.{Total}
-use Rattle.sg_pass.specs.FirstSeal.{first_seal}
-use Rattle.sg_pass.specs.Pass.{plan_of}
+use Rattle.sg_judge.specs.FirstSeal.{first_seal}
+use Rattle.sg_judge.specs.Pass.{plan_of}
 use Rattle.sg_county.specs.declared.verdict.CountyVerdict.{CountyVerdict}
 use Rattle.sg_county.specs.declared.verdict.CountyVerdict.TheVariants.{Yes, No, Differs, Repeats, Parts}
 

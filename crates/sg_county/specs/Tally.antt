@@ -1,9 +1,9 @@
 -- What a tally stands for, and what it says of the lines so far.
 use Rattle.std.specs.Prelude.{◌≡◌, ℕ, ◌+◌, ◌-◌, ◌*◌, ◌<◌, Bool, true, false, not, List, [], ◌∷◌, ◌++◌, length, Option, Some, None}
 use Rattle.sg_check.specs.Verdict.{AreFine}
-use Rattle.sg_pass.specs.Pass.{StandsFor as HasTaken, is_open as is_fine_so_far, left_in as lines_left_in}
-use Rattle.sg_pass.specs.declared.pass.Step.{Step}
-use Rattle.sg_pass.specs.declared.pass.Step.TheVariants.{More, Over, Ready}
+use Rattle.sg_judge.specs.Pass.{StandsFor as HasTaken, is_open as is_fine_so_far, left_in as lines_left_in}
+use Rattle.sg_judge.specs.declared.pass.Step.{Step}
+use Rattle.sg_judge.specs.declared.pass.Step.TheVariants.{More, Over, Ready}
 use Rattle.sg_county.specs.County.{AllCount, IsCounty, most_parts, parts_of}
 use Rattle.sg_county.specs.inside.Keeping.{Keeps}
 use Rattle.sg_county.specs.declared.verdict.CountyVerdict.{CountyVerdict}

@@ -1,7 +1,7 @@
 //! What a tally keeps of the parts that have ended.
 ghost use Rattle.std.specs.Prelude.{◌≡◌, ◌++◌, ◌+◌, ◌<◌, ◌==◌, ℕ, IfOk, List, [], ◌∷◌, length, None, OnErr, OnOk, Option, Some, true, false};
 ghost use Rattle.std.specs.Option.{option_map_or};
-ghost use Rattle.sg_pass.specs.Pass.{StandsFor as HasTaken, is_behind_plan, is_open as is_fine_so_far};
+ghost use Rattle.sg_judge.specs.Pass.{StandsFor as HasTaken, is_behind_plan, is_open as is_fine_so_far};
 ghost use Rattle.sg_county.specs.County.{most_parts, races_of};
 ghost use Rattle.sg_county.specs.inside.Keeping.{FitsBehind, IsFound, IsNoted, Keeps, more_sums};
 
@@ -10,7 +10,7 @@ use crate::seals::first_equal_seal;
 use crate::sums::added;
 use sg_check::Total;
 use sg_commit::Digest;
-use sg_pass::Pass;
+use sg_judge::Pass;
 use sg_plan::{Items, NoMemory, Race, copy_races, same_races};
 use std::alloc::Global;
 use std::mem;

@@ -5,14 +5,14 @@ ghost use Rattle.sg_county.specs.Tally.{IsRefusal};
 ghost use Rattle.sg_county.specs.inside.Ending.{IsLast, IsSomeLast, answer_of};
 ghost use Rattle.sg_county.specs.inside.Keeping.{Fits};
 ghost use Rattle.sg_forms.specs.Reading.{line_of};
-ghost use Rattle.sg_pass.specs.Pass.{is_open as is_fine_so_far};
+ghost use Rattle.sg_judge.specs.Pass.{is_open as is_fine_so_far};
 
 use crate::ending::{Close, bad_part, end_of};
 use crate::kept::Kept;
 use crate::sums::added;
 use crate::verdict::CountyVerdict;
 use sg_check::Total;
-use sg_pass::Pass;
+use sg_judge::Pass;
 use sg_plan::Items;
 
 /// The answer where the last part ends, behind parts of which this is kept.

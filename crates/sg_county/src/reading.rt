@@ -7,8 +7,8 @@ ghost use Rattle.sg_outside.specs.TextLines.{lines_of};
 
 use crate::tally::Tally;
 use crate::verdict::CountyVerdict;
+use sg_judge::Step;
 use sg_outside::line_end;
-use sg_pass::Step;
 use sg_plan::NoMemory;
 use std::alloc::Global;
 

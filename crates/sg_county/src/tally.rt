@@ -6,7 +6,7 @@ ghost use Rattle.sg_county.specs.Tally.{IsRefusal, Says, StandsFor, StandsForSom
 ghost use Rattle.sg_county.specs.inside.Ending.{IsLast, IsSomeLast};
 ghost use Rattle.sg_county.specs.inside.Going.{closed, settled_by, step_behind};
 ghost use Rattle.sg_county.specs.inside.Keeping.{Fits};
-ghost use Rattle.sg_pass.specs.Pass.{StandsFor as HasTaken, StandsForSome as HasTakenSome, SaysBehind, is_fine, is_open as is_fine_so_far, left_in as lines_left_in};
+ghost use Rattle.sg_judge.specs.Pass.{StandsFor as HasTaken, StandsForSome as HasTakenSome, SaysBehind, is_fine, is_open as is_fine_so_far, left_in as lines_left_in};
 ghost use Rattle.sg_forms.specs.Reading.{line_of};
 
 use crate::ending::{Close, end_of};
@@ -14,7 +14,7 @@ use crate::kept::Kept;
 use crate::last::{end_last, end_last_at_no_line};
 use crate::verdict::CountyVerdict;
 use sg_check::Judged;
-use sg_pass::{Pass, Step};
+use sg_judge::{Pass, Step};
 use sg_plan::NoMemory;
 use std::alloc::Global;
 use std::mem;

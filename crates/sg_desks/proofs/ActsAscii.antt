@@ -16,8 +16,8 @@ use Rattle.sg_forms.specs.Reading.{is_hex_sign}
 use Rattle.sg_forms.specs.Spelling.{IsCode, IsNumber}
 use Rattle.sg_forms.proofs.WordKinds.{hex_signs}
 use Rattle.sg_keeper.specs.Rows.{IsAscii}
-use Rattle.sg_keeper.specs.declared.asks.Act.{Act}
-use Rattle.sg_keeper.specs.declared.asks.Act.TheVariants as act
+use Rattle.sg_acts.specs.declared.asks.Act.{Act}
+use Rattle.sg_acts.specs.declared.asks.Act.TheVariants as act
 use Rattle.sg_desks.specs.Laws.{TextsAreAscii}
 use Rattle.sg_desks.specs.ActTexts.{HasCodes, HasNumbers, IsDraw, IsMark, act_text, codes_word, draw_word, mark_word, marks_text, paper_text}
 

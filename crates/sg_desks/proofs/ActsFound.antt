@@ -10,8 +10,8 @@ use Rattle.sg_forms.specs.Reading.{all_by, words_in}
 use Rattle.sg_forms.specs.Spelling.{IsNumber}
 use Rattle.sg_forms.proofs.FormsFound.{all_found}
 use Rattle.sg_forms.proofs.WordKinds.{IsKind, code_kind, number_kind}
-use Rattle.sg_keeper.specs.declared.asks.Act.{Act}
-use Rattle.sg_keeper.specs.declared.asks.Act.TheVariants as act
+use Rattle.sg_acts.specs.declared.asks.Act.{Act}
+use Rattle.sg_acts.specs.declared.asks.Act.TheVariants as act
 use Rattle.sg_desks.specs.Laws.{ActsAreSpelled}
 use Rattle.sg_desks.specs.ActReading.{act_in, claim_by, close_by, drawn_of, form_of, list_by, list_of, mark_of, one_by}
 use Rattle.sg_desks.specs.ActTexts.{IsAct, act_text, act_words}

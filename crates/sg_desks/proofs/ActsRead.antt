@@ -7,8 +7,8 @@ use Rattle.sg_forms.proofs.FormsRead.{all_read}
 use Rattle.sg_forms.proofs.LineLaws.{words_joined}
 use Rattle.sg_forms.proofs.Plain.{ArePlain, plain_list}
 use Rattle.sg_forms.proofs.WordKinds.{IsInk, code_kind, literal_plain, number_kind}
-use Rattle.sg_keeper.specs.declared.asks.Act.{Act}
-use Rattle.sg_keeper.specs.declared.asks.Act.TheVariants as act
+use Rattle.sg_acts.specs.declared.asks.Act.{Act}
+use Rattle.sg_acts.specs.declared.asks.Act.TheVariants as act
 use Rattle.sg_desks.specs.Laws.{ActsAreRead, TextsDiffer}
 use Rattle.sg_desks.specs.ActReading.{act_in, form_of}
 use Rattle.sg_desks.specs.ActTexts.{IsAct, act_text, act_words, codes_word, draw_word, mark_word}

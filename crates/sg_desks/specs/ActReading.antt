@@ -9,8 +9,8 @@ use Rattle.sg_plan.specs.declared.plan.Mark.{Mark}
 use Rattle.sg_lines.specs.Parts.{parts_of}
 use Rattle.sg_lines.specs.Words.{code_of, decimal_of, hex_of}
 use Rattle.sg_forms.specs.Reading.{all_by, words_in}
-use Rattle.sg_keeper.specs.declared.asks.Act.{Act}
-use Rattle.sg_keeper.specs.declared.asks.Act.TheVariants as act
+use Rattle.sg_acts.specs.declared.asks.Act.{Act}
+use Rattle.sg_acts.specs.declared.asks.Act.TheVariants as act
 
 -- WORDS
 

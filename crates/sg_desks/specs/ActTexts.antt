@@ -7,8 +7,8 @@ use Rattle.sg_plan.specs.declared.plan.Draw.TheVariants as draw
 use Rattle.sg_plan.specs.declared.plan.Mark.{Mark}
 use Rattle.sg_lines.specs.Words.{code_word, decimal, encode_lower}
 use Rattle.sg_forms.specs.Spelling.{IsCode, IsNumber}
-use Rattle.sg_keeper.specs.declared.asks.Act.{Act}
-use Rattle.sg_keeper.specs.declared.asks.Act.TheVariants as act
+use Rattle.sg_acts.specs.declared.asks.Act.{Act}
+use Rattle.sg_acts.specs.declared.asks.Act.TheVariants as act
 
 -- THE TEXT
 

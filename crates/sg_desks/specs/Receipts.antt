@@ -5,7 +5,7 @@ use Rattle.sg_plan.specs.Ballots.{ballot_row, races_of_ballot}
 use Rattle.sg_plan.specs.declared.plan.Fate.{Fate}
 use Rattle.sg_plan.specs.declared.plan.Plan.{Plan}
 use Rattle.sg_tables.specs.Posts.{posted_codes}
-use Rattle.sg_keeper.specs.declared.replies.CodeSeen.{CodeSeen}
+use Rattle.sg_acts.specs.declared.replies.CodeSeen.{CodeSeen}
 
 -- a code of a race
 abbrev pub code_seen : ℕ → ℕ → CodeSeen

@@ -7,7 +7,7 @@ ghost use Rattle.sg_desks.specs.Receipts.{code_seen, posted_of};
 ghost use Rattle.sg_desks.specs.inside.Races.{posted_among};
 
 use crate::races::{races_in, row_in};
-use sg_keeper::CodeSeen;
+use sg_acts::CodeSeen;
 use sg_plan::{BallotIndex, ClaimWord, Fate, Items, NoMemory};
 use sg_tables::Tables;
 use std::alloc::Global;

@@ -3,10 +3,10 @@ ghost use Rattle.std.specs.Prelude.{◌≡◌, ◌*◌, ◌<◌, ◌≤◌, ◌�
 ghost use Rattle.sg_lines.specs.Words.{code_word, encode_lower};
 ghost use Rattle.sg_forms.specs.Spelling.{IsCode, IsNumber};
 ghost use Rattle.sg_keeper.specs.Rows.{IsAscii};
-ghost use Rattle.sg_keeper.specs.declared.asks.Act.TheVariants as act;
+ghost use Rattle.sg_acts.specs.declared.asks.Act.TheVariants as act;
 ghost use Rattle.sg_desks.specs.ActTexts.{HasCodes, HasNumbers, IsDraw, IsMark, act_text, behind, codes_word, draw_word, mark_word, marks_text, paper_text};
 
-use sg_keeper::Act;
+use sg_acts::Act;
 use sg_lines::{write_code, write_decimal, write_hex};
 use sg_plan::{Draw, Items, Mark, NoMemory, Paper, Word};
 use std::alloc::Global;

@@ -10,8 +10,8 @@ use Rattle.sg_plan.specs.declared.plan.Stage.{Stage}
 use Rattle.sg_plan.specs.declared.plan.Stage.TheVariants as stage
 use Rattle.sg_plan.proofs.Counting.{count_by-append}
 use Rattle.sg_keeper.specs.Rows.{ballot_before, ballot_is, done_before, done_is, put, void_before, void_is, with_row}
-use Rattle.sg_keeper.specs.declared.asks.Act.{Act}
-use Rattle.sg_keeper.specs.declared.asks.Act.TheVariants as act
+use Rattle.sg_acts.specs.declared.asks.Act.{Act}
+use Rattle.sg_acts.specs.declared.asks.Act.TheVariants as act
 use Rattle.sg_keeper.specs.declared.rows.BallotRow.{BallotRow}
 use Rattle.sg_keeper.specs.declared.rows.ClaimRow.{ClaimRow}
 use Rattle.sg_keeper.specs.declared.rows.DoneRow.{DoneRow}

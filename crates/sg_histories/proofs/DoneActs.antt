@@ -7,16 +7,16 @@ use Rattle.sg_plan.specs.Ballots.{ballot_has, candidates_of, races_of_ballot}
 use Rattle.sg_plan.specs.Fates.{has_mark}
 use Rattle.sg_plan.specs.Limits.{fault_of, first_bad}
 use Rattle.sg_plan.specs.declared.plan.Plan.{Plan}
-use Rattle.sg_keeper.specs.declared.asks.Act.{Act}
-use Rattle.sg_keeper.specs.declared.asks.Act.TheVariants as act
-use Rattle.sg_keeper.specs.declared.asks.Ask.{Ask}
-use Rattle.sg_keeper.specs.declared.asks.Ask.TheVariants as ask
-use Rattle.sg_keeper.specs.declared.asks.Stamp.{Stamp}
-use Rattle.sg_keeper.specs.declared.replies.Body.{Body}
-use Rattle.sg_keeper.specs.declared.replies.FateWord.{FateWord}
-use Rattle.sg_keeper.specs.declared.replies.Phase.{Phase}
-use Rattle.sg_keeper.specs.declared.replies.Reply.{Reply}
-use Rattle.sg_keeper.specs.declared.replies.Reply.TheVariants as reply
+use Rattle.sg_acts.specs.declared.asks.Act.{Act}
+use Rattle.sg_acts.specs.declared.asks.Act.TheVariants as act
+use Rattle.sg_acts.specs.declared.asks.Ask.{Ask}
+use Rattle.sg_acts.specs.declared.asks.Ask.TheVariants as ask
+use Rattle.sg_acts.specs.declared.asks.Stamp.{Stamp}
+use Rattle.sg_acts.specs.declared.replies.Body.{Body}
+use Rattle.sg_acts.specs.declared.replies.FateWord.{FateWord}
+use Rattle.sg_acts.specs.declared.replies.Phase.{Phase}
+use Rattle.sg_acts.specs.declared.replies.Reply.{Reply}
+use Rattle.sg_acts.specs.declared.replies.Reply.TheVariants as reply
 use Rattle.sg_keeper.specs.declared.setup.Setup.{Setup}
 use Rattle.sg_desks.specs.ActTexts.{IsAct, act_text}
 use Rattle.sg_desks.proofs.ActsRead.{texts_differ}

@@ -13,11 +13,11 @@ use Rattle.sg_plan.specs.declared.plan.Mark.{Mark}
 use Rattle.sg_plan.specs.declared.plan.Plan.{Plan}
 use Rattle.sg_plan.specs.declared.plan.Race.{Race}
 use Rattle.sg_plan.proofs.PlanLaws.{bounds}
-use Rattle.sg_keeper.specs.declared.asks.Act.TheVariants as act
-use Rattle.sg_keeper.specs.declared.replies.FateWord.TheVariants as word
-use Rattle.sg_keeper.specs.declared.replies.Phase.TheVariants as phase
-use Rattle.sg_keeper.specs.declared.replies.Reply.{Reply}
-use Rattle.sg_keeper.specs.declared.replies.Reply.TheVariants as reply
+use Rattle.sg_acts.specs.declared.asks.Act.TheVariants as act
+use Rattle.sg_acts.specs.declared.replies.FateWord.TheVariants as word
+use Rattle.sg_acts.specs.declared.replies.Phase.TheVariants as phase
+use Rattle.sg_acts.specs.declared.replies.Reply.{Reply}
+use Rattle.sg_acts.specs.declared.replies.Reply.TheVariants as reply
 use Rattle.sg_histories.specs.Answers.{early_refusal, scan_refusal}
 use Rattle.sg_histories.specs.ValidRows.{fits}
 use Rattle.sg_histories.proofs.Accepted.{first_none}

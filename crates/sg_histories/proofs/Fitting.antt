@@ -9,13 +9,13 @@ use Rattle.sg_plan.specs.Codes.{codes_of}
 use Rattle.sg_plan.specs.declared.plan.Mark.{Mark}
 use Rattle.sg_plan.specs.declared.plan.Plan.{Plan}
 use Rattle.sg_lines.specs.Words.{decimal}
-use Rattle.sg_keeper.specs.declared.asks.Act.{Act}
-use Rattle.sg_keeper.specs.declared.asks.Act.TheVariants as act
-use Rattle.sg_keeper.specs.declared.replies.FateWord.{FateWord}
-use Rattle.sg_keeper.specs.declared.replies.FateWord.TheVariants as word
-use Rattle.sg_keeper.specs.declared.replies.Phase.{Phase}
-use Rattle.sg_keeper.specs.declared.replies.Phase.TheVariants as phase
-use Rattle.sg_keeper.specs.declared.replies.Reply.TheVariants as reply
+use Rattle.sg_acts.specs.declared.asks.Act.{Act}
+use Rattle.sg_acts.specs.declared.asks.Act.TheVariants as act
+use Rattle.sg_acts.specs.declared.replies.FateWord.{FateWord}
+use Rattle.sg_acts.specs.declared.replies.FateWord.TheVariants as word
+use Rattle.sg_acts.specs.declared.replies.Phase.{Phase}
+use Rattle.sg_acts.specs.declared.replies.Phase.TheVariants as phase
+use Rattle.sg_acts.specs.declared.replies.Reply.TheVariants as reply
 use Rattle.sg_keeper.specs.declared.setup.Setup.{Setup}
 use Rattle.sg_desks.specs.ActTexts.{act_text, codes_word, mark_word}
 use Rattle.sg_histories.specs.Answers.{audit_refusal, claim_refusal, early_refusal, fits_draw, fits_races, is_ballot, is_closed, is_drawn, is_unused, is_voting, refusal_of, scan_refusal, unless}

@@ -22,11 +22,11 @@ use Rattle.sg_plan.proofs.FateLists.{has_among}
 use Rattle.sg_streams.specs.Numbers.{numbers_below}
 use Rattle.sg_forms.specs.Spelling.{IsCode}
 use Rattle.sg_record.specs.Formed.{is_draw}
-use Rattle.sg_keeper.specs.declared.asks.Act.{Act}
-use Rattle.sg_keeper.specs.declared.asks.Act.TheVariants as act
-use Rattle.sg_keeper.specs.declared.replies.FateWord.TheVariants as word
-use Rattle.sg_keeper.specs.declared.replies.Phase.TheVariants as phase
-use Rattle.sg_keeper.specs.declared.replies.Reply.TheVariants as reply
+use Rattle.sg_acts.specs.declared.asks.Act.{Act}
+use Rattle.sg_acts.specs.declared.asks.Act.TheVariants as act
+use Rattle.sg_acts.specs.declared.replies.FateWord.TheVariants as word
+use Rattle.sg_acts.specs.declared.replies.Phase.TheVariants as phase
+use Rattle.sg_acts.specs.declared.replies.Reply.TheVariants as reply
 use Rattle.sg_keeper.specs.declared.setup.Setup.{Setup}
 use Rattle.sg_post.specs.Fits.{claim_fits, fates_fit, stage_fits}
 use Rattle.sg_post.specs.declared.story.Claimed.{Claimed}

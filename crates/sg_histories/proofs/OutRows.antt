@@ -10,9 +10,9 @@ use Rattle.sg_plan.specs.declared.plan.Plan.{Plan}
 use Rattle.sg_plan.specs.declared.plan.Stage.{Stage}
 use Rattle.sg_plan.specs.declared.plan.Stage.TheVariants as stage
 use Rattle.sg_keeper.specs.Rows.{ballot_before, ballot_is, is_new, put, stage_before, with_row}
-use Rattle.sg_keeper.specs.declared.asks.Act.{Act}
-use Rattle.sg_keeper.specs.declared.asks.Act.TheVariants as act
-use Rattle.sg_keeper.specs.declared.replies.Reply.TheVariants as reply
+use Rattle.sg_acts.specs.declared.asks.Act.{Act}
+use Rattle.sg_acts.specs.declared.asks.Act.TheVariants as act
+use Rattle.sg_acts.specs.declared.replies.Reply.TheVariants as reply
 use Rattle.sg_keeper.specs.declared.rows.BallotRow.{BallotRow}
 use Rattle.sg_keeper.specs.declared.rows.StageRow.{StageRow}
 use Rattle.sg_keeper.specs.declared.setup.Setup.{Setup}

@@ -11,8 +11,8 @@ use Rattle.sg_plan.specs.declared.plan.Fate.TheVariants as fate
 use Rattle.sg_plan.specs.declared.plan.Mark.{Mark}
 use Rattle.sg_plan.specs.declared.plan.Plan.{Plan}
 use Rattle.sg_keeper.specs.Rows.{ballot_before, ballot_is, done_before, is_new, put, void_before, void_is, with_row}
-use Rattle.sg_keeper.specs.declared.asks.Act.{Act}
-use Rattle.sg_keeper.specs.declared.asks.Act.TheVariants as act
+use Rattle.sg_acts.specs.declared.asks.Act.{Act}
+use Rattle.sg_acts.specs.declared.asks.Act.TheVariants as act
 use Rattle.sg_keeper.specs.declared.rows.BallotRow.{BallotRow}
 use Rattle.sg_keeper.specs.declared.rows.DoneRow.{DoneRow}
 use Rattle.sg_keeper.specs.declared.rows.Rows.{Rows}

@@ -11,10 +11,10 @@ use Rattle.sg_plan.specs.declared.plan.Mark.{Mark}
 use Rattle.sg_plan.specs.declared.plan.Plan.{Plan}
 use Rattle.sg_plan.proofs.PlanLaws.{bounds}
 use Rattle.sg_forms.proofs.WordKinds.{bytes_everywhere, bytes_in_list}
-use Rattle.sg_keeper.specs.declared.asks.Act.{Act}
-use Rattle.sg_keeper.specs.declared.asks.Act.TheVariants as act
-use Rattle.sg_keeper.specs.declared.replies.FateWord.TheVariants as word
-use Rattle.sg_keeper.specs.declared.replies.Phase.TheVariants as phase
+use Rattle.sg_acts.specs.declared.asks.Act.{Act}
+use Rattle.sg_acts.specs.declared.asks.Act.TheVariants as act
+use Rattle.sg_acts.specs.declared.replies.FateWord.TheVariants as word
+use Rattle.sg_acts.specs.declared.replies.Phase.TheVariants as phase
 use Rattle.sg_desks.specs.ActTexts.{HasNumbers, IsMark}
 use Rattle.sg_desks.proofs.ActsFound.{acts_are_spelled}
 use Rattle.sg_desks.proofs.ActsRead.{acts_are_read}

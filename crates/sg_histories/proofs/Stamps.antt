@@ -6,8 +6,8 @@ use Rattle.std.specs.Prelude.{pos}
 use Rattle.std.proofs.lemmas.Bool.{and_parts}
 use Rattle.std.proofs.lemmas.Bool.Decides.{nat_tests}
 use Rattle.sg_keeper.specs.Rows.{done_before, put}
-use Rattle.sg_keeper.specs.declared.asks.Act.{Act}
-use Rattle.sg_keeper.specs.declared.asks.Stamp.{Stamp}
+use Rattle.sg_acts.specs.declared.asks.Act.{Act}
+use Rattle.sg_acts.specs.declared.asks.Stamp.{Stamp}
 use Rattle.sg_keeper.specs.declared.rows.DoneRow.{DoneRow}
 use Rattle.sg_keeper.specs.declared.setup.Setup.{Setup}
 use Rattle.sg_desks.specs.ActTexts.{act_text}

@@ -1,10 +1,10 @@
 -- Lawful histories are those that come from the empty one by asks that can come.
 use Rattle.std.proofs.Common.{◌≡◌, ◌<◌, ◌^◌, Bool, true, false, List, [], ◌∷◌, refl, ap, sym, ◌∙◌, subst, if◌then◌else◌}
 use Rattle.std.proofs.lemmas.List.Elements.{All-cons, All-head, All-nil, All-tail}
-use Rattle.sg_keeper.specs.declared.asks.Act.{Act}
-use Rattle.sg_keeper.specs.declared.asks.Ask.{Ask}
-use Rattle.sg_keeper.specs.declared.asks.Ask.TheVariants as ask
-use Rattle.sg_keeper.specs.declared.asks.Stamp.{Stamp}
+use Rattle.sg_acts.specs.declared.asks.Act.{Act}
+use Rattle.sg_acts.specs.declared.asks.Ask.{Ask}
+use Rattle.sg_acts.specs.declared.asks.Ask.TheVariants as ask
+use Rattle.sg_acts.specs.declared.asks.Stamp.{Stamp}
 use Rattle.sg_keeper.specs.declared.setup.Setup.{Setup}
 use Rattle.sg_histories.specs.Answers.{accepts, entry_of, next_history}
 use Rattle.sg_histories.specs.Histories.{Entry}

@@ -2,8 +2,8 @@
 use Rattle.std.specs.List.{join_with_byte}
 use Rattle.std.specs.Prelude.{ℕ, ◌+◌, pos, List, [], ◌∷◌, length, map, Some}
 use Rattle.sg_keeper.specs.Rows.{with_change}
-use Rattle.sg_keeper.specs.declared.asks.Act.{Act}
-use Rattle.sg_keeper.specs.declared.asks.Act.TheVariants as act
+use Rattle.sg_acts.specs.declared.asks.Act.{Act}
+use Rattle.sg_acts.specs.declared.asks.Act.TheVariants as act
 use Rattle.sg_keeper.specs.declared.rows.Change.{Change}
 use Rattle.sg_keeper.specs.declared.rows.ChangeRow.{ChangeRow}
 use Rattle.sg_keeper.specs.declared.rows.ChangeRow.TheVariants as row

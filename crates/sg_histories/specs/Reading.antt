@@ -1,6 +1,6 @@
 -- What the laws of rows take of a reader of act texts (this project's rules for the office).
 use Rattle.std.specs.Prelude.{◌≡◌, ℕ, true, List, Option, Some}
-use Rattle.sg_keeper.specs.declared.asks.Act.{Act}
+use Rattle.sg_acts.specs.declared.asks.Act.{Act}
 use Rattle.sg_keeper.specs.declared.setup.Setup.{Setup}
 use Rattle.sg_desks.specs.ActTexts.{act_text}
 use Rattle.sg_histories.specs.Lawful.{IsAskable}

@@ -2,7 +2,7 @@
 use Rattle.std.specs.Prelude.{◌≡◌, ℕ, List, Option, Some, None}
 use Rattle.sg_plan.specs.Limits.{fault_of}
 use Rattle.sg_keeper.specs.SetupText.{IsMadeOfBytes, IsSetup, setup_text}
-use Rattle.sg_keeper.specs.declared.asks.Act.{Act}
+use Rattle.sg_acts.specs.declared.asks.Act.{Act}
 use Rattle.sg_keeper.specs.declared.rows.Rows.{Rows}
 use Rattle.sg_keeper.specs.declared.setup.Setup.{Setup}
 use Rattle.sg_desks.specs.ActReading.{act_in}

@@ -12,10 +12,10 @@ use Rattle.sg_plan.specs.declared.plan.Plan.{Plan}
 use Rattle.sg_lines.specs.Words.{decimal}
 use Rattle.sg_keeper.specs.Rows.{ballot_before, done_before, void_before}
 use Rattle.sg_keeper.specs.SetupReading.{setup_in}
-use Rattle.sg_keeper.specs.declared.asks.Act.{Act}
-use Rattle.sg_keeper.specs.declared.asks.Act.TheVariants as act
-use Rattle.sg_keeper.specs.declared.replies.FateWord.TheVariants as word
-use Rattle.sg_keeper.specs.declared.replies.Phase.TheVariants as phase
+use Rattle.sg_acts.specs.declared.asks.Act.{Act}
+use Rattle.sg_acts.specs.declared.asks.Act.TheVariants as act
+use Rattle.sg_acts.specs.declared.replies.FateWord.TheVariants as word
+use Rattle.sg_acts.specs.declared.replies.Phase.TheVariants as phase
 use Rattle.sg_keeper.specs.declared.rows.BallotRow.{BallotRow}
 use Rattle.sg_keeper.specs.declared.rows.ClaimRow.{ClaimRow}
 use Rattle.sg_keeper.specs.declared.rows.DoneRow.{DoneRow}

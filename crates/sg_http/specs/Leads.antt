@@ -10,8 +10,8 @@ use Rattle.sg_http.specs.declared.refusal.Verb.{Verb}
 use Rattle.sg_http.specs.declared.refusal.Verb.TheVariants.{Get, Post}
 use Rattle.sg_http.specs.declared.routes.Place.{Place}
 use Rattle.sg_http.specs.declared.routes.Place.TheVariants as place
-use Rattle.sg_keeper.specs.declared.asks.Look.{Look}
-use Rattle.sg_keeper.specs.declared.asks.Look.TheVariants as look
+use Rattle.sg_acts.specs.declared.asks.Look.{Look}
+use Rattle.sg_acts.specs.declared.asks.Look.TheVariants as look
 use Rattle.sg_http.specs.declared.asking.Asked.{Asked}
 use Rattle.sg_http.specs.declared.asking.Asked.TheVariants as asks
 use Rattle.sg_http.specs.Lengths.{length_of}

@@ -1,8 +1,8 @@
 -- What a connection got, and what the office was asked for by it (this project's rules for connections).
 use Rattle.std.specs.Prelude.{◌≡◌, ◌⊎◌, ℕ, ◌+◌, ◌-◌, ◌^◌, ◌<◌, ◌≤◌, Bool, true, false, List, [], ◌++◌, Option, None, Some, option_map}
 use Rattle.sg_links.specs.Board.{Board, Come, finishes, gets, on_current, takes}
-use Rattle.sg_keeper.specs.declared.asks.Ask.TheVariants as ask
-use Rattle.sg_keeper.specs.declared.replies.Reply.{Reply}
+use Rattle.sg_acts.specs.declared.asks.Ask.TheVariants as ask
+use Rattle.sg_acts.specs.declared.replies.Reply.{Reply}
 use Rattle.sg_keeper.specs.declared.rows.Rows.{Rows}
 use Rattle.sg_keeper.specs.declared.setup.Setup.{Setup}
 use Rattle.sg_talk.specs.Answers.{answer_status, text_of_answer}
@@ -13,7 +13,7 @@ use Rattle.sg_histories.specs.Histories.{Entry}
 use Rattle.sg_histories.specs.KeptRows.{rows_of}
 use Rattle.sg_histories.specs.Standing.{StandsFor}
 use Rattle.sg_histories.specs.declared.kept.Kept.{Kept}
-use Rattle.sg_turns.specs.Turns.{AskTurn}
+use Rattle.sg_talk.specs.Turns.{AskTurn}
 use Rattle.sg_http.specs.declared.refusal.Refusal.{Refusal}
 use Rattle.sg_http.specs.declared.refusal.Verb.{Verb}
 use Rattle.sg_http.specs.declared.serving.Served.{Served}

@@ -15,7 +15,7 @@ use crate::refusal::{Refusal, Verb};
 use crate::routes::{Place, Route, find_place};
 use httparse::spans::{HeaderSpan, RequestSpans};
 use matchit::Router;
-use sg_keeper::Look;
+use sg_acts::Look;
 
 /// What a head asks for.
 #[derive(Clone, Copy, Debug)]

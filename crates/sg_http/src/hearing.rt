@@ -17,7 +17,7 @@ use crate::refusal::Refusal;
 use crate::routes::Route;
 use httparse::spans::{HeaderSpan, RequestSpans};
 use matchit::Router;
-use sg_keeper::Look;
+use sg_acts::Look;
 use sg_links::Links;
 
 /// What a connection's bytes come to.

@@ -20,13 +20,13 @@ use crate::routes::Route;
 use crate::texts::{compose, memory_answer, refusal_allow, refusal_status, refusal_text};
 use httparse::spans::HeaderSpan;
 use matchit::Router;
-use sg_keeper::{Keeper, Look};
+use sg_acts::Look;
+use sg_keeper::Keeper;
 use sg_links::Links;
 use sg_office::Office;
 use sg_outside::Failed;
 use sg_plan::NoMemory;
-use sg_talk::Answered;
-use sg_turns::{answer_to, show_to, version_of};
+use sg_talk::{Answered, answer_to, show_to, version_of};
 use std::alloc::Global;
 
 /// How a connection was served.

@@ -4,8 +4,8 @@ use Rattle.std.proofs.Math.ListN.{drop_of_length-le}
 use Rattle.sg_outside.specs.TextLines.{lines_of}
 use Rattle.sg_check.specs.Verdict.{IsVerdict}
 use Rattle.sg_check.specs.declared.judged.Judged.{Judged}
-use Rattle.sg_pass.specs.Pass.{StandsFor, is_open}
-use Rattle.sg_pass.specs.declared.pass.Pass.{Pass}
+use Rattle.sg_judge.specs.Pass.{StandsFor, is_open}
+use Rattle.sg_judge.specs.declared.pass.Pass.{Pass}
 use Rattle.sg_judge.specs.inside.Feeding.{IsFed}
 
 -- the first lines, one more, and the others

@@ -1,2 +1,9 @@
--- How a pass is fed.
-pub mod Feeds
+mod Advancing
+mod Behind
+mod Ending
+mod Going
+mod Placing
+mod Reading
+mod Sealing
+mod FirstSeal
+mod Feeds

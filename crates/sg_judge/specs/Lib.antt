@@ -1,1 +1,3 @@
+pub mod FirstSeal
+pub mod Pass
 pub mod inside

@@ -3,12 +3,12 @@ ghost use Rattle.std.specs.Prelude.{◌≡◌, ◌≤◌, List, IfNone, IfOk, If
 ghost use Rattle.sg_outside.specs.TextLines.{lines_of};
 ghost use Rattle.sg_check.specs.Bounds.{IsSoundIfYes};
 ghost use Rattle.sg_check.specs.Verdict.{IsVerdict};
-ghost use Rattle.sg_pass.specs.Pass.{is_ready};
+ghost use Rattle.sg_judge.specs.Pass.{is_ready};
 ghost use Rattle.sg_judge.specs.inside.Feeding.{IsFed, IsSettled};
 
+use crate::pass::{Pass, Step};
 use sg_check::Judged;
 use sg_outside::line_end;
-use sg_pass::{Pass, Step};
 use sg_plan::NoMemory;
 use std::alloc::Global;
 

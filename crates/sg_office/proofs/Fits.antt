@@ -2,9 +2,9 @@
 use Rattle.std.proofs.Common.{◌≡◌, true, List, length, None}
 use Rattle.sg_plan.specs.Limits.{fault_of}
 use Rattle.sg_desks.specs.ActTexts.{HasNumbers}
-use Rattle.sg_keeper.specs.declared.asks.Act.{Act}
-use Rattle.sg_keeper.specs.declared.asks.Act.TheVariants as act
-use Rattle.sg_keeper.specs.declared.asks.Stamp.{Stamp}
+use Rattle.sg_acts.specs.declared.asks.Act.{Act}
+use Rattle.sg_acts.specs.declared.asks.Act.TheVariants as act
+use Rattle.sg_acts.specs.declared.asks.Stamp.{Stamp}
 use Rattle.sg_keeper.specs.declared.setup.Setup.{Setup}
 use Rattle.sg_histories.specs.Answers.{accepts, refusal_of}
 use Rattle.sg_histories.specs.Histories.{Entry, claims_of, phase_of}

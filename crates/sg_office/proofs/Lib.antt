@@ -1,4 +1,11 @@
 -- The lemmas, lowest first.
+mod Gathered
+mod Numbers
+mod Blocks
+mod Stations
+mod Moved
+pub mod TakenBack
+pub mod NewRows
 mod Unequal
 mod Pushed
 mod Fits

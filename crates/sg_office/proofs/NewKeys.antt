@@ -10,19 +10,19 @@ use Rattle.sg_plan.specs.declared.plan.Fate.TheVariants as fate
 use Rattle.sg_plan.specs.declared.plan.Stage.{Stage}
 use Rattle.sg_plan.specs.declared.plan.Stage.TheVariants as stage
 use Rattle.sg_keeper.specs.Rows.{IsNewChange, ballot_is, claim_before, claim_is, done_is, is_new, is_new_row, stage_is, with_row}
-use Rattle.sg_keeper.specs.declared.asks.Act.{Act}
-use Rattle.sg_keeper.specs.declared.asks.Act.TheVariants as act
-use Rattle.sg_keeper.specs.declared.asks.Stamp.{Stamp}
+use Rattle.sg_acts.specs.declared.asks.Act.{Act}
+use Rattle.sg_acts.specs.declared.asks.Act.TheVariants as act
+use Rattle.sg_acts.specs.declared.asks.Stamp.{Stamp}
 use Rattle.sg_keeper.specs.declared.rows.BallotRow.{BallotRow}
 use Rattle.sg_keeper.specs.declared.rows.ClaimRow.{ClaimRow}
 use Rattle.sg_histories.specs.Answers.{accepts, entry_of, is_cast, is_closed, is_voting, refusal_of, unless}
-use Rattle.sg_keeper.specs.declared.replies.Reply.TheVariants as reply
+use Rattle.sg_acts.specs.declared.replies.Reply.TheVariants as reply
 use Rattle.sg_histories.specs.Lawful.{Lawful}
 use Rattle.sg_histories.proofs.Accepted.{Passed, early, first_none, passed, unless_none, unused_is, voids}
 use Rattle.sg_histories.proofs.NewKeys.{any_put, apart, new_ballot, new_void}
 use Rattle.sg_histories.proofs.OutRows.{stage_rows, stages_out}
 use Rattle.sg_histories.proofs.Stamps.{new_number, rows_tell}
-use Rattle.sg_acts.proofs.NewRows.{new_row}
+use Rattle.sg_office.proofs.NewRows.{new_row}
 use Rattle.sg_office.proofs.Pushed.{length_pushed}
 use Rattle.sg_keeper.specs.declared.setup.Setup.{Setup}
 use Rattle.sg_histories.specs.Histories.{Entry, claims_after, claims_of, fate_of, fate_word, phase_of, phase_word, scanner_of, stage_of}

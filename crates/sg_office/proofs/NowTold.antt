@@ -11,15 +11,15 @@ use Rattle.sg_plan.specs.declared.plan.Fate.TheVariants as fate
 use Rattle.sg_plan.specs.declared.plan.Plan.{Plan}
 use Rattle.sg_streams.specs.Numbers.{numbers_below}
 use Rattle.sg_tables.specs.Posts.{right_word}
-use Rattle.sg_keeper.specs.declared.asks.Act.{Act}
-use Rattle.sg_keeper.specs.declared.asks.Act.TheVariants as act
-use Rattle.sg_keeper.specs.declared.asks.Look.{Look}
-use Rattle.sg_keeper.specs.declared.asks.Look.TheVariants as look
-use Rattle.sg_keeper.specs.declared.replies.Body.TheVariants as body
-use Rattle.sg_keeper.specs.declared.replies.FateWord.{FateWord}
-use Rattle.sg_keeper.specs.declared.replies.FateWord.TheVariants as word_of
-use Rattle.sg_keeper.specs.declared.replies.Phase.{Phase}
-use Rattle.sg_keeper.specs.declared.replies.Reply.TheVariants as reply
+use Rattle.sg_acts.specs.declared.asks.Act.{Act}
+use Rattle.sg_acts.specs.declared.asks.Act.TheVariants as act
+use Rattle.sg_acts.specs.declared.asks.Look.{Look}
+use Rattle.sg_acts.specs.declared.asks.Look.TheVariants as look
+use Rattle.sg_acts.specs.declared.replies.Body.TheVariants as body
+use Rattle.sg_acts.specs.declared.replies.FateWord.{FateWord}
+use Rattle.sg_acts.specs.declared.replies.FateWord.TheVariants as word_of
+use Rattle.sg_acts.specs.declared.replies.Phase.{Phase}
+use Rattle.sg_acts.specs.declared.replies.Reply.TheVariants as reply
 use Rattle.sg_keeper.specs.declared.setup.Setup.{Setup}
 use Rattle.sg_histories.specs.declared.kept.Slot.{Slot}
 use Rattle.sg_histories.specs.Answers.{body_of, body_with, close_refusal, draw_refusal, early_refusal, fits_races, first_of, is_ballot, is_cast, is_unused, is_voting, look_reply, receipt_of, refusal_of, unless, void_refusal}

@@ -8,7 +8,7 @@ use Rattle.sg_plan.specs.declared.plan.Fate.{Fate}
 use Rattle.sg_plan.specs.declared.plan.Fate.TheVariants as fate
 use Rattle.sg_plan.specs.declared.plan.Mark.{Mark}
 use Rattle.sg_keeper.specs.Rows.{done_before, put}
-use Rattle.sg_keeper.specs.declared.asks.Act.TheVariants as act
+use Rattle.sg_acts.specs.declared.asks.Act.TheVariants as act
 use Rattle.sg_keeper.specs.declared.setup.Setup.{Setup}
 use Rattle.sg_histories.specs.declared.kept.Slot.{Slot}
 use Rattle.sg_histories.specs.Histories.{Entry, claims_after, fate_of, scanner_of, stage_after}

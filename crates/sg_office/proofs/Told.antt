@@ -12,7 +12,7 @@ use Rattle.sg_plan.specs.declared.plan.Stage.{Stage}
 use Rattle.sg_streams.specs.Numbers.{numbers_below}
 use Rattle.sg_tables.specs.Posts.{right_word}
 use Rattle.sg_tables.proofs.Lists.{map_below-none, map_below-push}
-use Rattle.sg_keeper.specs.declared.asks.Act.TheVariants as act
+use Rattle.sg_acts.specs.declared.asks.Act.TheVariants as act
 use Rattle.sg_keeper.specs.declared.setup.Setup.{Setup}
 use Rattle.sg_post.proofs.Stories.{story-parts}
 use Rattle.sg_post.specs.Fits.{fates_fit, story_fits}

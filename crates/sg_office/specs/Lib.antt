@@ -1,2 +1,3 @@
 -- The modules of definitions.
+pub mod Acts
 pub mod inside

@@ -3,8 +3,8 @@ ghost use Rattle.std.specs.Prelude.{◌≡◌, ◌≢◌, ◌-◌, ◌<◌, ◌�
 ghost use Rattle.sg_outside.specs.Faults.{Rose};
 ghost use Rattle.sg_plan.specs.Ballots.{ballots_of};
 ghost use Rattle.sg_keeper.specs.Rows.{HasFaultCause, IsAscii, IsAsciiChange, IsNewChange, done_is, is_new, with_change};
-ghost use Rattle.sg_keeper.specs.declared.asks.Ask.TheVariants as asked;
-ghost use Rattle.sg_keeper.specs.declared.asks.Look.{Look as Seen};
+ghost use Rattle.sg_acts.specs.declared.asks.Ask.TheVariants as asked;
+ghost use Rattle.sg_acts.specs.declared.asks.Look.{Look as Seen};
 ghost use Rattle.sg_desks.specs.ActTexts.{act_text as text_of};
 ghost use Rattle.sg_histories.specs.Answers.{accepts, is_done};
 ghost use Rattle.sg_histories.specs.Histories.{Entry};
@@ -16,8 +16,9 @@ ghost use Rattle.sg_office.specs.inside.Ready.{Allows, FitsPart, IsReady, act_ch
 use crate::keeping::{keep, keep_claim};
 use crate::office::Office;
 use crate::ready::{Part, Ready, ready_change, ready_part};
+use sg_acts::{Act, Ask, Reply, Stamp};
 use sg_histories::{Claim, Slot};
-use sg_keeper::{Act, Ask, Change, KeepFault, Keeper, Reply, Stamp};
+use sg_keeper::{Change, KeepFault, Keeper};
 use sg_plan::{NoMemory, Stage, Word};
 use std::alloc::Global;
 

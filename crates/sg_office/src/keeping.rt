@@ -2,14 +2,14 @@
 ghost use Rattle.std.specs.Prelude.{◌≡◌, true, OnOk, OnErr, [], ◌∷◌, ◌++◌};
 ghost use Rattle.sg_keeper.specs.Rows.{HasFaultCause, IsAsciiChange, IsNewChange, done_before, done_is, is_new, put, with_change};
 
-use sg_acts::DoneList;
+use crate::done_list::DoneList;
 use sg_histories::Claim;
 use sg_keeper::{Change, KeepFault, Keeper};
 use sg_plan::Items;
 use std::alloc::Global;
 
 /// Keeps a change, and at its place a copy of its row of what was done. All memory is taken before the keeper is called.
-#[tactic(auto, using(sg_acts::proofs::TakenBack::taken_back))]
+#[tactic(auto, using(crate::proofs::TakenBack::taken_back))]
 pub fn keep<K: Keeper>(
     alloc: Global,
     dones: &mut DoneList,

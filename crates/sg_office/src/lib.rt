@@ -3,6 +3,7 @@
 
 mod accepting;
 mod answering;
+mod done_list;
 mod fresh;
 mod keeping;
 mod looks;
@@ -12,9 +13,11 @@ mod opening;
 mod papers;
 mod ready;
 mod refusals;
+mod run;
 mod slots;
 mod stamps;
 mod stories;
 
+pub use done_list::DoneList;
 pub use office::Office;
 pub use sg_open::OpenFault;

@@ -4,8 +4,8 @@ ghost use Rattle.sg_plan.specs.Ballots.{ballots_of};
 ghost use Rattle.sg_histories.specs.Answers.{receipt_of};
 
 use crate::slots::fate_word;
+use sg_acts::Receipt;
 use sg_desks::posted_codes;
-use sg_keeper::Receipt;
 use sg_plan::{BallotIndex, Fate, Items, NoMemory};
 use sg_tables::Tables;
 use std::alloc::Global;

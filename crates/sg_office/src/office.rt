@@ -7,8 +7,8 @@ ghost use Rattle.sg_histories.specs.Standing.{IsOffice, StandsFor};
 ghost use Rattle.sg_histories.specs.Stories.{story_of};
 ghost use Rattle.sg_office.specs.inside.Now.{story_now};
 
+use crate::done_list::DoneList;
 use crate::stories::{answer_claims, copy_stage, tell_fates};
-use sg_acts::DoneList;
 use sg_histories::laws::stories_law;
 use sg_histories::{Claim, Kept, Slot};
 use sg_keeper::Setup;

@@ -6,9 +6,10 @@ ghost use Rattle.sg_histories.specs.KeptRows.{row_of_act};
 ghost use Rattle.sg_office.specs.inside.Ready.{act_change, part_of};
 
 use crate::slots::scanner_at;
+use sg_acts::{Act, Stamp};
 use sg_desks::{draw_text, marks_text, paper_text};
 use sg_histories::{Claim, Slot};
-use sg_keeper::{Act, BallotRow, Change, ChangeRow, ClaimRow, DoneRow, StageRow, Stamp, VoidRow};
+use sg_keeper::{BallotRow, Change, ChangeRow, ClaimRow, DoneRow, StageRow, VoidRow};
 use sg_plan::{Fate, Items, NoMemory, Stage, Word, copy_paper};
 use std::alloc::Global;
 

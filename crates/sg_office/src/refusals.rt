@@ -4,7 +4,7 @@ ghost use Rattle.sg_histories.specs.Answers.{audit_refusal, claim_refusal, close
 
 use crate::marks::{first_in_no_race, first_of_no_candidate, first_twice};
 use crate::papers::fits_paper;
-use sg_keeper::{FateWord, Phase, Reply};
+use sg_acts::{FateWord, Phase, Reply};
 use sg_plan::limits::{MOST_CLAIMS, MOST_PUBLIC_BYTES};
 use sg_plan::{BallotIndex, Draw, Items, Mark, Paper};
 

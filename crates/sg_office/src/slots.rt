@@ -3,8 +3,8 @@ ghost use Rattle.std.specs.Prelude.{◌≡◌, ◌<◌, ◌≤◌, Some, length}
 ghost use Rattle.sg_histories.specs.Histories.{fate_word, phase_word};
 ghost use Rattle.sg_office.specs.inside.Now.{fate_at, scanner_at, slot_at, word_at};
 
+use sg_acts::{FateWord, Phase};
 use sg_histories::Slot;
-use sg_keeper::{FateWord, Phase};
 use sg_plan::{Fate, Items, Stage};
 
 /// A fate without its details.

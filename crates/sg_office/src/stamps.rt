@@ -2,7 +2,7 @@
 ghost use Rattle.std.specs.Prelude.{◌≡◌, bytes_eq};
 ghost use Rattle.sg_histories.specs.Answers.{knows_secret_of};
 
-use sg_keeper::Stamp;
+use sg_acts::Stamp;
 use sg_plan::Items;
 
 /// The two secrets are the same. All bytes are compared, wherever the first difference stands.

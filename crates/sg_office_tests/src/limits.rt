@@ -1,5 +1,5 @@
 //! Files that are as long as they may be, and others that are longer by one.
-use sg_batch::answer_scans;
+use sg_clerk::scans::answer_scans;
 use sg_clerk::{begun_status, init};
 use sg_keeper::{MemoryKeeper, Rows};
 use sg_outside::{Bytes, Page};

@@ -1,8 +1,8 @@
 //! The texts of two replies that no program of the gate is given.
 ghost use Rattle.sg_asks.specs.Replies.{HasPlainText, HasReplyCodes};
 
+use sg_acts::Reply;
 use sg_asks::reply_text;
-use sg_keeper::Reply;
 use sg_plan::NoMemory;
 use std::alloc::Global;
 

@@ -15,11 +15,11 @@ use Rattle.sg_plan.specs.declared.plan.Plan.{Plan}
 use Rattle.sg_plan.proofs.FateLists.{has_among}
 use Rattle.sg_plan.proofs.Lists.{first_bad-each}
 use Rattle.sg_forms.specs.Spelling.{IsCode}
-use Rattle.sg_keeper.specs.declared.asks.Act.TheVariants as act
-use Rattle.sg_keeper.specs.declared.replies.Reply.{Reply}
-use Rattle.sg_keeper.specs.declared.replies.Reply.TheVariants as reply
-use Rattle.sg_keeper.specs.declared.replies.FateWord.TheVariants as word
-use Rattle.sg_keeper.specs.declared.replies.Phase.TheVariants as phase
+use Rattle.sg_acts.specs.declared.asks.Act.TheVariants as act
+use Rattle.sg_acts.specs.declared.replies.Reply.{Reply}
+use Rattle.sg_acts.specs.declared.replies.Reply.TheVariants as reply
+use Rattle.sg_acts.specs.declared.replies.FateWord.TheVariants as word
+use Rattle.sg_acts.specs.declared.replies.Phase.TheVariants as phase
 use Rattle.sg_histories.specs.Answers.{early_refusal, first_of, fits_races, is_ballot}
 use Rattle.sg_histories.specs.ValidRows.{fits}
 

@@ -8,7 +8,7 @@ use Rattle.sg_plan.specs.Limits.{fault_of}
 use Rattle.sg_plan.specs.declared.plan.Plan.{Plan}
 use Rattle.sg_plan.proofs.PlanLaws.{bounds}
 use Rattle.sg_desks.proofs.BallotRaces.{race_within}
-use Rattle.sg_keeper.specs.declared.asks.Act.TheVariants as act
+use Rattle.sg_acts.specs.declared.asks.Act.TheVariants as act
 use Rattle.sg_keeper.specs.declared.rows.ClaimRow.{ClaimRow}
 use Rattle.sg_histories.specs.Answers.{is_ballot}
 use Rattle.sg_histories.specs.ValidRows.{natural}

@@ -12,8 +12,8 @@ use Rattle.sg_plan.specs.declared.plan.Plan.{Plan}
 use Rattle.sg_desks.specs.ActReading.{act_in}
 use Rattle.sg_desks.specs.ActTexts.{act_text, codes_word, mark_word}
 use Rattle.sg_keeper.specs.Rows.{ballot_before, put, void_before, with_row}
-use Rattle.sg_keeper.specs.declared.asks.Act.{Act}
-use Rattle.sg_keeper.specs.declared.asks.Act.TheVariants as act
+use Rattle.sg_acts.specs.declared.asks.Act.{Act}
+use Rattle.sg_acts.specs.declared.asks.Act.TheVariants as act
 use Rattle.sg_keeper.specs.declared.rows.BallotRow.{BallotRow}
 use Rattle.sg_keeper.specs.declared.rows.VoidRow.{VoidRow}
 use Rattle.sg_keeper.specs.declared.rows.Rows.{Rows}

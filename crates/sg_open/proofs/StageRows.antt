@@ -9,7 +9,7 @@ use Rattle.sg_plan.specs.Limits.{first_bad}
 use Rattle.sg_plan.specs.declared.plan.Plan.{Plan}
 use Rattle.sg_desks.specs.ActReading.{act_in}
 use Rattle.sg_desks.specs.ActTexts.{act_text}
-use Rattle.sg_keeper.specs.declared.asks.Act.TheVariants as act
+use Rattle.sg_acts.specs.declared.asks.Act.TheVariants as act
 use Rattle.sg_keeper.specs.declared.rows.StageRow.{StageRow}
 use Rattle.sg_histories.specs.ValidRows.{stage_keeps, stage_text}
 use Rattle.sg_open.specs.declared.stages.DrawTold.{DrawTold}

@@ -20,8 +20,8 @@ use Rattle.sg_desks.specs.ActTexts.{act_text, draw_word}
 use Rattle.sg_desks.proofs.ActsFound.{acts_are_spelled}
 use Rattle.sg_keeper.specs.Rows.{done_before, put}
 use Rattle.sg_keeper.specs.SetupText.{IsSetup}
-use Rattle.sg_keeper.specs.declared.asks.Act.{Act}
-use Rattle.sg_keeper.specs.declared.asks.Act.TheVariants as act
+use Rattle.sg_acts.specs.declared.asks.Act.{Act}
+use Rattle.sg_acts.specs.declared.asks.Act.TheVariants as act
 use Rattle.sg_keeper.specs.declared.rows.BallotRow.{BallotRow}
 use Rattle.sg_keeper.specs.declared.rows.DoneRow.{DoneRow}
 use Rattle.sg_keeper.specs.declared.rows.VoidRow.{VoidRow}

@@ -18,8 +18,8 @@ use Rattle.sg_lines.specs.Words.{decimal}
 use Rattle.sg_desks.specs.ActReading.{act_in}
 use Rattle.sg_desks.specs.ActTexts.{IsAct, act_text}
 use Rattle.sg_keeper.specs.Rows.{IsAscii, ballot_before}
-use Rattle.sg_keeper.specs.declared.asks.Act.{Act}
-use Rattle.sg_keeper.specs.declared.asks.Act.TheVariants as act
+use Rattle.sg_acts.specs.declared.asks.Act.{Act}
+use Rattle.sg_acts.specs.declared.asks.Act.TheVariants as act
 use Rattle.sg_keeper.specs.declared.rows.BallotRow.{BallotRow}
 use Rattle.sg_keeper.specs.declared.rows.ClaimRow.{ClaimRow}
 use Rattle.sg_keeper.specs.declared.rows.StageRow.{StageRow}

@@ -11,7 +11,7 @@ use Rattle.sg_plan.specs.Limits.{first_bad}
 use Rattle.sg_plan.specs.declared.plan.Fate.TheVariants as fate
 use Rattle.sg_desks.specs.ActTexts.{act_text}
 use Rattle.sg_keeper.specs.Rows.{void_before}
-use Rattle.sg_keeper.specs.declared.asks.Act.TheVariants as act
+use Rattle.sg_acts.specs.declared.asks.Act.TheVariants as act
 use Rattle.sg_keeper.specs.declared.rows.VoidRow.{VoidRow}
 use Rattle.sg_histories.specs.ValidRows.{climbs, differ}
 use Rattle.sg_histories.specs.declared.kept.Slot.{Slot}

@@ -11,8 +11,9 @@ ghost use Rattle.sg_open.specs.inside.Telling.{act_draw, draw_told, fit_draw as 
 
 use crate::fault::{OpenFault, bad_row};
 use crate::texts::{close_text, draw_text};
+use sg_acts::Act;
 use sg_desks::act_of;
-use sg_keeper::{Act, StageRow};
+use sg_keeper::StageRow;
 use sg_plan::limits::MOST_PUBLIC_BYTES;
 use sg_plan::{Draw, Items, NoMemory, Plan, Stage, Word};
 use std::alloc::Global;

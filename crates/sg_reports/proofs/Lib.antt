@@ -1,1 +1,4 @@
 pub mod Reporting
+pub mod Auditing
+pub mod Counties
+pub mod Courts

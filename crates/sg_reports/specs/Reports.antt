@@ -3,11 +3,9 @@ use Rattle.std.specs.Option.{option_and_then}
 use Rattle.std.specs.Prelude.{◌≡◌, ◌⊎◌, ℕ, List, Option, Some, None}
 use Rattle.sg_outside.specs.Faults.{Rose}
 use Rattle.sg_outside.specs.Streams.{Seen}
-use Rattle.sg_audit.specs.Audit.{AuditSays, SaysNo, SaysYes}
-use Rattle.sg_court.specs.Odds.{OddsDue}
-use Rattle.sg_court.specs.Recounts.{RecountDue}
-use Rattle.sg_court.specs.Says.{OddsSays, RecountSays, Shows}
-use Rattle.sg_towns.specs.Counts.{CountySays, SaysBad, SaysMany, SaysYes as SaysSums}
+use Rattle.sg_reports.specs.audit.Audit.{AuditSays}
+use Rattle.sg_reports.specs.court.Says.{OddsSays, RecountSays}
+use Rattle.sg_reports.specs.county.Counts.{CountySays}
 use Rattle.sg_words.specs.Command.{command_in}
 use Rattle.sg_words.specs.declared.command.Command.{Command}
 use Rattle.sg_words.specs.declared.command.Command.TheVariants as command
@@ -40,15 +38,11 @@ ReportSays Recount = RecountSays
 ReportSays Odds = OddsSays
 ReportSays County = CountySays
 
--- the work was done: `audit` reports the verdict (0, 1); `recount` and `odds` write what is due of the input, with its status
--- (0, 1 or 7), and `county` the answer on its records (0, 1 or 7)
-abbrev pub Reports : Report → ℕ → Seen → Seen → Seen → Seen → Type 0
-Reports Audit status input input' out out' = ((status ≡ 0) × SaysYes input input' out out') ⊎ ((status ≡ 1) × SaysNo input input' out out')
-Reports Recount status input input' out out' = Shows RecountDue status input input' out out'
-Reports Odds status input input' out out' = Shows OddsDue status input input' out out'
-Reports County status input input' out out' =
-    ((status ≡ 0) × SaysSums input input' out out') ⊎ ((status ≡ 1) × SaysBad input input' out out') ⊎ ((status ≡ 7) × SaysMany input input' out out')
+-- the status tells no failure outside: the work was done (0, 1), something is refused (7), the rows are no office's (8), or
+-- memory was wanted (9)
+abbrev pub TellsNoFailure : ℕ → Type 0
+TellsNoFailure status = (status ≡ 0) ⊎ (status ≡ 1) ⊎ (status ≡ 7) ⊎ (status ≡ 8) ⊎ (status ≡ 9)
 
--- where no count of faults rose, the work was done, but for want of memory
-abbrev pub IsReported : Report → ℕ → Seen → Seen → Seen → Seen → Type 0
-IsReported report status input input' out out' = ¬ Rose input.faults input'.faults → ¬ Rose out.faults out'.faults → (status ≡ 9) ⊎ Reports report status input input' out out'
+-- where no count of faults rose, the status tells no failure
+abbrev pub IsReported : ℕ → Seen → Seen → Seen → Seen → Type 0
+IsReported status input input' out out' = ¬ Rose input.faults input'.faults → ¬ Rose out.faults out'.faults → TellsNoFailure status

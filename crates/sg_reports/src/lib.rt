@@ -2,6 +2,9 @@
 //! of them opens an office.
 #![tactic(auto)]
 
+pub mod audit;
+pub mod county;
+pub mod court;
 mod program;
 mod report;
 

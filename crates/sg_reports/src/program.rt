@@ -1,6 +1,6 @@
 //! The program of who only audits, over any source and sink: its words, and the status that it ends with.
 ghost use Rattle.std.specs.Prelude.{◌≡◌, ◌⊎◌, None, Some, IfSome};
-ghost use Rattle.sg_audit.specs.Promise.{Promise};
+ghost use Rattle.sg_reports.specs.audit.Promise.{Promise};
 ghost use Rattle.sg_outside.specs.Streams.{seen};
 ghost use Rattle.sg_outside.specs.TextLines.{lines_of};
 ghost use Rattle.sg_reports.specs.Reports.{IsReported, ReportSays, report_in};
@@ -34,8 +34,8 @@ pub fn run_reports<S: Source, O: Sink>(
     // The status says how the command ended, by a relation for each command: what was read, and what was written.
     ensures says { (report : ReportSeen) → report_in words.now ≡ Some report → ReportSays report result (seen (S.left input.old) (S.faults input.old)) (seen (S.left input.new) (S.faults input.new))
         (seen (O.written out.old) (O.faults out.old)) (seen (O.written out.new) (O.faults out.new)) }
-    // Where no count of faults rose, each command does all its work, but for want of memory.
-    ensures complete { (report : ReportSeen) → report_in words.now ≡ Some report → IsReported report result (seen (S.left input.old) (S.faults input.old)) (seen (S.left input.new) (S.faults input.new))
+    // Where no count of faults rose, the status tells no failure: all the work was done, but for want of memory.
+    ensures complete { (report : ReportSeen) → report_in words.now ≡ Some report → IsReported result (seen (S.left input.old) (S.faults input.old)) (seen (S.left input.new) (S.faults input.new))
         (seen (O.written out.old) (O.faults out.old)) (seen (O.written out.new) (O.faults out.new)) }
     // After a read that failed, and where memory was wanted, the output is as it was.
     ensures unwritten { (result ≡ 3) ⊎ (result ≡ 9) → out.new ≡ out.old }

@@ -1,15 +1,15 @@
 //! A command that reports on what it reads.
 ghost use Rattle.std.specs.Prelude.{◌≡◌, ◌≢◌, ◌⊎◌, IfSome};
-ghost use Rattle.sg_audit.specs.Promise.{Promise};
+ghost use Rattle.sg_reports.specs.audit.Promise.{Promise};
 ghost use Rattle.sg_outside.specs.Streams.{seen};
 ghost use Rattle.sg_outside.specs.TextLines.{lines_of};
 ghost use Rattle.sg_reports.specs.Reports.{ReportSays, report_of};
 ghost use Rattle.sg_reports.specs.declared.report.Report.TheVariants.{Audit};
 
-use sg_audit::answer_audit;
-use sg_court::{answer_odds, answer_recount};
+use crate::audit::answer_audit;
+use crate::county::count_county;
+use crate::court::{answer_odds, answer_recount};
 use sg_outside::{Sink, Source};
-use sg_towns::count_county;
 use sg_words::Command;
 use std::alloc::Global;
 

@@ -24,7 +24,7 @@ use Rattle.sg_record.proofs.Putting.{text-append}
 use Rattle.sg_record.specs.Lines.{block_lines, commit_lines, draw_line, indexed, lines_in, plan_lines, race_row_lines, result_lines}
 use Rattle.sg_record.specs.Writing.{text_in}
 use Rattle.sg_record.specs.declared.record.Record.{Record}
-use Rattle.sg_keeper.specs.declared.asks.Act.TheVariants as act
+use Rattle.sg_acts.specs.declared.asks.Act.TheVariants as act
 use Rattle.sg_keeper.specs.declared.setup.Setup.{Setup}
 use Rattle.sg_post.specs.Posted.{lines_at, posted_record, posted_text, seal_3}
 use Rattle.sg_post.specs.declared.story.Claimed.{Claimed}

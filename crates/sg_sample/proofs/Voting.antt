@@ -8,11 +8,11 @@ use Rattle.std.proofs.lemmas.List.Elements.{All-cons, All-nil}
 use Rattle.sg_plan.specs.declared.plan.Draw.{Draw}
 use Rattle.sg_plan.specs.declared.plan.Fate.TheVariants as fate
 use Rattle.sg_plan.specs.declared.plan.Stage.TheVariants as stage
-use Rattle.sg_keeper.specs.declared.asks.Act.{Act}
-use Rattle.sg_keeper.specs.declared.asks.Act.TheVariants as act
-use Rattle.sg_keeper.specs.declared.asks.Ask.{Ask}
-use Rattle.sg_keeper.specs.declared.asks.Ask.TheVariants as ask
-use Rattle.sg_keeper.specs.declared.asks.Stamp.{Stamp}
+use Rattle.sg_acts.specs.declared.asks.Act.{Act}
+use Rattle.sg_acts.specs.declared.asks.Act.TheVariants as act
+use Rattle.sg_acts.specs.declared.asks.Ask.{Ask}
+use Rattle.sg_acts.specs.declared.asks.Ask.TheVariants as ask
+use Rattle.sg_acts.specs.declared.asks.Stamp.{Stamp}
 use Rattle.sg_keeper.specs.declared.setup.Setup.{Setup}
 use Rattle.sg_histories.specs.Answers.{accepts, answer_of, entry_of, fits_draw, is_done, knows_secret_of, next_history, refusal_of, repeat_of}
 use Rattle.sg_histories.specs.Histories.{Entry, claims_of, fate_of, is_stamped, phase_word, stage_of}

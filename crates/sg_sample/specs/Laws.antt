@@ -3,7 +3,7 @@ use Rattle.std.specs.Prelude.{◌≡◌, ℕ, ◌≤◌, true, List, [], ◌∷�
 use Rattle.sg_outside.specs.TextLines.{lines_of}
 use Rattle.sg_forms.specs.Said.Said.{Seal}
 use Rattle.sg_forms.specs.Spelling.{spelling}
-use Rattle.sg_keeper.specs.declared.asks.Ask.{Ask}
+use Rattle.sg_acts.specs.declared.asks.Ask.{Ask}
 use Rattle.sg_keeper.specs.declared.setup.Setup.{Setup}
 use Rattle.sg_post.specs.Posted.{seal_3}
 use Rattle.sg_histories.specs.Answers.{answer_of, is_done}

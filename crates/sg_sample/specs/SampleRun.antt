@@ -10,10 +10,10 @@ use Rattle.sg_plan.specs.declared.plan.Plan.{Plan}
 use Rattle.sg_plan.specs.declared.plan.Race.{Race}
 use Rattle.sg_plan.specs.declared.plan.Style.{Style}
 use Rattle.sg_tables.specs.Tables.{paper_of}
-use Rattle.sg_keeper.specs.declared.asks.Act.{Act}
-use Rattle.sg_keeper.specs.declared.asks.Act.TheVariants as act
-use Rattle.sg_keeper.specs.declared.asks.Ask.{Ask}
-use Rattle.sg_keeper.specs.declared.asks.Ask.TheVariants as ask
+use Rattle.sg_acts.specs.declared.asks.Act.{Act}
+use Rattle.sg_acts.specs.declared.asks.Act.TheVariants as act
+use Rattle.sg_acts.specs.declared.asks.Ask.{Ask}
+use Rattle.sg_acts.specs.declared.asks.Ask.TheVariants as ask
 use Rattle.sg_keeper.specs.declared.setup.Setup.{Setup}
 use Rattle.sg_post.specs.Posted.{posted_text}
 use Rattle.sg_post.specs.declared.story.Story.{Story}

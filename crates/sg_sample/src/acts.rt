@@ -4,7 +4,7 @@ ghost use Rattle.sg_plan.specs.Ballots.{ballots_of};
 ghost use Rattle.sg_sample.specs.SampleRun.{ballot_act, mark as mark_of, sample_draw, sample_marks};
 
 use crate::papers::paper;
-use sg_keeper::Act;
+use sg_acts::Act;
 use sg_plan::{BallotIndex, Draw, Items, Mark, NoMemory, Word};
 use sg_tables::Tables;
 use std::alloc::Global;

@@ -9,7 +9,8 @@ ghost use Rattle.sg_sample.specs.inside.Voting.{GoesOn, IsTaken, IsVoted, stamp_
 use crate::acts::{ballot_act, sample_draw};
 use crate::election::{SECRET, sample_setup};
 use crate::steady::Steady;
-use sg_keeper::{Act, Ask, Keeper, Reply, Setup, Stamp};
+use sg_acts::{Act, Ask, Reply, Stamp};
+use sg_keeper::{Keeper, Setup};
 use sg_office::Office;
 use sg_plan::{BallotIndex, NoMemory};
 use sg_words::Sample;

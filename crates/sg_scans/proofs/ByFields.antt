@@ -12,9 +12,9 @@ use Rattle.sg_lines.specs.Words.{decimal_of}
 use Rattle.sg_lines.proofs.Numbers.{decimals_are_spelled}
 use Rattle.sg_forms.specs.Reading.{all_by, is_space, words_in}
 use Rattle.sg_forms.proofs.WordKinds.{IsInk, literal_plain, number_kind}
-use Rattle.sg_keeper.specs.declared.asks.Act.{Act}
-use Rattle.sg_keeper.specs.declared.asks.Act.TheVariants as act
-use Rattle.sg_keeper.specs.declared.asks.Ask.{Ask}
+use Rattle.sg_acts.specs.declared.asks.Act.{Act}
+use Rattle.sg_acts.specs.declared.asks.Act.TheVariants as act
+use Rattle.sg_acts.specs.declared.asks.Ask.{Ask}
 use Rattle.sg_desks.specs.ActReading.{act_in, form_of, mark_of}
 use Rattle.sg_scans.specs.Asked.{CanCome, EachCanCome}
 use Rattle.sg_scans.specs.ScanLines.{ask_in, line_in, marks_in, scan_in, scan_line}

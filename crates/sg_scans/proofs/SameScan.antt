@@ -2,7 +2,7 @@
 use Rattle.std.proofs.Common.{◌≡◌, ℕ, ◌==◌, true, ◌&&◌, List, [], ◌∷◌, bytes_eq, refl, ap, ◌∙◌}
 use Rattle.std.proofs.lemmas.Bool.{and_parts, eqb-true}
 use Rattle.sg_plan.specs.declared.plan.Mark.{Mark}
-use Rattle.sg_keeper.specs.declared.asks.Stamp.{Stamp}
+use Rattle.sg_acts.specs.declared.asks.Stamp.{Stamp}
 use Rattle.sg_scans.specs.ScanLaws.{Scan, same_marks, same_scan, same_stamp}
 use Rattle.sg_scans.proofs.Again.{same_bytes}
 

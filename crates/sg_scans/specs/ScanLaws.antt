@@ -3,12 +3,12 @@ use Rattle.std.specs.Prelude.{◌≡◌, ℕ, ◌==◌, ◌&&◌, if◌then◌el
 use Rattle.std.specs.List.{list_any}
 use Rattle.sg_plan.specs.declared.plan.Mark.{Mark}
 use Rattle.sg_forms.specs.Spelling.{IsNumber}
-use Rattle.sg_keeper.specs.declared.asks.Act.{Act}
-use Rattle.sg_keeper.specs.declared.asks.Act.TheVariants as act
-use Rattle.sg_keeper.specs.declared.asks.Ask.{Ask}
-use Rattle.sg_keeper.specs.declared.asks.Ask.TheVariants as ask
-use Rattle.sg_keeper.specs.declared.asks.Stamp.{Stamp}
-use Rattle.sg_keeper.specs.declared.replies.Reply.{Reply}
+use Rattle.sg_acts.specs.declared.asks.Act.{Act}
+use Rattle.sg_acts.specs.declared.asks.Act.TheVariants as act
+use Rattle.sg_acts.specs.declared.asks.Ask.{Ask}
+use Rattle.sg_acts.specs.declared.asks.Ask.TheVariants as ask
+use Rattle.sg_acts.specs.declared.asks.Stamp.{Stamp}
+use Rattle.sg_acts.specs.declared.replies.Reply.{Reply}
 use Rattle.sg_keeper.specs.declared.setup.Setup.{Setup}
 use Rattle.sg_desks.specs.ActTexts.{IsMark}
 use Rattle.sg_histories.specs.Answers.{answer_of, is_done, next_history}

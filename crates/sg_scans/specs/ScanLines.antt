@@ -5,11 +5,11 @@ use Rattle.csv.specs.Records.{field_at}
 use Rattle.sg_plan.specs.declared.plan.Mark.{Mark}
 use Rattle.sg_lines.specs.Words.{decimal_of, key_of}
 use Rattle.sg_forms.specs.Reading.{all_by, words_in}
-use Rattle.sg_keeper.specs.declared.asks.Act.{Act}
-use Rattle.sg_keeper.specs.declared.asks.Act.TheVariants as act
-use Rattle.sg_keeper.specs.declared.asks.Ask.{Ask}
-use Rattle.sg_keeper.specs.declared.asks.Ask.TheVariants as ask
-use Rattle.sg_keeper.specs.declared.asks.Stamp.{Stamp}
+use Rattle.sg_acts.specs.declared.asks.Act.{Act}
+use Rattle.sg_acts.specs.declared.asks.Act.TheVariants as act
+use Rattle.sg_acts.specs.declared.asks.Ask.{Ask}
+use Rattle.sg_acts.specs.declared.asks.Ask.TheVariants as ask
+use Rattle.sg_acts.specs.declared.asks.Stamp.{Stamp}
 use Rattle.sg_desks.specs.ActReading.{mark_of}
 use Rattle.sg_scans.specs.FileRecords.{records_of}
 use Rattle.sg_scans.specs.declared.fields.ScanLine.{ScanLine}

@@ -6,8 +6,8 @@ ghost use Rattle.sg_scans.specs.ScanLines.{scan_in, scan_line};
 ghost use Rattle.sg_scans.specs.inside.ByField.{ask_at, is_counted, number_at, scan_at, scan_text, secret_at, stamp_at};
 
 use csv::ByteRecord;
+use sg_acts::{Act, Ask, Stamp};
 use sg_desks::act_of;
-use sg_keeper::{Act, Ask, Stamp};
 use sg_lines::{read_decimal, read_key};
 use sg_plan::{NoMemory, Word};
 use std::alloc::Global;

@@ -1,10 +1,10 @@
 -- The text of an answer tells its status number.
 use Rattle.std.proofs.Common.{◌≡◌, ℕ, codes, Some, refl}
 use Rattle.serde_json.specs.Find.{get}
-use Rattle.sg_keeper.specs.declared.replies.Body.{Body}
-use Rattle.sg_keeper.specs.declared.replies.Body.TheVariants as body
-use Rattle.sg_keeper.specs.declared.replies.Reply.{Reply}
-use Rattle.sg_keeper.specs.declared.replies.Reply.TheVariants as reply
+use Rattle.sg_acts.specs.declared.replies.Body.{Body}
+use Rattle.sg_acts.specs.declared.replies.Body.TheVariants as body
+use Rattle.sg_acts.specs.declared.replies.Reply.{Reply}
+use Rattle.sg_acts.specs.declared.replies.Reply.TheVariants as reply
 use Rattle.sg_asks.specs.Replies.{body_value, reply_value, whole}
 use Rattle.sg_talk.specs.declared.answered.Answered.TheVariants as answered
 use Rattle.sg_talk.specs.Answers.{reply_status}

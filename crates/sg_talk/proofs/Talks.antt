@@ -1,7 +1,7 @@
 -- Talks that go on by one exchange more.
 use Rattle.std.proofs.Common.{ℕ, List, [], ◌∷◌, ◌++◌, refl, subst, arith}
-use Rattle.sg_keeper.specs.declared.asks.Ask.{Ask}
-use Rattle.sg_keeper.specs.declared.replies.Reply.{Reply}
+use Rattle.sg_acts.specs.declared.asks.Ask.{Ask}
+use Rattle.sg_acts.specs.declared.replies.Reply.{Reply}
 use Rattle.sg_talk.specs.Laws.{StoresAreCounted}
 use Rattle.sg_talk.specs.Talk.{Answers, Exchange, Talk}
 

@@ -2,8 +2,8 @@
 use Rattle.std.specs.Prelude.{ℕ, List, codes}
 use Rattle.serde_json.specs.Data.{Data}
 use Rattle.serde_json.specs.Written.{compact_text}
-use Rattle.sg_keeper.specs.declared.replies.Reply.{Reply}
-use Rattle.sg_keeper.specs.declared.replies.Reply.TheVariants as reply
+use Rattle.sg_acts.specs.declared.replies.Reply.{Reply}
+use Rattle.sg_acts.specs.declared.replies.Reply.TheVariants as reply
 use Rattle.sg_asks.specs.Replies.{HasPlainText, HasReplyCodes, refusal, reply_value}
 use Rattle.sg_talk.specs.declared.answered.Answered.{Answered}
 use Rattle.sg_talk.specs.declared.answered.Answered.TheVariants as answered

@@ -1,3 +1,4 @@
 pub mod Answers
 pub mod Talk
 pub mod Laws
+pub mod Turns

@@ -3,9 +3,9 @@
 -- `turn before ask reply after` says that, where `before` was accepted, the ask may get this reply, and that `after` is
 -- then accepted. What is accepted is the office's own affair, so a talk is stated over any such relation.
 use Rattle.std.specs.Prelude.{◌≡◌, ℕ, ◌+◌, List, [], ◌∷◌, Ok, Err}
-use Rattle.sg_keeper.specs.declared.asks.Ask.{Ask}
-use Rattle.sg_keeper.specs.declared.replies.Reply.{Reply}
-use Rattle.sg_keeper.specs.declared.replies.Reply.TheVariants as reply
+use Rattle.sg_acts.specs.declared.asks.Ask.{Ask}
+use Rattle.sg_acts.specs.declared.replies.Reply.{Reply}
+use Rattle.sg_acts.specs.declared.replies.Reply.TheVariants as reply
 use Rattle.sg_asks.specs.Asks.{asked}
 use Rattle.sg_asks.specs.declared.asks.AskFault.TheVariants as fault
 use Rattle.sg_talk.specs.declared.answered.Answered.{Answered}

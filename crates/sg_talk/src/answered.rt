@@ -4,8 +4,8 @@ ghost use Rattle.serde_json.specs.Written.{compact_text};
 ghost use Rattle.sg_asks.specs.Replies.{refusal};
 ghost use Rattle.sg_talk.specs.Answers.{IsWritable, answer_status, reply_status, text_of_answer};
 
+use sg_acts::Reply;
 use sg_asks::reply_text;
-use sg_keeper::Reply;
 use sg_plan::{NoMemory, Word};
 use std::alloc::Global;
 

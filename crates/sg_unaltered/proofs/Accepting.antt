@@ -1,7 +1,7 @@
 -- What is posted of an unaltered history is accepted, and true audits are told.
 use Rattle.std.proofs.Common.{◌≡◌, Bool, true, ap}
 use Rattle.sg_tables.specs.Tables.{paper_of}
-use Rattle.sg_keeper.specs.declared.replies.Body.TheVariants as body
+use Rattle.sg_acts.specs.declared.replies.Body.TheVariants as body
 use Rattle.sg_desks.specs.Papers.{same_paper}
 use Rattle.sg_desks.proofs.PaperLists.{papers_decide}
 use Rattle.sg_accepted.proofs.RecordTotals.{unaltered_has_totals}

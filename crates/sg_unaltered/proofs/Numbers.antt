@@ -11,10 +11,10 @@ use Rattle.sg_plan.specs.declared.plan.Fate.{Fate}
 use Rattle.sg_plan.specs.declared.plan.Fate.TheVariants as fate
 use Rattle.sg_plan.specs.declared.plan.Stage.{Stage}
 use Rattle.sg_plan.specs.declared.plan.Stage.TheVariants as stage
-use Rattle.sg_keeper.specs.declared.asks.Act.{Act}
-use Rattle.sg_keeper.specs.declared.asks.Act.TheVariants as act
-use Rattle.sg_keeper.specs.declared.replies.FateWord.{FateWord}
-use Rattle.sg_keeper.specs.declared.replies.Reply.TheVariants as reply
+use Rattle.sg_acts.specs.declared.asks.Act.{Act}
+use Rattle.sg_acts.specs.declared.asks.Act.TheVariants as act
+use Rattle.sg_acts.specs.declared.replies.FateWord.{FateWord}
+use Rattle.sg_acts.specs.declared.replies.Reply.TheVariants as reply
 use Rattle.sg_keeper.specs.declared.setup.Setup.{Setup}
 use Rattle.sg_histories.specs.Answers.{early_refusal, is_ballot, is_cast, is_closed, is_unused, is_voting, refusal_of, unless}
 use Rattle.sg_histories.specs.Histories.{Entry, act_of_stamp, claims_after, claims_of, fate_after, fate_of, fate_word, is_stamped, phase_of, phase_word, scanner_of, stage_after, stage_of}

@@ -16,9 +16,9 @@ use Rattle.sg_plan.specs.declared.plan.Stage.TheVariants as stage
 use Rattle.sg_streams.specs.Numbers.{numbers_below}
 use Rattle.sg_tables.specs.Posts.{right_word}
 use Rattle.sg_forms.proofs.WordKinds.{bytes_in_list}
-use Rattle.sg_keeper.specs.declared.asks.Act.{Act}
-use Rattle.sg_keeper.specs.declared.asks.Act.TheVariants as act
-use Rattle.sg_keeper.specs.declared.replies.Phase.TheVariants as phase
+use Rattle.sg_acts.specs.declared.asks.Act.{Act}
+use Rattle.sg_acts.specs.declared.asks.Act.TheVariants as act
+use Rattle.sg_acts.specs.declared.replies.Phase.TheVariants as phase
 use Rattle.sg_keeper.specs.declared.setup.Setup.{Setup}
 use Rattle.sg_post.specs.declared.story.Told.{Told}
 use Rattle.sg_accepted.specs.Unaltered.{IsDrawn, IsRightClaim, IsTrueFate}

@@ -6,15 +6,15 @@ use Rattle.sg_plan.specs.Limits.{fault_of}
 use Rattle.sg_plan.specs.declared.plan.Draw.{Draw}
 use Rattle.sg_plan.specs.declared.plan.Stage.TheVariants as stage
 use Rattle.sg_keeper.specs.SetupText.{IsMadeOfBytes, IsSetup}
-use Rattle.sg_keeper.specs.declared.asks.Act.{Act}
-use Rattle.sg_keeper.specs.declared.asks.Act.TheVariants as act
-use Rattle.sg_keeper.specs.declared.asks.Ask.TheVariants as ask
-use Rattle.sg_keeper.specs.declared.asks.Stamp.{Stamp}
-use Rattle.sg_keeper.specs.declared.replies.Body.{Body}
-use Rattle.sg_keeper.specs.declared.replies.Body.TheVariants as body
-use Rattle.sg_keeper.specs.declared.replies.Phase.{Phase}
-use Rattle.sg_keeper.specs.declared.replies.Phase.TheVariants as phase
-use Rattle.sg_keeper.specs.declared.replies.Reply.TheVariants as reply
+use Rattle.sg_acts.specs.declared.asks.Act.{Act}
+use Rattle.sg_acts.specs.declared.asks.Act.TheVariants as act
+use Rattle.sg_acts.specs.declared.asks.Ask.TheVariants as ask
+use Rattle.sg_acts.specs.declared.asks.Stamp.{Stamp}
+use Rattle.sg_acts.specs.declared.replies.Body.{Body}
+use Rattle.sg_acts.specs.declared.replies.Body.TheVariants as body
+use Rattle.sg_acts.specs.declared.replies.Phase.{Phase}
+use Rattle.sg_acts.specs.declared.replies.Phase.TheVariants as phase
+use Rattle.sg_acts.specs.declared.replies.Reply.TheVariants as reply
 use Rattle.sg_keeper.specs.declared.setup.Setup.{Setup}
 use Rattle.sg_check.specs.Verdict.{IsVerdict}
 use Rattle.sg_check.specs.declared.judged.Judged.TheVariants as judged

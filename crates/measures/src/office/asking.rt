@@ -9,8 +9,7 @@ use crate::stop::Stop;
 use sg_keeper::{MemoryKeeper, Setup};
 use sg_office::Office;
 use sg_plan::{Items, Word};
-use sg_talk::Answered;
-use sg_turns::{answer_to, version_of};
+use sg_talk::{Answered, answer_to, version_of};
 use std::alloc::Global;
 use std::time::{CpuClock, Duration};
 

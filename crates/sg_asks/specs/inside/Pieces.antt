@@ -3,12 +3,12 @@ use Rattle.std.specs.Prelude.{ℕ, ◌<◌, List, [], ◌∷◌, ◌++◌, All, 
 use Rattle.serde_json.specs.Written.{comma_if}
 use Rattle.sg_plan.specs.Codes.{codes_of}
 use Rattle.sg_lines.specs.Words.{code_word}
-use Rattle.sg_keeper.specs.declared.replies.Body.{Body}
-use Rattle.sg_keeper.specs.declared.replies.Body.TheVariants as body
-use Rattle.sg_keeper.specs.declared.replies.CodeSeen.{CodeSeen}
-use Rattle.sg_keeper.specs.declared.replies.Receipt.{Receipt}
-use Rattle.sg_keeper.specs.declared.replies.Reply.{Reply}
-use Rattle.sg_keeper.specs.declared.replies.Reply.TheVariants as reply
+use Rattle.sg_acts.specs.declared.replies.Body.{Body}
+use Rattle.sg_acts.specs.declared.replies.Body.TheVariants as body
+use Rattle.sg_acts.specs.declared.replies.CodeSeen.{CodeSeen}
+use Rattle.sg_acts.specs.declared.replies.Receipt.{Receipt}
+use Rattle.sg_acts.specs.declared.replies.Reply.{Reply}
+use Rattle.sg_acts.specs.declared.replies.Reply.TheVariants as reply
 use Rattle.sg_asks.specs.Replies.{claim_word, fate_word, phase_word}
 use Rattle.sg_asks.specs.declared.pieces.Piece.{Piece}
 use Rattle.sg_asks.specs.declared.pieces.Piece.TheVariants as piece

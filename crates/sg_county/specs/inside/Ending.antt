@@ -1,8 +1,8 @@
 -- The end of the last part.
 use Rattle.std.specs.Prelude.{ℕ, ◌<◌, List, [], length}
 use Rattle.sg_check.specs.declared.judged.Total.{Total}
-use Rattle.sg_pass.specs.Pass.{StandsFor as HasTaken}
-use Rattle.sg_pass.specs.declared.pass.Pass.{Pass}
+use Rattle.sg_judge.specs.Pass.{StandsFor as HasTaken}
+use Rattle.sg_judge.specs.declared.pass.Pass.{Pass}
 use Rattle.sg_county.specs.County.{AllCount, most_parts}
 use Rattle.sg_county.specs.inside.Keeping.{Keeps, more_sums}
 use Rattle.sg_county.specs.declared.ending.Close.{Close}

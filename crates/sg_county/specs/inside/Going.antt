@@ -1,8 +1,8 @@
 -- A tally behind a part that has ended.
 use Rattle.std.specs.Prelude.{ℕ, ◌==◌, if◌then◌else◌, true, List, Some}
 use Rattle.sg_check.specs.declared.judged.Total.{Total}
-use Rattle.sg_pass.specs.declared.pass.Step.{Step}
-use Rattle.sg_pass.specs.declared.pass.Step.TheVariants.{More, Over}
+use Rattle.sg_judge.specs.declared.pass.Step.{Step}
+use Rattle.sg_judge.specs.declared.pass.Step.TheVariants.{More, Over}
 use Rattle.sg_county.specs.County.{most_parts}
 use Rattle.sg_county.specs.inside.Keeping.{more_sums}
 use Rattle.sg_county.specs.declared.ending.Close.{Close}

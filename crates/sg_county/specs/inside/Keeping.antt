@@ -5,8 +5,8 @@ use Rattle.sg_check.specs.Verdict.{totals_of}
 use Rattle.sg_check.specs.declared.judged.Judged.{Judged}
 use Rattle.sg_check.specs.declared.judged.Judged.TheVariants as judged
 use Rattle.sg_check.specs.declared.judged.Total.{Total}
-use Rattle.sg_pass.specs.FirstSeal.{first_seal}
-use Rattle.sg_pass.specs.Pass.{is_behind_plan}
+use Rattle.sg_judge.specs.FirstSeal.{first_seal}
+use Rattle.sg_judge.specs.Pass.{is_behind_plan}
 use Rattle.sg_county.specs.County.{Counts, HasTheRaces, Settles, first_sealed, races_of, sums_of, votes_in}
 use Rattle.sg_county.specs.declared.ending.Close.{Close}
 use Rattle.sg_county.specs.declared.ending.Close.TheVariants as close

@@ -6,7 +6,7 @@ use Rattle.sg_plan.specs.declared.plan.Fate.{Fate}
 use Rattle.sg_plan.specs.declared.plan.Plan.{Plan}
 use Rattle.sg_tables.specs.Posts.{posted_codes}
 use Rattle.sg_tables.specs.Tables.{codes_of_row}
-use Rattle.sg_keeper.specs.declared.replies.CodeSeen.{CodeSeen}
+use Rattle.sg_acts.specs.declared.replies.CodeSeen.{CodeSeen}
 use Rattle.sg_desks.specs.Receipts.{code_seen}
 
 -- the lists of a ballot's paper in these races

@@ -4,7 +4,7 @@ use Rattle.std.specs.Option.{option_map_or}
 use Rattle.std.specs.Prelude.{◌≡◌, ℕ, ◌≤◌, ◌<◌, ◌^◌, true, List, length, Option, Some, pos, false}
 use Rattle.sg_plan.specs.Ballots.{races_of_ballot}
 use Rattle.sg_plan.specs.declared.plan.Plan.{Plan}
-use Rattle.sg_keeper.specs.declared.asks.Act.{Act}
+use Rattle.sg_acts.specs.declared.asks.Act.{Act}
 use Rattle.sg_keeper.specs.declared.rows.BallotRow.{BallotRow}
 use Rattle.sg_keeper.specs.declared.rows.ChangeRow.TheVariants as change
 use Rattle.sg_keeper.specs.declared.rows.StageRow.{StageRow}

@@ -3,8 +3,8 @@ use Rattle.std.specs.Prelude.{◌≡◌, ℕ, ◌≤◌, false, true, List, ◌+
 use Rattle.sg_check.specs.Verdict.{IsVerdict}
 use Rattle.sg_check.specs.declared.judged.Judged.{Judged}
 use Rattle.sg_outside.specs.TextLines.{lines_of}
-use Rattle.sg_pass.specs.Pass.{StandsFor, is_open}
-use Rattle.sg_pass.specs.declared.pass.Pass.{Pass}
+use Rattle.sg_judge.specs.Pass.{StandsFor, is_open}
+use Rattle.sg_judge.specs.declared.pass.Pass.{Pass}
 
 -- the pass has taken the lines before this place, and none of them was bad
 pub record IsFed (pass : Pass) (text : List ℕ) (at : ℕ) : Type 0 where

@@ -5,11 +5,11 @@ use Rattle.sg_plan.specs.Ballots.{ballot_has}
 use Rattle.sg_plan.specs.declared.plan.Fate.{Fate}
 use Rattle.sg_plan.specs.declared.plan.Fate.TheVariants as fate
 use Rattle.sg_plan.specs.declared.plan.Plan.{Plan}
-use Rattle.sg_keeper.specs.declared.asks.Act.{Act}
-use Rattle.sg_keeper.specs.declared.asks.Act.TheVariants as act
-use Rattle.sg_keeper.specs.declared.replies.FateWord.{FateWord}
-use Rattle.sg_keeper.specs.declared.replies.FateWord.TheVariants as word
-use Rattle.sg_keeper.specs.declared.replies.Reply.{Reply}
+use Rattle.sg_acts.specs.declared.asks.Act.{Act}
+use Rattle.sg_acts.specs.declared.asks.Act.TheVariants as act
+use Rattle.sg_acts.specs.declared.replies.FateWord.{FateWord}
+use Rattle.sg_acts.specs.declared.replies.FateWord.TheVariants as word
+use Rattle.sg_acts.specs.declared.replies.Reply.{Reply}
 use Rattle.sg_post.specs.declared.story.Story.{Story}
 use Rattle.sg_histories.specs.declared.kept.Kept.{Kept}
 use Rattle.sg_histories.specs.declared.kept.Slot.{Slot}

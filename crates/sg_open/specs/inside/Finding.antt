@@ -17,7 +17,7 @@ use Rattle.sg_plan.specs.declared.plan.Fate.TheVariants as fate
 use Rattle.sg_plan.specs.declared.plan.Plan.{Plan}
 use Rattle.sg_desks.specs.ActReading.{act_in}
 use Rattle.sg_desks.specs.ActTexts.{act_text}
-use Rattle.sg_keeper.specs.declared.asks.Act.TheVariants as act
+use Rattle.sg_acts.specs.declared.asks.Act.TheVariants as act
 use Rattle.sg_keeper.specs.declared.rows.BallotRow.{BallotRow}
 use Rattle.sg_keeper.specs.declared.rows.VoidRow.{VoidRow}
 use Rattle.sg_histories.specs.ValidRows.{ballot_keeps, claim_keeps, claim_text, climbs, damage_of, differ, is_drawn_in, stage_keeps, stage_text, station_of, void_text}

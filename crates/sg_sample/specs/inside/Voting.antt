@@ -1,8 +1,8 @@
 -- An office of a sample, in the midst of its acts.
 use Rattle.std.specs.Prelude.{◌≡◌, ℕ, ◌<◌, ◌^◌, true, List, [], ◌∷◌, length}
-use Rattle.sg_keeper.specs.declared.asks.Act.{Act}
-use Rattle.sg_keeper.specs.declared.asks.Ask.TheVariants as ask
-use Rattle.sg_keeper.specs.declared.asks.Stamp.{Stamp}
+use Rattle.sg_acts.specs.declared.asks.Act.{Act}
+use Rattle.sg_acts.specs.declared.asks.Ask.TheVariants as ask
+use Rattle.sg_acts.specs.declared.asks.Stamp.{Stamp}
 use Rattle.sg_histories.specs.Answers.{accepts, next_history}
 use Rattle.sg_histories.specs.Histories.{Entry}
 use Rattle.sg_histories.specs.HistoryLaws.{history_after}

@@ -4,10 +4,9 @@ use Rattle.sg_outside.specs.Streams.{Seen, seen}
 use Rattle.sg_clerk.proofs.Grown.{same_grows}
 use Rattle.sg_words.specs.Command.{command_in}
 use Rattle.sg_words.specs.declared.command.Command.TheVariants as command
-use Rattle.sg_app.proofs.Completing.{says_complete}
 use Rattle.sg_app.proofs.Growing.{command_grows}
 use Rattle.sg_app.proofs.Headlines.{audit_headline}
-use Rattle.sg_app.proofs.Obeyed.{memory_says, outside, says_for}
+use Rattle.sg_app.proofs.Obeyed.{ended_for, memory_ended, outside, says_for}
 use Rattle.sg_app.proofs.program.run.Goals as goal
 
 pub returns-in-Ok-Some-clause-headline : goal.returns-in-Ok-Some-clause-headline
@@ -23,27 +22,18 @@ returns-in-Ok-Some-clause-headline g c =
     (says_for c.in-Ok-Some.command command.Audit (command_in c.args.words.now) c.obey.result (g.K.Keeper.tells c.args.keeper.now) (g.K.Keeper.rows c.args.keeper.now) (g.K.Keeper.rows c.obey.new.keeper)
     before now here asked c.obey.ensures.says)
 
-pub returns-in-Ok-Some-clause-complete : goal.returns-in-Ok-Some-clause-complete
-returns-in-Ok-Some-clause-complete g c =
+pub returns-in-Ok-Some-clause-ended : goal.returns-in-Ok-Some-clause-ended
+returns-in-Ok-Some-clause-ended g c =
     let before = outside (g.S.Source.left c.args.input.now) (g.L.Links.board c.args.links.now) (g.O.Sink.written c.args.out.now) (g.S.Source.faults c.args.input.now) (g.L.Links.faults c.args.links.now) (g.O.Sink.faults c.args.out.now) (g.K.Keeper.faults c.args.keeper.now) in
     let now = outside (g.S.Source.left c.obey.new.input) (g.L.Links.board c.obey.new.links) (g.O.Sink.written c.obey.new.out) (g.S.Source.faults c.obey.new.input) (g.L.Links.faults c.obey.new.links) (g.O.Sink.faults c.obey.new.out) (g.K.Keeper.faults c.obey.new.keeper) in
     let here : Some c.in-Ok-Some.command ≡ command_in c.args.words.now = cc (c.in-Ok-Some.field-0-is, c.in-Ok-Some.ensures.is) in
-    λ other asked. says_complete other c.obey.result (g.K.Keeper.tells c.args.keeper.now) (g.K.Keeper.rows c.args.keeper.now) (g.K.Keeper.rows c.obey.new.keeper) before now
-    (says_for c.in-Ok-Some.command other (command_in c.args.words.now) c.obey.result (g.K.Keeper.tells c.args.keeper.now) (g.K.Keeper.rows c.args.keeper.now) (g.K.Keeper.rows c.obey.new.keeper)
-    before now here asked c.obey.ensures.says)
+    λ other asked. ended_for c.in-Ok-Some.command other (command_in c.args.words.now) c.obey.result (g.K.Keeper.tells c.args.keeper.now) (g.K.Keeper.rows c.args.keeper.now) (g.K.Keeper.rows c.obey.new.keeper)
+    before now here asked c.obey.ensures.says c.obey.ensures.same
 
-pub returns-in-Ok-Some-clause-says : goal.returns-in-Ok-Some-clause-says
-returns-in-Ok-Some-clause-says g c =
-    let before = outside (g.S.Source.left c.args.input.now) (g.L.Links.board c.args.links.now) (g.O.Sink.written c.args.out.now) (g.S.Source.faults c.args.input.now) (g.L.Links.faults c.args.links.now) (g.O.Sink.faults c.args.out.now) (g.K.Keeper.faults c.args.keeper.now) in
-    let now = outside (g.S.Source.left c.obey.new.input) (g.L.Links.board c.obey.new.links) (g.O.Sink.written c.obey.new.out) (g.S.Source.faults c.obey.new.input) (g.L.Links.faults c.obey.new.links) (g.O.Sink.faults c.obey.new.out) (g.K.Keeper.faults c.obey.new.keeper) in
-    let here : Some c.in-Ok-Some.command ≡ command_in c.args.words.now = cc (c.in-Ok-Some.field-0-is, c.in-Ok-Some.ensures.is) in
-    λ other asked. says_for c.in-Ok-Some.command other (command_in c.args.words.now) c.obey.result (g.K.Keeper.tells c.args.keeper.now) (g.K.Keeper.rows c.args.keeper.now) (g.K.Keeper.rows c.obey.new.keeper)
-    before now here asked c.obey.ensures.says
-
-pub returns-in-Err-clause-says : goal.returns-in-Err-clause-says
-returns-in-Err-clause-says g c =
+pub returns-in-Err-clause-ended : goal.returns-in-Err-clause-ended
+returns-in-Err-clause-ended g c =
     let now = outside (g.S.Source.left c.args.input.now) (g.L.Links.board c.args.links.now) (g.O.Sink.written c.args.out.now) (g.S.Source.faults c.args.input.now) (g.L.Links.faults c.args.links.now) (g.O.Sink.faults c.args.out.now) (g.K.Keeper.faults c.args.keeper.now) in
-    λ asked is. memory_says asked (g.K.Keeper.tells c.args.keeper.now) (g.K.Keeper.rows c.args.keeper.now) now
+    λ asked is. memory_ended asked (g.K.Keeper.tells c.args.keeper.now) (g.K.Keeper.rows c.args.keeper.now) now
 
 pub returns-in-Ok-Some-clause-grows : goal.returns-in-Ok-Some-clause-grows
 returns-in-Ok-Some-clause-grows g c =

@@ -1,6 +1,6 @@
 -- The pass was fed the lines so far, of which none is behind those of the plan.
 use Rattle.std.proofs.Common.{◌≡◌, ◌-◌, false, length}
-use Rattle.sg_pass.specs.Pass.{is_ready}
+use Rattle.sg_judge.specs.Pass.{is_ready}
 use Rattle.sg_judge.specs.inside.Feeding.{IsFed}
 use Rattle.sg_judge.proofs.judging.feed_header.Given as goal
 

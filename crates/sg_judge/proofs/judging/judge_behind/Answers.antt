@@ -1,6 +1,6 @@
 -- The pass takes one more line, or the verdict stands.
 use Rattle.std.proofs.Common.{◌≡◌, false}
-use Rattle.sg_pass.specs.Pass.{is_open}
+use Rattle.sg_judge.specs.Pass.{is_open}
 use Rattle.sg_judge.proofs.Feeds.{fed_more, fed_over}
 use Rattle.sg_judge.proofs.judging.judge_behind.Goals as goal
 

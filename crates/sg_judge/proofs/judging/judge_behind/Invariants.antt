@@ -1,6 +1,6 @@
 -- The pass was fed the lines so far.
 use Rattle.std.proofs.Common.{◌≡◌, ◌-◌, true, length}
-use Rattle.sg_pass.specs.Pass.{is_ready}
+use Rattle.sg_judge.specs.Pass.{is_ready}
 use Rattle.sg_judge.specs.inside.Feeding.{IsFed}
 use Rattle.sg_judge.proofs.judging.judge_behind.Given as goal
 

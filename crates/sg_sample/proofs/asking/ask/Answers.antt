@@ -1,6 +1,6 @@
 -- The act is answered that it is done, or memory was wanted.
 use Rattle.std.proofs.Common.{◌≡◌, true, sym, subst}
-use Rattle.sg_keeper.specs.declared.asks.Stamp.{Stamp}
+use Rattle.sg_acts.specs.declared.asks.Stamp.{Stamp}
 use Rattle.sg_histories.specs.Answers.{accepts}
 use Rattle.sg_sample.proofs.Asked.{done_goes, no_other, no_store}
 use Rattle.sg_sample.proofs.asking.ask.Goals as goal

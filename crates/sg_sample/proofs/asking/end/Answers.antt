@@ -1,7 +1,7 @@
 -- The close and the draw are accepted, and the office stands for the whole history.
 use Rattle.std.proofs.Common.{◌+◌, arith, sym, subst}
 use Rattle.sg_plan.specs.declared.plan.Draw.{Draw}
-use Rattle.sg_keeper.specs.declared.asks.Act.TheVariants as act
+use Rattle.sg_acts.specs.declared.asks.Act.TheVariants as act
 use Rattle.sg_sample.specs.inside.Voting.{GoesOn, IsTaken}
 use Rattle.sg_sample.proofs.Votes.{close_taken, draw_taken, ended_stands, few_acts}
 use Rattle.sg_sample.proofs.asking.end.Goals as goal

@@ -9,9 +9,9 @@ use Rattle.sg_county.specs.inside.Going.{closed, step_behind}
 use Rattle.sg_county.specs.inside.Keeping.{Fits}
 use Rattle.sg_county.specs.declared.ending.Close.{Close}
 use Rattle.sg_county.specs.declared.tally.Tally.{Tally}
-use Rattle.sg_pass.specs.Pass.{StandsFor as HasTaken, is_open as is_fine_so_far}
-use Rattle.sg_pass.specs.declared.pass.Pass.{Pass}
-use Rattle.sg_pass.specs.declared.pass.Step.{Step}
+use Rattle.sg_judge.specs.Pass.{StandsFor as HasTaken, is_open as is_fine_so_far}
+use Rattle.sg_judge.specs.declared.pass.Pass.{Pass}
+use Rattle.sg_judge.specs.declared.pass.Step.{Step}
 
 pub note_part-requires : goal.note_part-requires
 note_part-requires c = few_parts c.args.self.now c.requires.open c.requires.stands

@@ -1,5 +1,5 @@
 use Rattle.std.proofs.Common.{refl, sym, subst}
-use Rattle.sg_keeper.specs.declared.asks.Ask.{Ask}
+use Rattle.sg_acts.specs.declared.asks.Ask.{Ask}
 use Rattle.sg_histories.specs.Standing.{Turned}
 use Rattle.sg_histories.specs.declared.kept.Kept.{Kept}
 use Rattle.sg_office.proofs.Turns.{stay_look}

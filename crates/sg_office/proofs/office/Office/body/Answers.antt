@@ -1,6 +1,6 @@
 use Rattle.std.proofs.Common.{◌≡◌, ap, sym, subst}
-use Rattle.sg_keeper.specs.declared.asks.Act.{Act}
-use Rattle.sg_keeper.specs.declared.replies.Body.TheVariants as body
+use Rattle.sg_acts.specs.declared.asks.Act.{Act}
+use Rattle.sg_acts.specs.declared.replies.Body.TheVariants as body
 use Rattle.sg_histories.specs.Answers.{body_with}
 use Rattle.sg_office.specs.inside.Now.{fate_at}
 use Rattle.sg_office.proofs.office.Office.body.Goals as goal

@@ -1,8 +1,0 @@
--- The lemmas, lowest first.
-mod Gathered
-mod Numbers
-mod Blocks
-mod Stations
-mod Moved
-pub mod TakenBack
-pub mod NewRows

@@ -1,9 +1,0 @@
-use Rattle.std.proofs.Common.{◌≡◌, ◌≤◌, None, length, drop}
-use Rattle.sg_acts.specs.inside.Runs.{flat, text_of}
-use Rattle.sg_acts.proofs.run.block_of.Given as goal
-
-abbrev pub invariant-back : goal.invariant-back
-invariant-back l = (l.at ≤ length l.fn.blocks) × (text_of l.fn.number (flat (drop l.at l.fn.blocks)) ≡ None)
-
-abbrev pub decreases-back : goal.decreases-back
-decreases-back l = l.at

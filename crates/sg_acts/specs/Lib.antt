@@ -1,3 +1,0 @@
--- The modules of definitions.
-pub mod Acts
-pub mod inside

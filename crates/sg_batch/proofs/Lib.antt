@@ -1,5 +1,0 @@
--- The proofs.
-pub mod Keeping
-mod ScanEnds
-mod ScanGoes
-mod ScanLists

@@ -1,6 +1,0 @@
--- The law is proved as a lemma.
-use Rattle.sg_batch.proofs.Keeping.{scans_keep_record}
-use Rattle.sg_batch.proofs.laws.scans_record_law.Goals as goal
-
-pub returns : goal.returns
-returns c = scans_keep_record

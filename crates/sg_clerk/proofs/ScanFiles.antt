@@ -1,0 +1,4 @@
+-- The proofs.
+pub mod Keeping
+mod ScanAsks
+mod ScanEnds

@@ -1,0 +1,82 @@
+-- One line, taken behind lines that are fine.
+use Rattle.std.specs.Prelude.{◌≡◌, ℕ, ◌+◌, ◌⊎◌, Bool, true, false, List, [], ◌∷◌, ◌++◌, length, Option, Some, None}
+use Rattle.std.specs.Option.{option_map_or}
+use Rattle.sg_grammar.specs.Lines.{placed_of}
+use Rattle.sg_check.specs.Judging.{AreOfPlan}
+use Rattle.sg_check.specs.Kinds.{bytes_of, first_bad}
+use Rattle.sg_check.specs.Verdict.{AreFine, IsFirstBad}
+use Rattle.sg_check.specs.declared.judged.Kind.{Kind}
+use Rattle.sg_commit.specs.Seals.{StandsFor as HasTaken}
+use Rattle.sg_commit.specs.declared.Digest.{Digest}
+use Rattle.sg_commit.specs.declared.Sealer.{Sealer}
+use Rattle.sg_forms.specs.Said.{Said}
+use Rattle.sg_ledger.specs.Tells.{Tells}
+use Rattle.sg_ledger.specs.declared.ledger.Ledger.{Ledger}
+use Rattle.sg_judge.specs.FirstSeal.{first_seal_on}
+use Rattle.sg_plan.specs.declared.plan.Plan.{Plan}
+use Rattle.sg_grammar.specs.Head.{head_line}
+use Rattle.sg_grammar.specs.Placed.{Placed}
+use Rattle.sg_grammar.specs.Walk.{Next, Posted, read_next, start, take_bytes, take_line, took, walk}
+use Rattle.sg_grammar.specs.declared.state.Head.{Head}
+use Rattle.sg_grammar.specs.declared.state.Head.TheVariants as head
+
+-- the bytes are no line of the plan that may stand next
+abbrev pub IsNoPlanLine : Next → List ℕ → Type 0
+IsNoPlanLine expect bytes = (said : Said) → read_next expect bytes ≡ Some said → head_line expect.plan expect.head said ≡ None
+
+-- the ledger tells the lines; there is none while all of them are lines of the plan
+abbrev pub Keeps : Plan → Option Ledger → List Placed → Type 0
+Keeps plan None lines = AreOfPlan lines
+Keeps plan (Some ledger) lines = Tells plan ledger lines
+
+-- A LINE IN ITS PLACE
+
+-- the line is taken: it may stand in this place, it is bad in nothing there, and it is kept
+pub record IsTaken (old new : Next) (ledger : Option Ledger) (said : Said) (placed : Placed) (lines : List Placed) : Type 0 where
+  pub takes : take_line old said ≡ Some (took placed new)
+  pub known : (new.plan ≡ old.plan) ⊎ AreOfPlan lines
+  pub good : first_bad new.plan lines placed ≡ None
+  pub kept : Keeps new.plan ledger (lines ++ placed ∷ [])
+
+-- the line may stand in this place, and is bad there in this kind
+pub record IsRefused (old : Next) (said : Said) (placed : Placed) (lines : List Placed) (broken : Kind) : Type 0 where
+  pub next : Next
+  pub takes : take_line old said ≡ Some (took placed next)
+  pub plan_stays : next.plan ≡ old.plan
+  pub bad : first_bad old.plan lines placed ≡ Some broken
+
+-- THE FIRST SEAL
+
+-- the digest that was kept, or else the new line's
+abbrev pub or_seal : Option Digest → Option Digest → Option Digest
+or_seal (Some digest) new = Some digest
+or_seal None new = new
+
+-- that of the next line, where it may stand
+abbrev pub next_seal : Next → List ℕ → Option Digest
+next_seal expect bytes = option_map_or (λ taken. first_seal_on taken.placed) (take_bytes expect bytes) None
+
+-- THE LEDGER
+
+-- the ledger that a line opened is kept, where that line is bad in nothing; else what was kept stays
+abbrev pub opened_by : Option Kind → Ledger → Option Ledger → Option Ledger
+opened_by None opened before = Some opened
+opened_by (Some broken) opened before = before
+
+-- FINE LINES
+
+-- the lines are fine, and what is kept of them is this: what may stand next, the running seal and the ledger
+pub record Stands (expect : Next) (sealer : Sealer) (ledger : Option Ledger) (lines : List (List ℕ)) : Type 0 where
+  pub posted : List Posted
+  pub walks : walk start lines ≡ Some (record { posted = posted; next = expect })
+  pub fine : AreFine lines
+  pub sealed : HasTaken sealer (bytes_of posted)
+  pub kept : Keeps expect.plan ledger (placed_of posted)
+
+abbrev pub StandsSome : Next → Sealer → Option Ledger → Type 0
+StandsSome expect sealer ledger = (lines : List (List ℕ)) × Stands expect sealer ledger lines
+
+-- with one more line the lines are fine still, and this is kept of them; or it is the first bad one
+abbrev pub Advances : Option Kind → Next → Sealer → Option Ledger → List (List ℕ) → List ℕ → Type 0
+Advances None expect sealer ledger lines bytes = Stands expect sealer ledger (lines ++ bytes ∷ [])
+Advances (Some broken) expect sealer ledger lines bytes = IsFirstBad (lines ++ bytes ∷ []) (length lines + 1) broken

@@ -1,0 +1,204 @@
+-- How many lines a record, a printing and a completion have, and how the last one ends.
+use Rattle.std.proofs.Common.{◌≡◌, ◌≢◌, ℕ, suc, ◌+◌, ◌*◌, ◌≤◌, ◌==◌, Bool, true, ◌&&◌, inl, inr, List, [], ◌∷◌, ◌++◌, length, map, None, Some, refl, sym, subst, ap, ◌∙◌, append_assoc, codes, length-append, arith}
+use Rattle.std.specs.Prelude.{◌⊎◌, Option}
+use Rattle.std.specs.List.{join_with_byte, list_all}
+use Rattle.std.proofs.lemmas.Bool.{and_parts, eqb-true}
+use Rattle.sg_commit.specs.declared.Opening.{Opening}
+use Rattle.sg_outside.specs.TextLines.{HasNoFeed, lines_of}
+use Rattle.sg_outside.proofs.LineLemmas.{lines_of-concat, lines_of-lines, lines_of-part}
+use Rattle.sg_plan.proofs.PlanLaws.{bounds}
+use Rattle.sg_plan.specs.Ballots.{entries_before, entries_of, r_rows}
+use Rattle.sg_plan.specs.Limits.{fault_of}
+use Rattle.sg_plan.specs.declared.plan.Plan.{Plan}
+use Rattle.sg_record.specs.Formed.{each_passes, has_rows}
+use Rattle.sg_record.specs.Lines.{texts_in}
+use Rattle.sg_sheet.proofs.Listing.{sheet_printed}
+use Rattle.sg_sheet.specs.Sheet.{Printed, line_text, sheet_lines}
+use Rattle.sg_sheet.specs.inside.Listed.{line_due, sheet_due}
+use Rattle.sg_forms.specs.Spelling.{row_words}
+use Rattle.sg_forms.specs.declared.line.RowOpening.{RowOpening}
+use Rattle.sg_forms.specs.declared.line.RowOpening.TheVariants as opened
+use Rattle.sg_parts.proofs.Accepting.{good_plan}
+use Rattle.sg_parts.proofs.Wholes.{due_few, record_few}
+use Rattle.sg_parts.specs.Given.{AreParts, Given, IsAccepted, IsGiven, completion_line, completion_texts, halves_text, joined, opening_text, printed_of, printing_line, row_text, sheet_texts}
+use Rattle.sg_parts.specs.declared.parts.RowGiven.{RowGiven}
+use Rattle.sg_parts.specs.declared.parts.RecountFault.{RecountFault}
+use Rattle.sg_parts.specs.declared.parts.RecountFault.TheVariants as fault
+use Rattle.sg_reports.proofs.Courts.Ending.{EndsAtEnd}
+use Rattle.sg_reports.proofs.Courts.Lines.{Fed, fed_end}
+use Rattle.sg_reports.specs.court.Heard.{EndsLong, HasOneMore}
+use Rattle.sg_reports.specs.court.Odds.{OddsDue}
+use Rattle.sg_reports.specs.court.Recounts.{IsFaulty, RecountDue, fault_status}
+
+-- LISTS
+
+pub head_same : {A : Type 0} {x y : A} {xs ys : List A} → x ∷ xs ≡ y ∷ ys → x ≡ y
+head_same e = cc
+
+pub tail_same : {A : Type 0} {x y : A} {xs ys : List A} → x ∷ xs ≡ y ∷ ys → xs ≡ ys
+tail_same e = cc
+
+-- ROWS
+
+lists_long : {A : Type 0} (count : ℕ) (lists : List (List A)) → list_all (λ items. length items == count) lists ≡ true → length (joined lists) ≡ length lists * count
+lists_long count [] all = omega arith
+lists_long count (x ∷ lists) all =
+    let parts = and_parts (length x == count) (list_all (λ items. length items == count) lists) all in
+    let rest = lists_long count lists parts.1 in
+    let here = eqb-true (length x) count parts.0 in
+    let step : suc (length lists) * count ≡ count + length lists * count = one_more (length lists) count in
+    omega (arith, length-append x (joined lists), rest, here, step)
+  where
+    one_more : (n c : ℕ) → suc n * c ≡ c + n * c
+    one_more n c = grind arith
+
+joined_both : {A : Type 0} (xs ys : List (List A)) → length (joined (xs ++ ys)) ≡ length (joined xs) + length (joined ys)
+joined_both [] ys = omega arith
+joined_both (x ∷ xs) ys = omega (arith, length-append x (joined (xs ++ ys)), length-append x (joined xs), joined_both xs ys)
+
+abbrev passes : Plan → ℕ → List (List RowGiven) → Bool
+passes plan race instances = length instances == plan.instances && list_all (λ items. length items == entries_of plan race) instances
+
+races_long : (plan : Plan) (race : ℕ) (rows : List (List (List RowGiven))) → each_passes (passes plan) race rows ≡ true
+    → plan.instances * entries_before plan race + length (joined (joined rows)) ≡ plan.instances * entries_before plan (race + length rows)
+races_long plan race [] all = let same : race ≡ race + 0 = omega arith in omega (arith, ap (λ n. plan.instances * entries_before plan n) same)
+races_long plan race (x ∷ rows) all =
+    let parts = and_parts (passes plan race x) (each_passes (passes plan) (race + 1) rows) all in
+    let here = and_parts (length x == plan.instances) (list_all (λ items. length items == entries_of plan race) x) parts.0 in
+    let long : length (joined x) ≡ plan.instances * entries_of plan race = lists_long (entries_of plan race) x here.1 ∙ ap (λ n. n * entries_of plan race) (eqb-true (length x) plan.instances here.0) in
+    let rest = races_long plan (race + 1) rows parts.1 in
+    let next : race + 1 ≡ suc race = omega arith in
+    let last : (race + 1) + length rows ≡ race + suc (length rows) = omega arith in
+    let spread : plan.instances * (entries_before plan race + entries_of plan race) ≡ plan.instances * entries_before plan race + plan.instances * entries_of plan race = grind arith in
+    omega (arith, joined_both x (joined rows), long, rest, ap (λ n. plan.instances * entries_before plan n) next, ap (λ n. plan.instances * entries_before plan n) last, spread)
+
+pub maps_long : {A B : Type 0} (f : A → B) (xs : List A) → length (map f xs) ≡ length xs
+maps_long f [] = refl
+maps_long f (x ∷ xs) = ap suc (maps_long f xs)
+
+-- a completion has a line for each row
+pub rows_few : (plan : Plan) (rows : List (List (List RowGiven))) → has_rows plan rows ≡ true → length (completion_texts rows) ≡ r_rows plan
+rows_few plan rows has =
+    let parts = and_parts (length rows == length plan.races) (each_passes (passes plan) 0 rows) has in
+    let counted = races_long plan 0 rows parts.1 in
+    let races = eqb-true (length rows) (length plan.races) parts.0 in
+    let all : 0 + length rows ≡ length plan.races = omega (arith, races) in
+    let none : plan.instances * 0 ≡ 0 = omega arith in
+    maps_long row_text (joined (joined rows)) ∙ omega (arith, counted, none, ap (λ n. plan.instances * entries_before plan n) all)
+
+-- ALL LINES
+
+-- a sheet has few lines
+pub sheet_few : (plan : Plan) (printed : Printed) → fault_of plan ≡ None → length (sheet_lines plan printed) ≤ 660000
+sheet_few plan printed fine = omega (arith, due_few plan fine, maps_long (line_due printed) (sheet_due plan), ap length (sheet_printed plan printed))
+
+-- all parts have no more lines than there may be
+pub given_few : (lines : List (List ℕ)) (given : Given) → IsGiven lines given → IsAccepted given.posted → length lines ≤ 2060002
+given_few lines given is accepted =
+    let plan = given.posted.plan in
+    let fine = good_plan given.posted accepted in
+    let posted = record_few given.posted accepted in
+    let sheet : length (sheet_texts plan given.codes) ≤ 660000 = omega (arith, maps_long (line_text plan.version) (sheet_lines plan (printed_of given.codes)), sheet_few plan (printed_of given.codes) fine) in
+    let rows = rows_few plan given.rows is.rows in
+    let most = (bounds plan fine).few_r_rows in
+    omega (
+      arith,
+      ap length is.text,
+      length-append (texts_in given.posted) (printing_line ∷ (sheet_texts plan given.codes ++ completion_line ∷ completion_texts given.rows)),
+      length-append (sheet_texts plan given.codes) (completion_line ∷ completion_texts given.rows),
+      posted,
+      sheet,
+      rows,
+      most,
+    )
+
+-- THE LAST LINE
+
+-- each line of a completion ends with a line feed
+opening_fed : (opening : RowOpening) → Fed (opening_text opening)
+opening_fed opening = fed_end (join_with_byte 32 (row_words opening))
+
+row_fed : (left right : Option Opening) → Fed (halves_text left right)
+row_fed None None none = fed_end (codes "none") none
+row_fed (Some left) None none = opening_fed (opened.Left left) none
+row_fed None (Some right) none = opening_fed (opened.Right right) none
+row_fed (Some left) (Some right) none = opening_fed (opened.Both left right) none
+
+-- the last of some lines and of these is one of these
+last_row : (first : List ℕ) (rows : List RowGiven) → Fed first → (front : List (List ℕ)) (last : List ℕ) → front ++ last ∷ [] ≡ first ∷ map row_text rows → Fed last
+last_row first [] fed [] last same = subst Fed (sym (head_same same)) fed
+last_row first [] fed (x ∷ front) last same = absurd (no_more front (tail_same same))
+  where
+    no_more : (xs : List (List ℕ)) → xs ++ last ∷ [] ≡ [] → ⊥
+    no_more [] e = cc
+    no_more (x ∷ xs) e = cc
+last_row first (row ∷ rows) fed [] last same = absurd (nothing (tail_same same))
+  where
+    nothing : ◌≡◌ {A = List (List ℕ)} [] (row_text row ∷ map row_text rows) → ⊥
+    nothing e = cc
+last_row first (row ∷ rows) fed (x ∷ front) last same = last_row (row_text row) rows (row_fed row.left row.right) front last (tail_same same)
+
+last_line : (before : List (List ℕ)) (rows : List RowGiven) (front : List (List ℕ)) (last : List ℕ) → front ++ last ∷ [] ≡ before ++ completion_line ∷ map row_text rows → Fed last
+last_line [] rows front last same = last_row completion_line rows (fed_end (codes "completion")) front last same
+last_line (b ∷ before) rows [] last same = absurd (some before (tail_same same))
+  where
+    some : (xs : List (List ℕ)) → [] ≡ xs ++ completion_line ∷ map row_text rows → ⊥
+    some [] e = cc
+    some (x ∷ xs) e = cc
+last_line (b ∷ before) rows (x ∷ front) last same = last_line before rows front last (tail_same same)
+
+-- the last line of all parts ends with a line feed
+pub given_fed : (lines : List (List ℕ)) (given : Given) → IsGiven lines given → (front : List (List ℕ)) (last : List ℕ) → lines ≡ front ++ last ∷ [] → HasNoFeed last → ⊥
+given_fed lines given is front last cut =
+    last_line (texts_in given.posted ++ printing_line ∷ sheet_texts given.posted.plan given.codes) (joined (joined given.rows)) front last
+    (sym cut ∙ (is.text ∙ sym (append_assoc (texts_in given.posted) (printing_line ∷ sheet_texts given.posted.plan given.codes) (completion_line ∷ completion_texts given.rows))))
+
+-- WHAT WAS READ
+
+-- no front with which no input begins is all parts
+pub parts_are_whole : (given : Given) (read : List ℕ) → IsGiven (lines_of read) given → AreParts given → HasOneMore read ⊎ EndsLong read → ⊥
+parts_are_whole given read is parts (inl more) =
+    let lines : lines_of read ≡ more.all = ap lines_of more.text_is ∙ lines_of-concat more.all more.are_lines in
+    absurd (omega (arith, given_few (lines_of read) given is parts.accepted, ap length lines, more.many))
+parts_are_whole given read is parts (inr long) =
+    let lines : lines_of read ≡ long.before ++ long.rest ∷ [] =
+    ap lines_of long.text_is
+    ∙ (lines_of-lines long.before long.rest long.are_lines ∙ ap (λ (l : List (List ℕ)). long.before ++ l) (lines_of-part long.rest long.unended (omega (arith, long.long)))) in
+    given_fed (lines_of read) given is long.before long.rest lines long.unended
+
+-- STATUSES
+
+-- the status for a fault is 1 or 7
+pub fault_statuses : (lines : List (List ℕ)) (status : ℕ) (text : List ℕ) → IsFaulty lines status text → (status ≡ 1) ⊎ (status ≡ 7)
+fault_statuses lines status text faulty = by_fault faulty.wrong faulty.known faulty.status_is
+  where
+    by_fault : (wrong : RecountFault) → wrong ≢ fault.NoMemory → status ≡ fault_status wrong → (status ≡ 1) ⊎ (status ≡ 7)
+    by_fault (fault.Record line broken) known e = inl e
+    by_fault (fault.Printing line) known e = inr e
+    by_fault (fault.Stand race instance row) known e = inr e
+    by_fault (fault.Completion line) known e = inr e
+    by_fault (fault.Opening race instance row) known e = inr e
+    by_fault (fault.Posted race instance row) known e = inr e
+    by_fault fault.NoMemory known e = absurd (known refl)
+
+-- what is due has one of three
+pub recount_statuses : (lines : List (List ℕ)) (status : ℕ) (text : List ℕ) → RecountDue lines status text → (status ≡ 0) ⊎ ((status ≡ 1) ⊎ (status ≡ 7))
+recount_statuses lines status text (inl finds) = inl finds.0
+recount_statuses lines status text (inr faulty) = inr (fault_statuses lines status text faulty)
+
+pub odds_statuses : (lines : List (List ℕ)) (status : ℕ) (text : List ℕ) → OddsDue lines status text → (status ≡ 0) ⊎ ((status ≡ 1) ⊎ (status ≡ 7))
+odds_statuses lines status text (inl finds) = inl finds.0
+odds_statuses lines status text (inr (inl lacks)) = inr (inr lacks.0)
+odds_statuses lines status text (inr (inr faulty)) = inr (fault_statuses lines status text faulty)
+
+faulty_not_zero : (lines : List (List ℕ)) (text : List ℕ) → IsFaulty lines 0 text → ⊥
+faulty_not_zero lines text faulty = elim (fault_statuses lines 0 text faulty) [ inl one ↦ omega (arith, one) | inr seven ↦ omega (arith, seven) ]
+
+pub recount_ends : EndsAtEnd RecountDue
+recount_ends text read (inl finds) cut = parts_are_whole finds.1.given read finds.1.is_given finds.1.parts cut
+recount_ends text read (inr faulty) cut = faulty_not_zero (lines_of read) text faulty
+
+pub odds_ends : EndsAtEnd OddsDue
+odds_ends text read (inl finds) cut = parts_are_whole finds.1.given read finds.1.is_given finds.1.parts cut
+odds_ends text read (inr (inl lacks)) cut = absurd (omega (arith, lacks.0))
+odds_ends text read (inr (inr faulty)) cut = faulty_not_zero (lines_of read) text faulty

@@ -1,0 +1,74 @@
+-- What is due of the lines of a recount's input (this project's rules for a recount).
+use Rattle.std.specs.Prelude.{◌≡◌, ◌≢◌, ℕ, ◌+◌, ◌⊎◌, List, [], ◌∷◌, ◌++◌, codes}
+use Rattle.sg_parts.specs.Faults.{HasFault}
+use Rattle.sg_parts.specs.Given.{AreParts, Given, IsGiven}
+use Rattle.sg_parts.specs.declared.parts.RecountFault.{RecountFault}
+use Rattle.sg_parts.specs.declared.parts.RecountFault.TheVariants as fault
+use Rattle.sg_recount.specs.Findings.{AreFindings, AreSumsBound}
+use Rattle.sg_recount.specs.declared.findings.Findings.{Findings}
+use Rattle.sg_recount.specs.declared.findings.Sum.{Sum}
+use Rattle.sg_report.specs.Report.{no_text}
+use Rattle.sg_reports.specs.court.Texts.{altered_text, numbers_line}
+
+-- WHAT IS FOUND
+
+-- `candidate RACE CANDIDATE TOTAL COUNT`, for each candidate of a race, from one on
+abbrev pub race_sums_text : ℕ → ℕ → List Sum → List ℕ
+race_sums_text race candidate [] = []
+race_sums_text race candidate (sum ∷ sums) =
+    numbers_line (codes "candidate") (race ∷ candidate ∷ sum.total ∷ sum.count ∷ []) ++ race_sums_text race (candidate + 1) sums
+
+-- for each race, from one on
+abbrev pub sums_text : ℕ → List (List Sum) → List ℕ
+sums_text race [] = []
+sums_text race (sums ∷ lists) = race_sums_text race 0 sums ++ sums_text (race + 1) lists
+
+-- the altered rows, and then the sums
+abbrev pub findings_text : Findings → List ℕ
+findings_text findings = altered_text 0 findings.altered ++ sums_text 0 findings.sums
+
+-- the lines are a record with a verdict of yes, a printing that stands with it and a completion of its rows; and the text
+-- is what a recount finds of them
+pub record Finds (lines : List (List ℕ)) (text : List ℕ) : Type 0 where
+  pub given : Given
+  pub findings : Findings
+  pub is_given : IsGiven lines given
+  pub parts : AreParts given
+  pub are : AreFindings given findings
+  pub bound : AreSumsBound given findings
+  pub text_is : text ≡ findings_text findings
+
+-- FAULTS
+
+-- the line for a fault
+abbrev pub fault_text : RecountFault → List ℕ
+fault_text (fault.Record line broken) = no_text line broken
+fault_text (fault.Printing line) = numbers_line (codes "refused printing") (line ∷ [])
+fault_text (fault.Stand race instance row) = numbers_line (codes "refused stand") (race ∷ instance ∷ row ∷ [])
+fault_text (fault.Completion line) = numbers_line (codes "refused completion") (line ∷ [])
+fault_text (fault.Opening race instance row) = numbers_line (codes "refused opening") (race ∷ instance ∷ row ∷ [])
+fault_text (fault.Posted race instance row) = numbers_line (codes "refused posted") (race ∷ instance ∷ row ∷ [])
+fault_text fault.NoMemory = []
+
+-- 1 where the record's verdict is no, and else 7; want of memory prints nothing
+abbrev pub fault_status : RecountFault → ℕ
+fault_status (fault.Record line broken) = 1
+fault_status (fault.Printing line) = 7
+fault_status (fault.Stand race instance row) = 7
+fault_status (fault.Completion line) = 7
+fault_status (fault.Opening race instance row) = 7
+fault_status (fault.Posted race instance row) = 7
+fault_status fault.NoMemory = 9
+
+-- the lines have a fault, other than want of memory, and the status and the text are those for it
+pub record IsFaulty (lines : List (List ℕ)) (status : ℕ) (text : List ℕ) : Type 0 where
+  pub wrong : RecountFault
+  pub has : HasFault lines wrong
+  pub known : wrong ≢ fault.NoMemory
+  pub status_is : status ≡ fault_status wrong
+  pub text_is : text ≡ fault_text wrong
+
+-- the status and the text of a recount: 0, and what it finds; or 1 where the record's verdict is no, or 7 for another fault,
+-- and the line for that
+abbrev pub RecountDue : List (List ℕ) → ℕ → List ℕ → Type 0
+RecountDue lines status text = ((status ≡ 0) × Finds lines text) ⊎ IsFaulty lines status text

@@ -1,0 +1,32 @@
+-- How what is due is written.
+use Rattle.std.specs.Prelude.{◌≡◌, ◌⊎◌, ℕ, List}
+use Rattle.std.specs.Io.KnownBytes.{Appends}
+use Rattle.sg_outside.specs.Faults.{Rose}
+use Rattle.sg_outside.specs.Streams.{AppendsFront, Seen}
+use Rattle.sg_reports.specs.declared.court.due.Due.{Due}
+
+-- a text was written whole, or a front of it where the output failed
+abbrev pub Writes : Due → ℕ → Seen → Seen → Type 0
+Writes due status out out' =
+    ((status ≡ due.status) × Appends out.bytes out'.bytes due.text)
+    ⊎ ((status ≡ 4) × Rose out.faults out'.faults × AppendsFront out.bytes out'.bytes due.text)
+
+-- what is due of these lines was written whole
+pub record TellsAll (IsDue : List (List ℕ) → ℕ → List ℕ → Type 0) (lines : List (List ℕ)) (status : ℕ) (out out' : Seen) : Type 0 where
+  pub text : List ℕ
+  pub due : IsDue lines status text
+  pub written : Appends out.bytes out'.bytes text
+
+-- a front of it was
+pub record TellsFront (IsDue : List (List ℕ) → ℕ → List ℕ → Type 0) (lines : List (List ℕ)) (out out' : Seen) : Type 0 where
+  pub status : ℕ
+  pub text : List ℕ
+  pub due : IsDue lines status text
+  pub cause : Rose out.faults out'.faults
+  pub written : AppendsFront out.bytes out'.bytes text
+
+abbrev pub Tells : (List (List ℕ) → ℕ → List ℕ → Type 0) → List (List ℕ) → ℕ → Seen → Seen → Type 0
+Tells IsDue lines status out out' =
+    TellsAll IsDue lines status out out'
+    ⊎ ((status ≡ 4) × TellsFront IsDue lines out out')
+    ⊎ ((status ≡ 9) × (out' ≡ out))

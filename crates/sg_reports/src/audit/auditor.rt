@@ -1,0 +1,79 @@
+//! A pass as a judge of the lines that it is fed.
+ghost use Rattle.std.specs.Prelude.{◌≡◌};
+ghost use Rattle.sg_reports.specs.audit.inside.Standing.{standing_of};
+
+use sg_check::Judged;
+use sg_driver::{Judge, Standing};
+use sg_judge::{Pass, Step};
+use sg_outside::{Failed, Sink};
+use sg_plan::NoMemory;
+use sg_report::write_report;
+use std::alloc::Global;
+
+/// Judges the lines of a record.
+#[derive(Drop)]
+pub(crate) struct Auditor {
+    pass: Pass,
+}
+
+impl Judge for Auditor {
+    ghost use Rattle.std.specs.Prelude.{◌≡◌, true, false};
+    ghost use Rattle.sg_check.specs.Verdict.{AreFine};
+    ghost use Rattle.sg_judge.specs.Pass.{StandsFor, is_open, left_in as lines_left};
+    ghost use Rattle.sg_reports.specs.audit.Audit.{audit};
+
+    type Answer = Judged;
+
+    ghost judging = { audit };
+
+    ghost stands = { λ auditor lines. StandsFor auditor.pass lines × (is_open auditor.pass ≡ true) × AreFine lines };
+
+    ghost settled = { λ auditor lines. StandsFor auditor.pass lines × (is_open auditor.pass ≡ false) };
+
+    ghost left_in = { λ auditor. lines_left auditor.pass };
+
+    fn new(alloc: Global) -> Result<Auditor, NoMemory> {
+        let pass = Pass::new(alloc)?;
+        Ok(Auditor { pass })
+    }
+
+    fn line(&mut self, line: &[u8]) -> Result<Standing, NoMemory> {
+        if self.pass.is_ready() {
+            return Ok(standing(self.pass.line(line)));
+        }
+        let step = self.pass.header_line(line)?;
+        Ok(standing(step))
+    }
+
+    fn end(self) -> Judged {
+        let Auditor { pass } = self;
+        pass.end()
+    }
+
+    fn end_at_no_line(self) -> Judged {
+        let Auditor { pass } = self;
+        pass.end_at_no_line()
+    }
+
+    fn status(answer: &Judged) -> u8 {
+        match answer {
+            Judged::Yes(_) => 0,
+            Judged::No { .. } => 1,
+        }
+    }
+
+    fn write_report<O: Sink>(answer: &Judged, out: &mut O) -> Result<(), Failed> {
+        write_report(out, answer)
+    }
+}
+
+/// What a pass says of the lines, in a judge's words.
+fn standing(step: Step) -> Standing
+    ensures { result ≡ standing_of step }
+{
+    match step {
+        Step::More => Standing::Open,
+        Step::Ready => Standing::Open,
+        Step::Over => Standing::Settled,
+    }
+}

@@ -1,0 +1,79 @@
+//! A tally as a judge of the lines that it is fed.
+ghost use Rattle.std.specs.Prelude.{◌≡◌};
+ghost use Rattle.sg_reports.specs.county.inside.Standing.{standing_of};
+
+use crate::county::report::write_report;
+use sg_county::{CountyVerdict, Tally};
+use sg_driver::{Judge, Standing};
+use sg_judge::Step;
+use sg_outside::{Failed, Sink};
+use sg_plan::NoMemory;
+use std::alloc::Global;
+
+/// Judges the lines of a county.
+#[derive(Drop)]
+pub(crate) struct Counter {
+    alloc: Global,
+    tally: Tally,
+}
+
+impl Judge for Counter {
+    ghost use Rattle.std.specs.Prelude.{◌≡◌, true, false};
+    ghost use Rattle.sg_county.specs.Tally.{IsUnsettled, StandsFor, is_open, left_in as lines_left};
+    ghost use Rattle.sg_reports.specs.county.Counts.{county};
+
+    type Answer = CountyVerdict;
+
+    ghost judging = { county };
+
+    ghost stands = { λ counter lines. StandsFor counter.tally lines × (is_open counter.tally ≡ true) × IsUnsettled lines };
+
+    ghost settled = { λ counter lines. StandsFor counter.tally lines × (is_open counter.tally ≡ false) };
+
+    ghost left_in = { λ counter. lines_left counter.tally };
+
+    fn new(alloc: Global) -> Result<Counter, NoMemory> {
+        let tally = Tally::new(alloc)?;
+        Ok(Counter { alloc, tally })
+    }
+
+    fn line(&mut self, line: &[u8]) -> Result<Standing, NoMemory> {
+        let step = self.tally.line(self.alloc, line)?;
+        Ok(standing(step))
+    }
+
+    fn end(self) -> CountyVerdict {
+        let Counter { tally, .. } = self;
+        tally.end()
+    }
+
+    fn end_at_no_line(self) -> CountyVerdict {
+        let Counter { tally, .. } = self;
+        tally.end_at_no_line()
+    }
+
+    fn status(answer: &CountyVerdict) -> u8 {
+        match answer {
+            CountyVerdict::Yes(_) => 0,
+            CountyVerdict::No { .. } => 1,
+            CountyVerdict::Differs(_) => 1,
+            CountyVerdict::Repeats { .. } => 1,
+            CountyVerdict::Parts => 7,
+        }
+    }
+
+    fn write_report<O: Sink>(answer: &CountyVerdict, out: &mut O) -> Result<(), Failed> {
+        write_report(out, answer)
+    }
+}
+
+/// What a tally says of the lines, in a judge's words.
+fn standing(step: Step) -> Standing
+    ensures { result ≡ standing_of step }
+{
+    match step {
+        Step::More => Standing::Open,
+        Step::Ready => Standing::Open,
+        Step::Over => Standing::Settled,
+    }
+}

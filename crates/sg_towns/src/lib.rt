@@ -1,9 +1,0 @@
-//! The command `county`: the records of a county's parts are read one after another, audited as one, and their sums are
-//! reported.
-#![tactic(auto)]
-
-mod counter;
-mod counting;
-mod report;
-
-pub use counting::count_county;

@@ -1,3 +1,0 @@
--- The modules of definitions.
-pub mod Laws
-pub mod Turns
