@@ -1,27 +1,79 @@
 //! The words of a line, read one after another.
-ghost use Rattle.std.specs.Prelude.{◌≡◌, ◌∷◌, [], IfSome, MatchOption, bytes_eq};
+ghost use Rattle.std.specs.Prelude.{◌≡◌, ◌<◌, ◌∷◌, [], IfSome, MatchOption, Some, bytes_eq, length, slice_index, take};
 ghost use Rattle.std.specs.Option.{option_map, option_copied};
-ghost use Rattle.sg_lines.specs.Words.{decimal_of, key_of, digest_of, code_of};
+ghost use Rattle.sg_lines.specs.Words.{HasNoSpace, decimal_of, key_of, digest_of, code_of};
 ghost use Rattle.sg_forms.specs.Reading.{words_in, words_left, name_of, bits_of, first_by, whole};
 ghost use Rattle.sg_forms.specs.Said.{said};
 ghost use Rattle.sg_forms.specs.Zeros.{HasZeros};
 
 use crate::kinds::{read_bits, read_name};
 use crate::line::Line;
-use memchr::memchr;
 use sg_commit::{Digest, Key};
 use sg_lines::{read_code, read_decimal, read_digest, read_key};
 use std::marker::Model;
 
+/// Where the first space of a text stands. Words are mostly short, and then a loop takes less time than `memchr`.
+fn space_in(text: &[u8]) -> Option<usize>
+    ensures { MatchOption result (HasNoSpace text.now) (λ at.
+        (at < length text.now) × (slice_index text.now at ≡ 32) × HasNoSpace (take at text.now)) }
+{
+    for at in 0..text.len() {
+        if text[at] == b' ' {
+            return Some(at);
+        }
+    }
+    None
+}
+
 /// The first word of a text, and what stands behind the space after it.
-#[tactic(auto, using(crate::proofs::Cutting::cut_at_space, crate::proofs::Cutting::cut_without_space))]
+#[tactic(auto, using(crate::proofs::Cutting::cut_at_width, crate::proofs::Cutting::cut_whole))]
 pub(crate) fn cut(text: &[u8]) -> (&[u8], Option<&[u8]>)
     ensures { words_in text.now ≡ result.0.now ∷ words_left (option_copied result.1) }
 {
-    match memchr(b' ', text) {
+    match space_in(text) {
         Some(at) => (&text[..at], Some(&text[at + 1..])),
         None => (text, None),
     }
+}
+
+/// The first so many bytes of a text, and what stands behind the space after them, where there is a space, or nothing
+/// behind them.
+#[tactic(auto, using(crate::proofs::Cutting::cut_at_width, crate::proofs::Cutting::cut_whole))]
+fn cut_at(text: &[u8], width: usize) -> Option<(&[u8], Option<&[u8]>)>
+    ensures { IfSome result (λ cut. HasNoSpace cut.0.now → words_in text.now ≡ cut.0.now ∷ words_left (option_copied cut.1)) }
+{
+    if text.len() == width {
+        return Some((text, None));
+    }
+    if text.len() < width {
+        return None;
+    }
+    if text[width] != b' ' {
+        return None;
+    }
+    Some((&text[..width], Some(&text[width + 1..])))
+}
+
+/// The key that a text begins with, and what stands behind the space after it, where the first word is a key. No byte of
+/// it is looked at twice.
+#[tactic(auto, using(crate::proofs::Cutting::spelled))]
+fn cut_key(text: &[u8]) -> Option<(Key, Option<&[u8]>)>
+    ensures { IfSome result (λ found. first_by key_of (words_in text.now) ≡ Some (found.0.0, words_left (option_copied found.1))) }
+{
+    let (word, rest) = cut_at(text, 32)?;
+    let bytes = read_key(word)?;
+    Some((Key(bytes), rest))
+}
+
+/// The digest that a text begins with, and what stands behind the space after it, where the first word is a digest. No
+/// byte of it is looked at twice.
+#[tactic(auto, using(crate::proofs::Cutting::spelled))]
+fn cut_digest(text: &[u8]) -> Option<(Digest, Option<&[u8]>)>
+    ensures { IfSome result (λ found. first_by digest_of (words_in text.now) ≡ Some (found.0.0, words_left (option_copied found.1))) }
+{
+    let (word, rest) = cut_at(text, 64)?;
+    let bytes = read_digest(word)?;
+    Some((Digest(bytes), rest))
 }
 
 /// The two words are the same.
@@ -77,6 +129,11 @@ impl<'a> Words<'a> {
     pub(crate) fn key(&mut self) -> Option<Key>
         ensures { option_map (λ key. (key.0, self.new)) result ≡ first_by key_of self.old }
     {
+        let text = self.rest?;
+        if let Some((key, rest)) = cut_key(text) {
+            self.rest = rest;
+            return Some(key);
+        }
         let word = self.word()?;
         let bytes = read_key(word)?;
         Some(Key(bytes))
@@ -86,6 +143,11 @@ impl<'a> Words<'a> {
     pub(crate) fn digest(&mut self) -> Option<Digest>
         ensures { option_map (λ digest. (digest.0, self.new)) result ≡ first_by digest_of self.old }
     {
+        let text = self.rest?;
+        if let Some((digest, rest)) = cut_digest(text) {
+            self.rest = rest;
+            return Some(digest);
+        }
         let word = self.word()?;
         let bytes = read_digest(word)?;
         Some(Digest(bytes))

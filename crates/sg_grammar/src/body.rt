@@ -34,6 +34,7 @@ pub struct Standing {
 
 /// The line in the place of the one that is due.
 #[tactic(auto, using(crate::proofs::DueLines::standing))]
+#[inline(always)]
 fn stand_due(plan: &CountedPlan, slot: Slot, part: Part, line: &Line) -> Option<Standing>
     requires sized { HasSizes plan.now }
     requires slot { IsIn plan.now slot }
@@ -318,6 +319,7 @@ fn stand_after_dispute(plan: &CountedPlan, count: u32, line: &Line) -> Option<St
 // ANY LINE BEHIND THE PLAN
 
 /// A line that may begin where none is due.
+#[inline(always)]
 fn stand_beginning(plan: &CountedPlan, part: Part, line: &Line) -> Option<Standing>
     requires sized { HasSizes plan.now }
     requires part { IsPartIn plan.now part }
@@ -336,6 +338,7 @@ fn stand_beginning(plan: &CountedPlan, part: Part, line: &Line) -> Option<Standi
 }
 
 /// A line behind the plan, where it may stand.
+#[inline(always)]
 pub(crate) fn stand(
     plan: &CountedPlan,
     slot: Option<Slot>,
@@ -369,6 +372,7 @@ fn stand_first(plan: &CountedPlan, line: &Line) -> Option<Standing>
 
 /// A line that is none of the plan, where it may stand.
 #[tactic(auto, using(crate::proofs::Walking::sizes))]
+#[inline(always)]
 pub(crate) fn stand_behind(
     plan: &CountedPlan,
     head: Head,

@@ -43,6 +43,7 @@ pub enum Meaning<'a> {
 }
 
 /// What the line tells where it stands. It takes no memory.
+#[inline(always)]
 pub fn meaning_of<'a>(at: Spot, line: &Line<'a>) -> Meaning<'a>
     ensures { HasMeaning (placed_at at (said line.now)) result }
 {
@@ -82,6 +83,7 @@ pub fn meaning_of<'a>(at: Spot, line: &Line<'a>) -> Meaning<'a>
 }
 
 /// A commitment of a code, where the line is one.
+#[inline(always)]
 fn meaning_of_code_commit<'a>(race: u32, entry: u32, line: &Line<'a>) -> Meaning<'a>
     ensures { HasMeaning (placed_at (Spot.CodeCommit race entry) (said line.now)) result }
 {
@@ -92,6 +94,7 @@ fn meaning_of_code_commit<'a>(race: u32, entry: u32, line: &Line<'a>) -> Meaning
 }
 
 /// Commitments of a row, where the line is one.
+#[inline(always)]
 fn meaning_of_row_commit<'a>(race: u32, instance: u32, row: u32, line: &Line<'a>) -> Meaning<'a>
     ensures { HasMeaning (placed_at (Spot.RowCommit race instance row) (said line.now)) result }
 {
@@ -102,6 +105,7 @@ fn meaning_of_row_commit<'a>(race: u32, instance: u32, row: u32, line: &Line<'a>
 }
 
 /// A code, where the line is one.
+#[inline(always)]
 fn meaning_of_code<'a>(
     block: Block,
     ballot: u32,
@@ -148,6 +152,7 @@ fn meaning_of_total<'a>(race: u32, candidate: u32, line: &Line<'a>) -> Meaning<'
 }
 
 /// A row, where the line is one.
+#[inline(always)]
 fn meaning_of_row<'a>(race: u32, instance: u32, row: u32, line: &Line<'a>) -> Meaning<'a>
     ensures { HasMeaning (placed_at (Spot.Row race instance row) (said line.now)) result }
 {

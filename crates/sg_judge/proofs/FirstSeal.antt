@@ -1,9 +1,8 @@
 -- The digest of the line `seal 1`, with one more line.
-use Rattle.std.proofs.Common.{◌≡◌, ℕ, ◌+◌, true, false, List, [], ◌∷◌, ◌++◌, length, Option, Some, None, refl, sym, subst, ap, ◌∙◌}
+use Rattle.std.proofs.Common.{◌≡◌, ℕ, ◌+◌, true, List, [], ◌∷◌, ◌++◌, length, Option, Some, None, refl, sym, subst, ap, ◌∙◌}
 use Rattle.std.specs.Option.{is_some, option_map_or}
 use Rattle.sg_check.specs.declared.judged.Kind.TheVariants as kind
 use Rattle.sg_check.proofs.OneMore.{form_over}
-use Rattle.sg_check.specs.Facts.{first_given}
 use Rattle.sg_grammar.specs.Lines.{placed_of}
 use Rattle.sg_commit.specs.declared.Digest.{Digest}
 use Rattle.sg_commit.specs.declared.Sealer.{Sealer}
@@ -20,7 +19,7 @@ use Rattle.sg_grammar.proofs.Walking.{some_there, take_bytes-read, take_line-hea
 use Rattle.sg_grammar.specs.Head.{head_line}
 use Rattle.sg_grammar.specs.Placed.{Placed}
 use Rattle.sg_grammar.specs.Spots.{placed_next}
-use Rattle.sg_grammar.specs.Walk.{Next, Posted, Taken, Walked, headed, read_next, start, take_bytes, walk}
+use Rattle.sg_grammar.specs.Walk.{Next, Posted, Taken, Walked, read_next, start, take_bytes, walk}
 
 first_given-or : (o a b : Option Digest) → option_map_or Some o (or_seal a b) ≡ or_seal (option_map_or Some o a) b
 first_given-or None a b = refl

@@ -1,7 +1,6 @@
 -- A line that may stand, in its place.
 use Rattle.std.proofs.Common.{◌≡◌, ◌<◌, true, false, inl, inr, List, [], ◌∷◌, ◌++◌, Option, Some, None, refl, sym, subst, ap, ◌∙◌}
 use Rattle.std.specs.Option.{is_some, option_map}
-use Rattle.std.specs.Prelude.{IsSome}
 use Rattle.std.proofs.lemmas.Option.{same_Some}
 use Rattle.sg_check.proofs.OfPlan.{plan_lines-push}
 use Rattle.sg_check.specs.Judging.{AreOfPlan}
@@ -11,7 +10,7 @@ use Rattle.sg_forms.specs.Said.{Said}
 use Rattle.sg_ledger.specs.Tells.{Tells}
 use Rattle.sg_ledger.specs.declared.ledger.Ledger.{Ledger}
 use Rattle.sg_judge.proofs.Behind.{plan_before, runs_stand}
-use Rattle.sg_judge.specs.inside.Taking.{IsRefused, IsTaken, Keeps}
+use Rattle.sg_judge.specs.inside.Taking.{IsRefused, IsTaken}
 use Rattle.sg_plan.specs.Limits.{fault_of}
 use Rattle.sg_plan.specs.declared.plan.Plan.{Plan}
 use Rattle.sg_grammar.proofs.Claims.{option_map-some}

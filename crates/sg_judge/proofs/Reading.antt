@@ -1,5 +1,5 @@
 -- What holds of a line that was read, where it stands.
-use Rattle.std.proofs.Common.{◌≡◌, ℕ, ◌+◌, ◌≤◌, List, [], ◌∷◌, ◌++◌, if◌then◌else◌, length, map, count_by, Option, Some, refl, sym, subst, ap, ◌∙◌, arith}
+use Rattle.std.proofs.Common.{◌≡◌, ℕ, ◌+◌, ◌≤◌, List, [], ◌∷◌, if◌then◌else◌, length, count_by, Some, refl, subst, ◌∙◌, arith}
 use Rattle.std.proofs.lemmas.List.{length-append}
 use Rattle.std.proofs.lemmas.List.Sums.{sum_by-cons}
 use Rattle.sg_grammar.specs.Lines.{placed_of}
@@ -19,7 +19,7 @@ use Rattle.sg_grammar.specs.Left.{is_total_line}
 use Rattle.sg_grammar.specs.Placed.{Placed}
 use Rattle.sg_grammar.specs.Placed.Placed.{TotalAt}
 use Rattle.sg_grammar.specs.Spots.{placed_at, placed_next}
-use Rattle.sg_grammar.specs.Walk.{Next, Posted, read_next}
+use Rattle.sg_grammar.specs.Walk.{Next, read_next}
 use Rattle.sg_grammar.specs.declared.state.Spot.{Spot}
 use Rattle.sg_grammar.specs.declared.state.Spot.TheVariants as spot
 

@@ -7,14 +7,32 @@ ghost use Rattle.sg_forms.specs.Said.{said};
 ghost use Rattle.sg_grammar.specs.Placed.Placed.{SealAt};
 ghost use Rattle.sg_grammar.specs.Spots.{placed_at};
 ghost use Rattle.sg_judge.specs.FirstSeal.{first_seal_on};
-ghost use Rattle.sg_judge.specs.inside.Taking.{or_seal};
+ghost use Rattle.sg_judge.specs.inside.Taking.{is_seal_spot, or_seal};
 
 use sg_commit::{Digest, Sealer};
 use sg_grammar::{Line, Meaning, Spot, meaning_of};
 
 /// The line is a seal, and not the hash of the bytes before it.
-#[tactic(auto, using(crate::proofs::Sealing::seals))]
+#[tactic(auto, using(crate::proofs::Sealing::elsewhere))]
 pub(crate) fn is_bad_seal(sealer: &Sealer, at: Spot, line: &Line) -> bool
+    ensures { (before : List ℕ) → HasTaken sealer.now before → result ≡ bad_seal before (placed_at at (said line.now)) }
+{
+    if !is_at_seal(at) {
+        return false;
+    }
+    is_bad_seal_there(sealer, at, line)
+}
+
+/// A seal is due there.
+fn is_at_seal(at: Spot) -> bool
+    ensures { result ≡ is_seal_spot at }
+{
+    matches!(at, Spot::Seal { .. })
+}
+
+/// The line says a seal, and not the hash of the bytes before it.
+#[tactic(auto, using(crate::proofs::Sealing::seals))]
+fn is_bad_seal_there(sealer: &Sealer, at: Spot, line: &Line) -> bool
     ensures { (before : List ℕ) → HasTaken sealer.now before → result ≡ bad_seal before (placed_at at (said line.now)) }
 {
     match meaning_of(at, line) {
@@ -36,10 +54,11 @@ pub(crate) fn is_bad_seal(sealer: &Sealer, at: Spot, line: &Line) -> bool
 }
 
 /// Keeps the digest of the line `seal 1`.
+#[tactic(auto, using(crate::proofs::Sealing::elsewhere_first))]
 pub(crate) fn note_seal(seal: &mut Option<Digest>, at: Spot, line: &Line)
     ensures { seal.new ≡ or_seal seal.old (first_seal_on (placed_at at (said line.now))) }
 {
-    if seal.is_none() {
+    if seal.is_none() && is_at_seal(at) {
         *seal = first_seal_told(at, line);
     }
 }

@@ -3,12 +3,14 @@ ghost use Rattle.std.specs.Prelude.{◌≡◌, ℕ, ◌*◌, ◌<◌, ◌≤◌,
 ghost use Rattle.hex.specs.Hex.{lower_digits};
 ghost use Rattle.sg_lines.specs.Words.{IsBytes, encode_lower, key_of, digest_of};
 
+use crate::rows::read_row;
+
 /// What stands for the value of a byte that is no digit.
 const NO_DIGIT: u8 = 255;
 
 /// The value of a lower-case hexadecimal digit, and 255 for any other byte.
 #[inline(always)]
-fn digit_value(digit: u8) -> u8
+pub(crate) fn digit_value(digit: u8) -> u8
     ensures found { result < 16 → digit ≡ slice_index lower_digits result }
     ensures only { (value : ℕ) → value < 16 → digit ≡ slice_index lower_digits value → result ≡ value }
 {
@@ -53,8 +55,10 @@ pub fn read_key(word: &[u8]) -> Option<[u8; 16]>
     if word.len() != 32 {
         return None;
     }
+    let mut values = [0; 32];
+    let mut pairs = [0; 16];
     let mut key = [0; 16];
-    if read_hex(word, &mut key) {
+    if read_row(word, &mut values, &mut pairs, &mut key) {
         Some(key)
     } else {
         None
@@ -71,8 +75,10 @@ pub fn read_digest(word: &[u8]) -> Option<[u8; 32]>
     if word.len() != 64 {
         return None;
     }
+    let mut values = [0; 64];
+    let mut pairs = [0; 32];
     let mut digest = [0; 32];
-    if read_hex(word, &mut digest) {
+    if read_row(word, &mut values, &mut pairs, &mut digest) {
         Some(digest)
     } else {
         None

@@ -11,6 +11,7 @@ mod code;
 pub mod laws;
 mod number;
 mod parts;
+mod rows;
 
 pub use any_bytes::hex_bytes;
 pub use bits::is_bits;

@@ -17,8 +17,8 @@ use Rattle.sg_plan.specs.declared.plan.Plan.{Plan}
 use Rattle.sg_grammar.specs.Head.{head_line}
 use Rattle.sg_grammar.specs.Placed.{Placed}
 use Rattle.sg_grammar.specs.Walk.{Next, Posted, read_next, start, take_bytes, take_line, took, walk}
-use Rattle.sg_grammar.specs.declared.state.Head.{Head}
-use Rattle.sg_grammar.specs.declared.state.Head.TheVariants as head
+use Rattle.sg_grammar.specs.declared.state.Spot.{Spot}
+use Rattle.sg_grammar.specs.declared.state.Spot.TheVariants as spot
 
 -- the bytes are no line of the plan that may stand next
 abbrev pub IsNoPlanLine : Next → List ℕ → Type 0
@@ -46,6 +46,11 @@ pub record IsRefused (old : Next) (said : Said) (placed : Placed) (lines : List 
   pub bad : first_bad old.plan lines placed ≡ Some broken
 
 -- THE FIRST SEAL
+
+-- a seal is due in this spot
+abbrev pub is_seal_spot : Spot → Bool
+is_seal_spot (spot.Seal number) = true
+is_seal_spot at = false
 
 -- the digest that was kept, or else the new line's
 abbrev pub or_seal : Option Digest → Option Digest → Option Digest

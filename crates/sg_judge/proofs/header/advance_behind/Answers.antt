@@ -1,4 +1,4 @@
-use Rattle.std.proofs.Common.{Some, sym, ap, ◌∙◌}
+use Rattle.std.proofs.Common.{ap, ◌∙◌}
 use Rattle.sg_grammar.specs.Head.{is_behind}
 use Rattle.sg_judge.proofs.Advancing.{kept_advances, kept_closed, kept_opens, opened_advances, opened_stands}
 use Rattle.sg_judge.proofs.header.advance_behind.Goals as goal

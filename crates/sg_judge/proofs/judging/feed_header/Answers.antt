@@ -1,7 +1,7 @@
 -- The pass takes one more line, or the verdict stands.
 use Rattle.std.proofs.Common.{◌≡◌, false, ap, ◌∙◌}
 use Rattle.sg_judge.specs.Pass.{is_fine, is_open, says_ready}
-use Rattle.sg_judge.proofs.Feeds.{fed_all, fed_more, fed_over}
+use Rattle.sg_judge.proofs.Feeds.{fed_more, fed_over}
 use Rattle.sg_judge.proofs.judging.feed_header.Goals as goal
 
 pub loop-at-init : goal.loop-at-init

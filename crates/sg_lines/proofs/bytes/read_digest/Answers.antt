@@ -1,4 +1,4 @@
--- A word of another length spells no digest, and the rest follows from what `read_hex` ensures.
+-- A word of another length spells no digest, and the rest follows from what `read_row` ensures.
 use Rattle.std.proofs.Common.{length, true≢false, sym, ap, ◌∙◌, arith}
 use Rattle.sg_lines.proofs.Hex.{digest_of-some, digest_of-none, length-encode_lower}
 use Rattle.sg_lines.proofs.bytes.read_digest.Goals as goal
@@ -9,9 +9,9 @@ returns-then-word-ne64-clause-only c = λ digest count fits is. absurd (omega (a
 pub returns-then-word-ne64-clause-exact : goal.returns-then-word-ne64-clause-exact
 returns-then-word-ne64-clause-exact c = digest_of-none c.args.word.now (λ digest count fits is. absurd (omega (arith, ap length is, length-encode_lower digest)))
 
-pub returns-then-read_hex-clause-exact : goal.returns-then-read_hex-clause-exact
-returns-then-read_hex-clause-exact c =
-    digest_of-some c.args.word.now c.read_hex.new.out (omega arith) c.read_hex.ensures.bytes (c.read_hex.ensures.found c.if-read_hex.true)
+pub returns-then-read_row-clause-exact : goal.returns-then-read_row-clause-exact
+returns-then-read_row-clause-exact c =
+    digest_of-some c.args.word.now c.read_row.new.out (omega arith) c.read_row.ensures.bytes (c.read_row.ensures.found c.if-read_row.true)
 
-pub returns-else-read_hex-clause-exact : goal.returns-else-read_hex-clause-exact
-returns-else-read_hex-clause-exact c = digest_of-none c.args.word.now (λ digest count fits is. absurd (true≢false (sym (c.read_hex.ensures.only digest fits is).0 ∙ c.if-read_hex.false)))
+pub returns-else-read_row-clause-exact : goal.returns-else-read_row-clause-exact
+returns-else-read_row-clause-exact c = digest_of-none c.args.word.now (λ digest count fits is. absurd (true≢false (sym (c.read_row.ensures.only digest fits is).0 ∙ c.if-read_row.false)))

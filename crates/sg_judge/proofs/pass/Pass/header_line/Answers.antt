@@ -1,4 +1,4 @@
-use Rattle.std.proofs.Common.{◌+◌, ◌<◌, ◌^◌, Bool, List, [], ◌∷◌, ◌++◌, Option, None, sym, subst, ap, ◌∙◌, arith}
+use Rattle.std.proofs.Common.{◌+◌, ◌<◌, ◌^◌, Bool, [], ◌∷◌, ◌++◌, Option, None, sym, subst, ap, ◌∙◌, arith}
 use Rattle.sg_ledger.specs.declared.ledger.Ledger.{Ledger}
 use Rattle.sg_judge.proofs.FirstSeal.{seal_going}
 use Rattle.sg_judge.proofs.Going.{judges-push, number_fits, says-push}
