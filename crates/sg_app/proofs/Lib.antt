@@ -1,6 +1,6 @@
 -- The proofs.
 mod Completing
-mod Growing
+mod Commands
 mod Headlines
 mod Obeyed
 mod Samples

@@ -2,17 +2,12 @@
 -- words was wanted.
 use Rattle.std.proofs.Common.{◌≡◌, ℕ, ◌+◌, Some, inl, inr, refl, subst}
 use Rattle.std.specs.Prelude.{List, Option}
-use Rattle.sg_plan.specs.Limits.{longest_election}
 use Rattle.sg_keeper.specs.declared.rows.Rows.{Rows}
-use Rattle.sg_clerk.proofs.Beginning.{took_nothing}
 use Rattle.sg_words.specs.declared.command.Command.{Command}
-use Rattle.sg_words.specs.declared.command.Command.TheVariants as command
-use Rattle.sg_app.specs.Outside.{Outside, input_at, output_at}
+use Rattle.sg_app.specs.Outside.{Outside}
 use Rattle.sg_app.specs.Says.{CommandSays, Ended}
 use Rattle.sg_app.specs.Touches.{ShowsRows}
-use Rattle.sg_app.proofs.Completing.{says_complete}
-use Rattle.sg_reports.proofs.Reporting.{memory_reports}
-use Rattle.sg_reports.specs.declared.report.Report.TheVariants.{Audit, Recount, Odds, County}
+use Rattle.sg_app.proofs.Commands.{memory_says, says_complete}
 use Rattle.sg_links.specs.Board.{Board}
 
 -- what stands outside, by its parts
@@ -40,19 +35,5 @@ ended_for here asked found status tells rows rows' before now is said says same 
     }
 
 -- where memory was wanted, and nothing was done
-memory_says : (asked : Command) (tells : Type 0) (rows : Rows) (now : Outside) → CommandSays asked 9 tells rows rows now now
-memory_says command.Audit tells rows now = memory_reports Audit (input_at now) (output_at now)
-memory_says command.Init tells rows now = record { took = took_nothing (longest_election + 1) now.left; says = inr (inr (inr (inr (inr (refl, record { same = λ _. refl; quiet = refl }))))) }
-memory_says command.Sheet tells rows now = inr (inr (inr (inr (inr (refl, inl refl)))))
-memory_says command.Do tells rows now = inr (record { unasked = (refl, refl); same = λ _. refl; says = inr (inr (inr (inr (refl, refl)))) })
-memory_says command.Scans tells rows now = inr (record { unasked = (refl, refl); same = λ _. refl; says = inr (inr (inr (inr (refl, refl)))) })
-memory_says (command.Serve asked) tells rows now = inr (inr (record { unasked = (refl, refl); same = λ _. refl; says = inr (inr (inr (inr (refl, refl)))) }))
-memory_says command.Record tells rows now = inr (inr (inr (inr (inr (refl, inl refl)))))
-memory_says command.Openings tells rows now = inr (inr (inr (inr (inr (inr (refl, inl refl))))))
-memory_says (command.Sample asked) tells rows now = inr (inr (refl, refl))
-memory_says command.Recount tells rows now = memory_reports Recount (input_at now) (output_at now)
-memory_says command.Odds tells rows now = memory_reports Odds (input_at now) (output_at now)
-memory_says command.County tells rows now = memory_reports County (input_at now) (output_at now)
-
 pub memory_ended : (asked : Command) (tells : Type 0) (rows : Rows) (now : Outside) → Ended asked 9 tells rows rows now now
 memory_ended asked tells rows now = record { says = memory_says asked tells rows now; complete = λ none. inr (inr (inr (inr refl))); same = λ shows told. refl }

@@ -1,5 +1,5 @@
 -- The proofs.
-mod Growing
-mod Going
+pub mod Growing
+pub mod Going
 pub mod Keeping
-mod ServeEnds
+pub mod ServeEnds

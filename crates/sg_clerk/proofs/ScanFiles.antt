@@ -1,4 +1,4 @@
 -- The proofs.
 pub mod Keeping
-mod ScanAsks
-mod ScanEnds
+pub mod ScanAsks
+pub mod ScanEnds

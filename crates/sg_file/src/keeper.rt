@@ -8,7 +8,8 @@ use crate::opening::{Inner, Refusal, open_kept, open_or_make};
 use crate::telling::{tell, warn_if_shared};
 use sg_keeper::{Change, KeepFault, Keeper, Rows};
 use sg_plan::{Items, Word};
-use sqlite::Error;
+use sg_store::SqlKeeper;
+use sqlite::{Alter, Error};
 use std::alloc::Global;
 
 /// Keeps the rows in `office.db` in the current folder.
@@ -140,31 +141,56 @@ fn refusal_of(fault: KeepFault, error: Option<Error>) -> Refusal
 
 /// Opens the file where there is one with a byte, unless it is open.
 fn find(rt: &HostRuntime, keeper: &mut Option<Inner>) -> Result<(), Refusal> {
-    if keeper.is_none() {
-        *keeper = open_kept(rt)?;
+    if keeper.is_some() {
+        return Ok(());
     }
-    Ok(())
+    open_kept(rt, keeper)
 }
 
 /// Opens the file, or makes it, unless it is open.
 fn find_or_make(rt: &HostRuntime, keeper: &mut Option<Inner>) -> Result<(), Refusal>
     ensures open { OnOk result (IsSome keeper.new) }
 {
-    if keeper.is_none() {
-        *keeper = Some(open_or_make(rt)?);
+    if keeper.is_some() {
+        return Ok(());
     }
-    Ok(())
+    open_or_make(rt, keeper)
+}
+
+/// Loads from an open database.
+fn load_from<S: Alter + Drop>(alloc: Global, keeper: &mut SqlKeeper<S>) -> Result<Rows, Refusal> {
+    match keeper.load(alloc) {
+        Ok(rows) => Ok(rows),
+        Err(fault) => Err(refusal_of(fault, keeper.cause())),
+    }
+}
+
+/// Begins in an open database.
+fn begin_in<S: Alter + Drop>(keeper: &mut SqlKeeper<S>, setup: &Word) -> Result<(), Refusal>
+    requires { IsAscii setup.now }
+{
+    match keeper.begin(setup) {
+        Ok(()) => Ok(()),
+        Err(fault) => Err(refusal_of(fault, keeper.cause())),
+    }
+}
+
+/// Commits to an open database.
+fn commit_to<S: Alter + Drop>(keeper: &mut SqlKeeper<S>, change: &Change) -> Result<(), Refusal>
+    requires { IsAsciiChange change.now }
+{
+    match keeper.commit(change) {
+        Ok(()) => Ok(()),
+        Err(fault) => Err(refusal_of(fault, keeper.cause())),
+    }
 }
 
 /// Loads from the file.
 fn load(rt: &HostRuntime, keeper: &mut Option<Inner>, alloc: Global) -> Result<Rows, Refusal> {
     find(rt, keeper)?;
-    let Some(inner) = keeper else {
-        return Ok(empty_rows(alloc));
-    };
-    match inner.load(alloc) {
-        Ok(rows) => Ok(rows),
-        Err(fault) => Err(refusal_of(fault, inner.cause())),
+    match keeper {
+        Some(inner) => load_from(alloc, inner),
+        None => Ok(empty_rows(alloc)),
     }
 }
 
@@ -178,10 +204,7 @@ fn begin(rt: &HostRuntime, keeper: &mut Option<Inner>, setup: &Word) -> Result<(
         unreachable!();
     };
     warn_if_shared(rt);
-    match inner.begin(setup) {
-        Ok(()) => Ok(()),
-        Err(fault) => Err(refusal_of(fault, inner.cause())),
-    }
+    begin_in(inner, setup)
 }
 
 /// Commits to the file.
@@ -190,12 +213,9 @@ fn commit(rt: &HostRuntime, keeper: &mut Option<Inner>, change: &Change) -> Resu
     ensures open { OnOk result (IsSome keeper.new) }
 {
     find(rt, keeper)?;
-    let Some(inner) = keeper else {
-        return Err(Refusal::Failed(Cause::plain(Trouble::Missing)));
-    };
-    match inner.commit(change) {
-        Ok(()) => Ok(()),
-        Err(fault) => Err(refusal_of(fault, inner.cause())),
+    match keeper {
+        Some(inner) => commit_to(inner, change),
+        None => Err(Refusal::Failed(Cause::plain(Trouble::Missing))),
     }
 }
 

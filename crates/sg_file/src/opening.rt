@@ -1,11 +1,12 @@
 //! Opening `office.db`, and why that is refused.
-ghost use Rattle.std.specs.Prelude.{◌≡◌, ◌↔◌, false, IfOk};
+ghost use Rattle.std.specs.Prelude.{◌≡◌, ◌↔◌, false, IsSome, OnOk};
 ghost use Rattle.std.specs.IoError.{error_kind};
 
 use crate::causes::{Cause, Trouble};
 use crate::folder::{FILE, Found, look, make, refusal};
 use sg_store::SqlKeeper;
-use sqlite::{Connection, Error, ErrorCode, File, FileStore};
+use sqlite::{Alter, Connection, Error, ErrorCode, File, FileStore};
+use std::alloc::Global;
 use std::io::{self, ErrorKind};
 
 /// The keeper over the open file.
@@ -49,10 +50,27 @@ fn unopened(rt: &HostRuntime, error: Error) -> Cause {
     }
 }
 
+/// Puts a keeper over the connection in its place.
+fn put_over<S: Alter + Drop>(
+    alloc: Global,
+    keeper: &mut Option<SqlKeeper<S>>,
+    connection: Connection<S>,
+)
+    requires { connection.in_transaction ≡ false }
+    ensures { IsSome keeper.new }
+{
+    drop(keeper.replace(SqlKeeper::over(alloc, connection)));
+}
+
 /// Opens the file. One without a page yet gets sums of its pages.
-fn open(rt: &HostRuntime) -> Result<Inner, Refusal> {
+fn open(rt: &HostRuntime, keeper: &mut Option<Inner>) -> Result<(), Refusal>
+    ensures { OnOk result (IsSome keeper.new) }
+{
     match Connection::open_with_sums(rt, FILE) {
-        Ok(connection) => Ok(SqlKeeper::over(rt.alloc(), connection)),
+        Ok(connection) => {
+            put_over(rt.alloc(), keeper, connection);
+            Ok(())
+        }
         Err(error) => Err(by_database(rt, error)),
     }
 }
@@ -67,20 +85,22 @@ fn found(rt: &HostRuntime) -> Result<Found, Refusal> {
 }
 
 /// Opens the file, where there is one with a byte.
-pub(crate) fn open_kept(rt: &HostRuntime) -> Result<Option<Inner>, Refusal> {
+pub(crate) fn open_kept(rt: &HostRuntime, keeper: &mut Option<Inner>) -> Result<(), Refusal> {
     match found(rt)? {
-        Found::File => Ok(Some(open(rt)?)),
-        _ => Ok(None),
+        Found::File => open(rt, keeper),
+        _ => Ok(()),
     }
 }
 
 /// Opens the file, or makes it.
-pub(crate) fn open_or_make(rt: &HostRuntime) -> Result<Inner, Refusal> {
+pub(crate) fn open_or_make(rt: &HostRuntime, keeper: &mut Option<Inner>) -> Result<(), Refusal>
+    ensures { OnOk result (IsSome keeper.new) }
+{
     if found(rt)? == Found::Nothing {
         match make(rt) {
             Ok(()) => {}
             Err(error) => return Err(by_system(error)),
         }
     }
-    open(rt)
+    open(rt, keeper)
 }

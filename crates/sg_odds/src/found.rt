@@ -44,8 +44,12 @@ fn full_exponent(
     ensures { IfOk result (λ power. power ≡ exponent posted.now.plan (places_in posted.now) (completion_of rows.now) race) }
 {
     let index = BallotIndex::make(alloc, &posted.plan)?;
-    let marked = marked_codes(alloc, posted, &index)?;
-    race_exponent(alloc, posted, rows, &marked, race)
+    let marked = marked_codes(alloc, posted, &index);
+    drop(index);
+    let marked = marked?;
+    let power = race_exponent(alloc, posted, rows, &marked, race);
+    drop(marked);
+    power
 }
 
 /// What is found of a race, by its record and the openings of its rows.

@@ -199,12 +199,19 @@ fn whole_parts(
     ensures ok { IfOk result (λ parts. (parts.posted ≡ posted) × (parts.codes ≡ lists) × (parts.rows ≡ rows)) }
     ensures err { IfErr result (λ fault. IsRowsFault posted rows fault) }
 {
-    check_rows(&posted, &rows)?;
-    Ok(Parts {
-        posted,
-        printing: Printing { codes: lists },
-        completion: Completion { rows },
-    })
+    match check_rows(&posted, &rows) {
+        Ok(()) => Ok(Parts {
+            posted,
+            printing: Printing { codes: lists },
+            completion: Completion { rows },
+        }),
+        Err(fault) => {
+            drop(rows);
+            drop(lists);
+            drop(posted);
+            Err(fault)
+        }
+    }
 }
 
 /// All parts, where the completion stands from `start` on. So many lines stand before.
@@ -224,8 +231,14 @@ fn printed_parts(
     ensures ok { IfOk result (λ parts. IsRest posted lists (lines_of (drop start bytes.now)) parts) }
     ensures err { IfErr result (λ fault. IsRestFault posted (lines_of (drop start bytes.now)) before fault) }
 {
-    let rows = read_completion(alloc, &posted.plan, bytes, start, before)?;
-    whole_parts(posted, lists, rows)
+    match read_completion(alloc, &posted.plan, bytes, start, before) {
+        Ok(rows) => whole_parts(posted, lists, rows),
+        Err(fault) => {
+            drop(lists);
+            drop(posted);
+            Err(fault)
+        }
+    }
 }
 
 /// The codes of the printing that stands from `start` on and with the record, where it ends, and how many lines its sheet
@@ -249,8 +262,13 @@ fn indexed_printing(
     ensures err { IfErr result (λ fault. HasFault (lines_of bytes.now) fault) }
 {
     let (lists, next, count) = read_printing(alloc, &posted.plan, index, bytes, start, before)?;
-    check_standing(alloc, posted, index, &lists)?;
-    Ok((lists, next, count))
+    match check_standing(alloc, posted, index, &lists) {
+        Ok(()) => Ok((lists, next, count)),
+        Err(fault) => {
+            drop(lists);
+            Err(fault)
+        }
+    }
 }
 
 /// The same, where the ballots of the plan are numbered first.
@@ -271,7 +289,9 @@ fn standing_printing(
     ensures err { IfErr result (λ fault. HasFault (lines_of bytes.now) fault) }
 {
     let index = BallotIndex::make(alloc, &posted.plan)?;
-    indexed_printing(alloc, posted, &index, bytes, start, before)
+    let printing = indexed_printing(alloc, posted, &index, bytes, start, before);
+    drop(index);
+    printing
 }
 
 /// All parts, where the record ends at `start` and has so many lines.
@@ -290,8 +310,15 @@ fn parts_of(
     ensures ok { IfOk result (λ parts. IsGiven (lines_of bytes.now) parts) }
     ensures err { IfErr result (λ fault. HasFault (lines_of bytes.now) fault) }
 {
-    let (lists, next, count) = standing_printing(alloc, &posted, bytes, start, before)?;
-    printed_parts(alloc, bytes, next, before + count + 1, posted, lists)
+    match standing_printing(alloc, &posted, bytes, start, before) {
+        Ok((lists, next, count)) => {
+            printed_parts(alloc, bytes, next, before + count + 1, posted, lists)
+        }
+        Err(fault) => {
+            drop(posted);
+            Err(fault)
+        }
+    }
 }
 
 /// The record, the printing and the completion that the bytes are, or the first fault.

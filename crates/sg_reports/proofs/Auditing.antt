@@ -1,5 +1,5 @@
 -- The proofs.
 pub mod Judging
 pub mod Promises
-mod Reading
-mod Saying
+pub mod Reading
+pub mod Saying

@@ -1,3 +1,3 @@
 -- The proofs.
 pub mod Judging
-mod Saying
+pub mod Saying

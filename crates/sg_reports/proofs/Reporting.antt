@@ -55,15 +55,15 @@ well_due Due status input input' out out' (inr (inr (inr says))) well reads writ
 -- `audit`
 well_verdict : (status : ℕ) (input input' out out' : Seen) → (status ≡ 9) ⊎ SaysVerdict status input input' out out' → TellsNoFailure status
 well_verdict status input input' out out' (inl nine) = inr (inr (inr (inr nine)))
-well_verdict status input input' out out' (inr (inl yes)) = inl yes.0
-well_verdict status input input' out out' (inr (inr no)) = inr (inl no.0)
+well_verdict status input input' out out' (inr (inl says)) = inl says.0
+well_verdict status input input' out out' (inr (inr says)) = inr (inl says.0)
 
 -- `county`
 well_answer : (status : ℕ) (input input' out out' : Seen) → (status ≡ 9) ⊎ SaysAnswer status input input' out out' → TellsNoFailure status
 well_answer status input input' out out' (inl nine) = inr (inr (inr (inr nine)))
-well_answer status input input' out out' (inr (inl yes)) = inl yes.0
-well_answer status input input' out out' (inr (inr (inl bad))) = inr (inl bad.0)
-well_answer status input input' out out' (inr (inr (inr many))) = inr (inr (inl many.0))
+well_answer status input input' out out' (inr (inl says)) = inl says.0
+well_answer status input input' out out' (inr (inr (inl says))) = inr (inl says.0)
+well_answer status input input' out out' (inr (inr (inr says))) = inr (inr (inl says.0))
 
 pub is_reported : (report : Report) (status : ℕ) (input input' out out' : Seen) → ReportSays report status input input' out out' → IsReported status input input' out out'
 is_reported Audit status input input' out out' says reads writes =

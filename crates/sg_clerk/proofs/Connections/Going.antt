@@ -26,7 +26,7 @@ use Rattle.sg_clerk.proofs.Connections.Growing.{failed-counted, failures-push, t
 
 -- at first none did
 pub calls-none : (count : ℕ) (board : Option Board) (faults : ℕ) → CallsCame count count board board faults faults []
-calls-none count board faults = record { counted = refl; later = omega arith; failures = λ low. omega arith; takes = takes-none board }
+calls-none count board faults = record { counted = omega arith; later = omega arith; failures = λ low. omega arith; takes = takes-none board }
 
 -- one more did
 calls-push : (count left left' : ℕ) (a b c : Option Board) (faults faults' faults'' : ℕ) (calls : List Call) (call : Call) → left ≡ left' + 1 → faults' ≤ faults''

@@ -4,7 +4,7 @@ use Rattle.sg_outside.specs.Streams.{Seen, seen}
 use Rattle.sg_clerk.proofs.Grown.{same_grows}
 use Rattle.sg_words.specs.Command.{command_in}
 use Rattle.sg_words.specs.declared.command.Command.TheVariants as command
-use Rattle.sg_app.proofs.Growing.{command_grows}
+use Rattle.sg_app.proofs.Commands.{command_grows}
 use Rattle.sg_app.proofs.Headlines.{audit_headline}
 use Rattle.sg_app.proofs.Obeyed.{ended_for, memory_ended, outside, says_for}
 use Rattle.sg_app.proofs.program.run.Goals as goal
