@@ -7,8 +7,7 @@
 STDIN has the election file, an empty line and the asks. Behind them this writes three more parts anew, each after an empty
 line: a scanner's file, what a court is handed behind the record, and a record of another town with the same races. On
 standard output it writes the lines that the program must print of the four commands. They are counted from an office in
-Python and from the rules: a read gives at most 64 bytes, each line is one put (but that `recount` and `odds` put all at
-once), and one call fails a run.
+Python and from the rules: a read gives at most 64 bytes, each line is one put, and one call fails a run.
 """
 import copy
 import io
@@ -109,11 +108,11 @@ def tell_openings(text, rows):
     yield line("keeper", 1, 5, 1, 0, rows)
 
 
-def tell_reading(name, given, wanted, puts, rows):
-    """A command that reads a text and opens no office."""
-    yield "%s: 0, %d bytes, %d rows" % (name, len(wanted), rows)
+def tell_reading(name, given, wanted, rows):
+    """A command that reads a text and opens no office: each line of what is wanted is one put."""
+    yield "%s: 0, %d bytes, %d rows" % (name, len(text_of(wanted)), rows)
     yield line("read", reads(given), 3, reads(given), 0, reads(given) * rows)
-    yield line("put", puts, 4, puts, 0, puts * rows)
+    yield line("put", len(wanted), 4, len(wanted), 0, len(wanted) * rows)
     yield line("keeper", 0, 5, 0, 0, 0)
 
 
@@ -163,11 +162,11 @@ def main():
         print(told)
     for told in tell_openings(case.text(), rows):
         print(told)
-    for told in tell_reading("recount", text, text_of(list(case.recount())), 1, rows):
+    for told in tell_reading("recount", text, list(case.recount()), rows):
         print(told)
-    for told in tell_reading("odds", text, text_of(odds), 1, rows):
+    for told in tell_reading("odds", text, odds, rows):
         print(told)
-    for told in tell_reading("county", county, text_of(sums), len(sums), rows):
+    for told in tell_reading("county", county, sums, rows):
         print(told)
 
 

@@ -1,5 +1,5 @@
 -- The proofs.
-mod Cut
+pub mod Cut
 pub mod Forms
 pub mod Starting
 mod Stops

@@ -20,6 +20,7 @@ use Rattle.sg_check.specs.Kinds.{opens_digest}
 use Rattle.sg_check.specs.Printings.{Printing, StandsWith}
 use Rattle.sg_check.specs.Verdict.{IsVerdict}
 use Rattle.sg_check.specs.declared.judged.Judged.TheVariants as judged
+use Rattle.sg_check.specs.declared.judged.Total.{Total}
 use Rattle.sg_parts.specs.Given.{AreCodes, ArePrinted, Given, IsAccepted, IsGiven, IsRowGiven, completion_line, completion_of, printing_line, printing_of, row_text, sheet_texts}
 use Rattle.sg_parts.specs.declared.parts.RecountFault.{RecountFault}
 use Rattle.sg_parts.specs.declared.parts.RecountFault.TheVariants as fault
@@ -36,6 +37,10 @@ record_lines (line ∷ lines) = (if bytes_eq line printing_line then [] else lin
 abbrev pub lines_behind : List (List ℕ) → List (List ℕ)
 lines_behind [] = []
 lines_behind (line ∷ lines) = (if bytes_eq line printing_line then line ∷ lines else lines_behind lines)
+
+-- the verdict on the lines of a record is yes
+abbrev pub IsAccepting : List (List ℕ) → Type 0
+IsAccepting lines = (totals : List Total) × IsVerdict lines (judged.Yes totals)
 
 -- a sheet on which nothing is printed
 abbrev pub blank : Printed

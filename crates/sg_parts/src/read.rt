@@ -2,10 +2,10 @@
 ghost use Rattle.std.specs.Prelude.{◌≡◌, ◌+◌, ◌^◌, ◌<◌, ◌≤◌, IfErr, IfOk, None, drop, length, true};
 ghost use Rattle.sg_check.specs.Printings.{StandsWith};
 ghost use Rattle.sg_outside.specs.TextLines.{lines_of};
-ghost use Rattle.sg_parts.specs.Faults.{HasFault, IsRecordOf, lines_behind, record_lines};
+ghost use Rattle.sg_parts.specs.Faults.{HasFault, IsAccepting, IsRecordOf, lines_behind, record_lines};
 ghost use Rattle.sg_parts.specs.Given.{AreOpenings, ArePrinted, IsAccepted, IsGiven, printing_of};
 ghost use Rattle.sg_parts.specs.declared.parts.RecountFault.TheVariants.{Completion as OffCompletion};
-ghost use Rattle.sg_parts.specs.inside.Reading.{AreRight, Begins, HasCompletion, HasPrinting, IsCompletionFault, IsPrintingFault, IsRecordFault, IsRecordRead, IsRest, IsRestFault, IsRowsFault, IsStandFault, completion_fault, row_fault};
+ghost use Rattle.sg_parts.specs.inside.Reading.{AreRight, Begins, HasCompletion, HasPrinting, IsCompletionFault, IsPrintingFault, IsRecordRead, IsRest, IsRestFault, IsRowsFault, IsStandFault, completion_fault, row_fault};
 ghost use Rattle.sg_parts.specs.inside.Rows.{fault_at};
 ghost use Rattle.sg_plan.specs.Limits.{fault_of, most_rows};
 ghost use Rattle.sg_record.specs.Formed.{has_rows};
@@ -16,9 +16,7 @@ use crate::cutting::{Split, is_same, split_record};
 use crate::parts::{Completion, Parts, Printing, RecountFault, RowGiven};
 use crate::rows::{RowsFault, read_races};
 use crate::sheet::{SheetRead, read_sheet};
-use sg_check::Judged;
 use sg_facts::known_codes;
-use sg_judge::judge;
 use sg_outside::line_end;
 use sg_plan::{BallotIndex, Items, NoMemory, Plan};
 use sg_record::{Record, read_record};
@@ -26,16 +24,13 @@ use sg_sheet::list_due;
 use std::alloc::Global;
 
 /// The record of these bytes, whose verdict is yes.
-fn read_posted(alloc: Global, front: &[u8]) -> Result<Record, RecountFault>
-    ensures ok { IfOk result (λ posted. IsRecordRead (lines_of front.now) posted) }
-    ensures err { IfErr result (λ fault. IsRecordFault (lines_of front.now) fault) }
+fn read_posted(alloc: Global, front: &[u8]) -> Result<Record, NoMemory>
+    requires { IsAccepting (lines_of front.now) }
+    ensures { IfOk result (λ posted. IsRecordRead (lines_of front.now) posted) }
 {
-    match judge(alloc, front)? {
-        Judged::Yes(_) => match read_record(alloc, front)? {
-            Some(posted) => Ok(posted),
-            None => unreachable!(),
-        },
-        Judged::No { line, kind } => Err(RecountFault::Record { line, kind }),
+    match read_record(alloc, front)? {
+        Some(posted) => Ok(posted),
+        None => unreachable!(),
     }
 }
 
@@ -321,8 +316,10 @@ fn parts_of(
     }
 }
 
-/// The record, the printing and the completion that the bytes are, or the first fault.
+/// The record, the printing and the completion that the bytes are, or the first fault. The record was judged already, and its
+/// verdict is yes: it is not judged again.
 pub fn read_parts(alloc: Global, bytes: &[u8]) -> Result<Parts, RecountFault>
+    requires { IsAccepting (record_lines (lines_of bytes.now)) }
     ensures parts { IfOk result (λ parts. IsGiven (lines_of bytes.now) parts) }
     ensures fault { IfErr result (λ fault. HasFault (lines_of bytes.now) fault) }
 {

@@ -5,5 +5,8 @@ pub mod Given
 pub mod Heard
 pub mod Lines
 pub mod Longer
+pub mod Records
 pub mod Told
 pub mod Verdicts
+pub mod Words
+pub mod Writing

@@ -1,11 +1,14 @@
 //! What a court asks of a record with a printing and a completion: the commands `recount` and `odds`.
 
 mod answering;
-mod due;
 mod exponents;
 mod faults;
 mod findings;
+mod found;
 mod hearing;
+mod judging;
+mod taking;
+mod telling;
 mod texts;
 
 pub use answering::{answer_odds, answer_recount};

@@ -8,8 +8,6 @@ use Rattle.sg_record.specs.Lines.{texts_in}
 use Rattle.sg_record.specs.Places.{places_in}
 use Rattle.sg_record.specs.declared.record.Record.{Record}
 use Rattle.sg_check.specs.Completions.{IsHalfOf}
-use Rattle.sg_check.specs.Verdict.{IsVerdict}
-use Rattle.sg_check.specs.declared.judged.Judged.TheVariants as judged
 use Rattle.sg_parts.specs.Faults.{IsCompletionOff, IsFirstWrong, IsPrintingOff, IsRowRight, OpensAt, StandsAt, blank}
 use Rattle.sg_parts.specs.Given.{AreOpenings, ArePrinted, Given, IsAccepted, completion_line, completion_of, completion_texts, printing_line, printing_of, sheet_texts}
 use Rattle.sg_parts.specs.declared.parts.RecountFault.{RecountFault}
@@ -24,11 +22,6 @@ use Rattle.sg_parts.specs.inside.Checks.{row_opens}
 pub record IsRecordRead (lines : List (List ℕ)) (posted : Record) : Type 0 where
   pub accepted : IsAccepted posted
   pub text : lines ≡ texts_in posted
-
-abbrev pub IsRecordFault : List (List ℕ) → RecountFault → Type 0
-IsRecordFault lines (fault.Record number broken) = IsVerdict lines (judged.No number broken)
-IsRecordFault lines fault.NoMemory = Unit {0}
-IsRecordFault lines other = ⊥
 
 -- the first line, if there is one, is `printing`
 abbrev pub Begins : List (List ℕ) → Type 0

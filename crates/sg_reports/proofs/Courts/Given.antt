@@ -18,17 +18,28 @@ use Rattle.sg_sheet.specs.inside.Listed.{line_due, sheet_due}
 use Rattle.sg_forms.specs.Spelling.{row_words}
 use Rattle.sg_forms.specs.declared.line.RowOpening.{RowOpening}
 use Rattle.sg_forms.specs.declared.line.RowOpening.TheVariants as opened
+use Rattle.sg_check.proofs.Verdicts.{one_verdict}
+use Rattle.sg_check.specs.declared.judged.Judged.{Judged}
+use Rattle.sg_check.specs.declared.judged.Judged.TheVariants as judged
+use Rattle.sg_check.specs.declared.judged.Kind.{Kind}
 use Rattle.sg_parts.proofs.Accepting.{good_plan}
 use Rattle.sg_parts.proofs.Wholes.{due_few, record_few}
+use Rattle.sg_parts.specs.Faults.{HasFault, record_lines}
 use Rattle.sg_parts.specs.Given.{AreParts, Given, IsAccepted, IsGiven, completion_line, completion_texts, halves_text, joined, opening_text, printed_of, printing_line, row_text, sheet_texts}
 use Rattle.sg_parts.specs.declared.parts.RowGiven.{RowGiven}
 use Rattle.sg_parts.specs.declared.parts.RecountFault.{RecountFault}
 use Rattle.sg_parts.specs.declared.parts.RecountFault.TheVariants as fault
-use Rattle.sg_reports.proofs.Courts.Ending.{EndsAtEnd}
+use Rattle.sg_recount.specs.declared.findings.Findings.{Findings}
+use Rattle.sg_reports.proofs.Courts.Ending.{EndsAtEnd, HoldsOfFaults, IsDueStatus, IsOneForNo}
 use Rattle.sg_reports.proofs.Courts.Lines.{Fed, fed_end}
+use Rattle.sg_reports.proofs.Courts.Putting.{exponents_are}
 use Rattle.sg_reports.specs.court.Heard.{EndsLong, HasOneMore}
 use Rattle.sg_reports.specs.court.Odds.{OddsDue}
-use Rattle.sg_reports.specs.court.Recounts.{IsFaulty, RecountDue, fault_status}
+use Rattle.sg_reports.specs.court.Recounts.{IsFaulty, RecountDue, fault_status, findings_text}
+use Rattle.sg_reports.specs.court.inside.Finding.{FindsAll, FindsOddsOf, HasOdds, odds_status, odds_text}
+use Rattle.sg_reports.specs.court.inside.Hearing.{IsYes}
+use Rattle.sg_reports.specs.declared.court.exponents.Exponents.{Exponents}
+use Rattle.sg_reports.specs.declared.court.exponents.Exponents.TheVariants as exponents
 
 -- LISTS
 
@@ -169,7 +180,7 @@ parts_are_whole given read is parts (inr long) =
 -- STATUSES
 
 -- the status for a fault is 1 or 7
-pub fault_statuses : (lines : List (List ℕ)) (status : ℕ) (text : List ℕ) → IsFaulty lines status text → (status ≡ 1) ⊎ (status ≡ 7)
+fault_statuses : (lines : List (List ℕ)) (status : ℕ) (text : List ℕ) → IsFaulty lines status text → (status ≡ 1) ⊎ (status ≡ 7)
 fault_statuses lines status text faulty = by_fault faulty.wrong faulty.known faulty.status_is
   where
     by_fault : (wrong : RecountFault) → wrong ≢ fault.NoMemory → status ≡ fault_status wrong → (status ≡ 1) ⊎ (status ≡ 7)
@@ -180,16 +191,6 @@ fault_statuses lines status text faulty = by_fault faulty.wrong faulty.known fau
     by_fault (fault.Opening race instance row) known e = inr e
     by_fault (fault.Posted race instance row) known e = inr e
     by_fault fault.NoMemory known e = absurd (known refl)
-
--- what is due has one of three
-pub recount_statuses : (lines : List (List ℕ)) (status : ℕ) (text : List ℕ) → RecountDue lines status text → (status ≡ 0) ⊎ ((status ≡ 1) ⊎ (status ≡ 7))
-recount_statuses lines status text (inl finds) = inl finds.0
-recount_statuses lines status text (inr faulty) = inr (fault_statuses lines status text faulty)
-
-pub odds_statuses : (lines : List (List ℕ)) (status : ℕ) (text : List ℕ) → OddsDue lines status text → (status ≡ 0) ⊎ ((status ≡ 1) ⊎ (status ≡ 7))
-odds_statuses lines status text (inl finds) = inl finds.0
-odds_statuses lines status text (inr (inl lacks)) = inr (inr lacks.0)
-odds_statuses lines status text (inr (inr faulty)) = inr (fault_statuses lines status text faulty)
 
 faulty_not_zero : (lines : List (List ℕ)) (text : List ℕ) → IsFaulty lines 0 text → ⊥
 faulty_not_zero lines text faulty = elim (fault_statuses lines 0 text faulty) [ inl one ↦ omega (arith, one) | inr seven ↦ omega (arith, seven) ]
@@ -202,3 +203,93 @@ pub odds_ends : EndsAtEnd OddsDue
 odds_ends text read (inl finds) cut = parts_are_whole finds.1.given read finds.1.is_given finds.1.parts cut
 odds_ends text read (inr (inl lacks)) cut = absurd (omega (arith, lacks.0))
 odds_ends text read (inr (inr faulty)) cut = faulty_not_zero (lines_of read) text faulty
+
+-- where the verdict on the record is yes, no fault has status 1
+faulty_not_one : (lines : List (List ℕ)) (text : List ℕ) → IsYes lines → IsFaulty lines 1 text → ⊥
+faulty_not_one lines text good faulty = by_fault faulty.wrong faulty.has faulty.status_is
+  where
+    no_yes : (line : ℕ) (broken : Kind) → ◌≡◌ {A = Judged} (judged.Yes good.0) (judged.No line broken) → ⊥
+    no_yes line broken e = cc
+
+    other : ◌≡◌ {A = ℕ} 1 7 → ⊥
+    other e = omega (arith, e)
+
+    none : ◌≡◌ {A = ℕ} 1 9 → ⊥
+    none e = omega (arith, e)
+
+    by_fault : (wrong : RecountFault) → HasFault lines wrong → ◌≡◌ {A = ℕ} 1 (fault_status wrong) → ⊥
+    by_fault (fault.Record line broken) has e = no_yes line broken (one_verdict (record_lines lines) (judged.Yes good.0) (judged.No line broken) good.1 has)
+    by_fault (fault.Printing line) has e = other e
+    by_fault (fault.Stand race instance row) has e = other e
+    by_fault (fault.Completion line) has e = other e
+    by_fault (fault.Opening race instance row) has e = other e
+    by_fault (fault.Posted race instance row) has e = other e
+    by_fault fault.NoMemory has e = none e
+
+pub recount_one : IsOneForNo RecountDue
+recount_one lines text good (inl finds) = absurd (omega (arith, finds.0))
+recount_one lines text good (inr faulty) = faulty_not_one lines text good faulty
+
+pub odds_one : IsOneForNo OddsDue
+odds_one lines text good (inl finds) = absurd (omega (arith, finds.0))
+odds_one lines text good (inr (inl lacks)) = absurd (omega (arith, lacks.0))
+odds_one lines text good (inr (inr faulty)) = faulty_not_one lines text good faulty
+
+-- what is due for a fault is due
+pub recount_faults : HoldsOfFaults RecountDue
+recount_faults lines status text faulty = inr faulty
+
+pub odds_faults : HoldsOfFaults OddsDue
+odds_faults lines status text faulty = inr (inr faulty)
+
+-- WHAT IS FOUND IS DUE
+
+pub findings_due : (lines : List (List ℕ)) (findings : Findings) → FindsAll lines findings → RecountDue lines 0 (findings_text findings)
+findings_due lines findings finds = inl (
+  refl,
+  record {
+    given = finds.given;
+    findings = findings;
+    is_given = finds.is_given;
+    parts = finds.found.parts;
+    are = finds.found.are;
+    bound = finds.found.bound;
+    text_is = refl;
+  },
+)
+
+pub exponents_due : (lines : List (List ℕ)) (odds : Exponents) → FindsOddsOf lines odds → OddsDue lines (odds_status odds) (odds_text odds)
+exponents_due lines odds finds = by_odds odds finds.has
+  where
+    by_odds : (odds : Exponents) → HasOdds finds.given odds → OddsDue lines (odds_status odds) (odds_text odds)
+    by_odds (exponents.All values) has = inl (
+      refl,
+      record {
+        given = finds.given;
+        is_given = finds.is_given;
+        parts = has.parts;
+        full = has.full;
+        bound = λ race less. has.bound race less has.full;
+        text_is = exponents_are finds.given (length finds.given.posted.plan.races) values has;
+      },
+    )
+    by_odds (exponents.NotFull lacking) has = inr (inl (
+      refl,
+      record {
+        given = finds.given;
+        is_given = finds.is_given;
+        parts = has.parts;
+        race = lacking.race;
+        instance = lacking.instance;
+        row = lacking.row;
+        within = has.within;
+        before = has.before;
+        first = has.first;
+        text_is = refl;
+      },
+    ))
+
+-- its status is one that is due
+pub exponents_loud : (odds : Exponents) → IsDueStatus (odds_status odds)
+exponents_loud (exponents.All values) = inl refl
+exponents_loud (exponents.NotFull lacking) = inr (inr refl)

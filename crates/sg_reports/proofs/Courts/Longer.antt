@@ -1,12 +1,10 @@
 -- A fault of the lines that were read is one of all lines, where no input has so many lines, or one so long.
-use Rattle.std.proofs.Common.{◌≡◌, ℕ, zero, suc, ◌+◌, ◌<◌, ◌≤◌, ◌==◌, ◌||◌, inl, inr, Bool, true, false, cond, List, [], ◌∷◌, ◌++◌, bytes_eq, codes, length, map, Option, Some, None, refl, sym, subst, ap, ◌∙◌, append_assoc, append-nil, length-append, arith}
-use Rattle.std.specs.Prelude.{◌⊎◌}
-use Rattle.std.specs.List.{join_with_byte, list_any}
+use Rattle.std.proofs.Common.{◌≡◌, ℕ, zero, suc, ◌+◌, ◌<◌, ◌≤◌, inl, inr, Bool, true, false, List, [], ◌∷◌, ◌++◌, bytes_eq, codes, length, map, Option, Some, None, refl, sym, subst, ap, ◌∙◌, append_assoc, append-nil, length-append, arith}
+use Rattle.std.specs.List.{join_with_byte}
 use Rattle.std.specs.Option.{option_map_or}
-use Rattle.std.proofs.lemmas.Bool.{ne_eqb}
 use Rattle.std.proofs.lemmas.Slice.Eq.{bytes_eq-Decides}
 use Rattle.sg_outside.specs.TextLines.{HasNoFeed}
-use Rattle.sg_forms.proofs.LineLaws.{cut_lines, lines_are_short}
+use Rattle.sg_forms.proofs.LineLaws.{lines_are_short}
 use Rattle.sg_forms.specs.Said.Said.{Row}
 use Rattle.sg_forms.specs.Spelling.{IsRow, row_words}
 use Rattle.sg_forms.specs.declared.line.RowOpening.{RowOpening}
@@ -27,57 +25,13 @@ use Rattle.sg_parts.specs.Faults.{AreRowsOff, HasFault, IsCompletionOff, IsPrint
 use Rattle.sg_parts.specs.Given.{AreCodes, ArePrinted, completion_line, opening_text, printed_of, printing_line, sheet_texts}
 use Rattle.sg_parts.specs.declared.parts.RecountFault.{RecountFault}
 use Rattle.sg_parts.specs.declared.parts.RecountFault.TheVariants as fault
+use Rattle.sg_driver.specs.Judging.{IsNoLine as HasNoEnd}
+use Rattle.sg_driver.proofs.Forms.{no_form}
 use Rattle.sg_reports.proofs.Courts.Given.{given_fed, given_few, head_same, maps_long, sheet_few, tail_same}
 use Rattle.sg_reports.proofs.Courts.Lines.{AreFewCodes, AreSmall, IsShort, IsSmall, ballot_short, codes_short, fed_end, sheet_small, short_differs, small_short}
 use Rattle.sg_reports.proofs.Courts.Verdicts.{HasNoForm, many_stay, over_is_no, over_stays}
-
--- THE LINES OF THE RECORD, WHERE MORE FOLLOW
-
-record_true : (line : List ℕ) (rest : List (List ℕ)) → bytes_eq line printing_line ≡ true → record_lines (line ∷ rest) ≡ []
-record_true line rest e = ap (λ (b : Bool). cond b [] (line ∷ record_lines rest)) e
-
-record_false : (line : List ℕ) (rest : List (List ℕ)) → bytes_eq line printing_line ≡ false → record_lines (line ∷ rest) ≡ line ∷ record_lines rest
-record_false line rest e = ap (λ (b : Bool). cond b [] (line ∷ record_lines rest)) e
-
-behind_true : (line : List ℕ) (rest : List (List ℕ)) → bytes_eq line printing_line ≡ true → lines_behind (line ∷ rest) ≡ line ∷ rest
-behind_true line rest e = ap (λ (b : Bool). cond b (line ∷ rest) (lines_behind rest)) e
-
-behind_false : (line : List ℕ) (rest : List (List ℕ)) → bytes_eq line printing_line ≡ false → lines_behind (line ∷ rest) ≡ lines_behind rest
-behind_false line rest e = ap (λ (b : Bool). cond b (line ∷ rest) (lines_behind rest)) e
-
--- one of the lines is `printing`
-pub record HasWord (lines : List (List ℕ)) : Type 0 where
-  pub tail : List (List ℕ)
-  pub begins : lines_behind lines ≡ printing_line ∷ tail
-  pub before : (more : List (List ℕ)) → record_lines (lines ++ more) ≡ record_lines lines
-  pub behind : (more : List (List ℕ)) → lines_behind (lines ++ more) ≡ lines_behind lines ++ more
-
--- none is
-pub record HasNoWord (lines : List (List ℕ)) : Type 0 where
-  pub before : (more : List (List ℕ)) → record_lines (lines ++ more) ≡ lines ++ record_lines more
-
-word_or_none : (lines : List (List ℕ)) → HasWord lines ⊎ HasNoWord lines
-word_or_none [] = inr (record { before = λ more. refl })
-word_or_none (line ∷ lines) = by_test (bytes_eq line printing_line) refl (word_or_none lines)
-  where
-    by_test : (b : Bool) → bytes_eq line printing_line ≡ b → HasWord lines ⊎ HasNoWord lines → HasWord (line ∷ lines) ⊎ HasNoWord (line ∷ lines)
-    by_test true e rest = inl (record {
-      tail = lines;
-      begins = behind_true line lines e ∙ ap (λ (l : List ℕ). l ∷ lines) ((bytes_eq-Decides line printing_line).0 e);
-      before = λ more. record_true line (lines ++ more) e ∙ sym (record_true line lines e);
-      behind = λ more. behind_true line (lines ++ more) e ∙ ap (λ (l : List (List ℕ)). l ++ more) (sym (behind_true line lines e));
-    })
-    by_test false e (inl word) = inl (record {
-      tail = word.tail;
-      begins = behind_false line lines e ∙ word.begins;
-      before = λ more. record_false line (lines ++ more) e ∙ (ap (λ (l : List (List ℕ)). line ∷ l) (word.before more) ∙ sym (record_false line lines e));
-      behind = λ more. behind_false line (lines ++ more) e ∙ (word.behind more ∙ ap (λ (l : List (List ℕ)). l ++ more) (sym (behind_false line lines e)));
-    })
-    by_test false e (inr none) = inr (record { before = λ more. record_false line (lines ++ more) e ∙ ap (λ (l : List (List ℕ)). line ∷ l) (none.before more) })
-
--- then all are the record's
-all_before : (lines : List (List ℕ)) → HasNoWord lines → record_lines lines ≡ lines
-all_before lines none = ap record_lines (sym (append-nil lines)) ∙ (none.before [] ∙ append-nil lines)
+use Rattle.sg_reports.proofs.Courts.Words.{all_before, record_false, word_or_none}
+use Rattle.sg_reports.specs.court.inside.Hearing.{HasNoWord, HasWord}
 
 -- LINES THAT ARE TOO MANY
 
@@ -180,19 +134,15 @@ module _ (lines more : List (List ℕ)) (many : length lines ≡ 2060003) where
 
 -- A LINE THAT IS TOO LONG
 
-no_feed : (text : List ℕ) → HasNoFeed text → list_any (λ byte. byte == 10) text ≡ false
-no_feed [] p = refl
-no_feed (x ∷ xs) p = ap (λ b. b || list_any (λ byte. byte == 10) xs) (ne_eqb x 10 p.0) ∙ no_feed xs p.1
-
 -- the bytes are no line of any part
-record IsNoLine (text : List ℕ) : Type 0 where
-  form : HasNoForm text
+pub record IsNoLine (text : List ℕ) : Type 0 where
+  pub form : HasNoForm text
   differs : (line : List ℕ) → IsShort line → text ≡ line → ⊥
-  word : bytes_eq text printing_line ≡ false
+  pub word : bytes_eq text printing_line ≡ false
 
-long_is_none : (text more : List ℕ) → HasNoFeed text → length text ≡ 16384 → IsNoLine (text ++ more)
+pub long_is_none : (text more : List ℕ) → HasNoFeed text → length text ≡ 16384 → IsNoLine (text ++ more)
 long_is_none text more unended long = record {
-  form = λ version. cut_lines version text more long (no_feed text unended);
+  form = no_form (text ++ more) (record { front = text; more = more; whole = refl; unended = unended; ends = inr long });
   differs = differs;
   word = by_test (bytes_eq (text ++ more) printing_line) refl;
 }
@@ -203,6 +153,18 @@ long_is_none text more unended long = record {
     by_test : (b : Bool) → bytes_eq (text ++ more) printing_line ≡ b → b ≡ false
     by_test false e = refl
     by_test true e = absurd (differs printing_line (record { few = omega arith; fed = fed_end (codes "printing") }) ((bytes_eq-Decides (text ++ more) printing_line).0 e))
+
+-- nor are bytes without a line feed
+pub part_is_none : (text : List ℕ) → HasNoFeed text → IsNoLine text
+part_is_none text unended = record {
+  form = no_form text (record { front = text; more = []; whole = sym (append-nil text); unended = unended; ends = inl refl });
+  differs = λ line short same. short.fed (subst HasNoFeed same unended);
+  word = by_test (bytes_eq text printing_line) refl;
+}
+  where
+    by_test : (b : Bool) → bytes_eq text printing_line ≡ b → b ≡ false
+    by_test false e = refl
+    by_test true e = absurd (fed_end (codes "printing") (subst HasNoFeed ((bytes_eq-Decides text printing_line).0 e) unended))
 
 row_line_short : (line : List ℕ) → IsRowLine line → IsShort line
 row_line_short line is = elim (row_cases line is) [
@@ -235,6 +197,13 @@ module _ (plan : Plan) (fine : fault_of plan ≡ None) where
   sheet_line_short (Codes race list) line small (given, are, is) = subst IsShort (sym is) (codes_short plan.version race given small.0 (given_codes race given are))
 
 -- the bytes, and a longer line and others in their place
+-- bytes that are no line, however they go on
+pub none_of : (text : List ℕ) → HasNoEnd text → IsNoLine text
+none_of text none = elim none.ends [
+  | inl no_more ↦ subst IsNoLine (sym (none.whole ∙ (ap (λ l. none.front ++ l) no_more ∙ append-nil none.front))) (part_is_none none.front none.unended)
+  | inr full ↦ subst IsNoLine (sym none.whole) (long_is_none none.front none.more none.unended full)
+]
+
 module _ (text other : List ℕ) (others : List (List ℕ)) (none : IsNoLine text) (other_none : IsNoLine other) where
   sheet_off_long : (plan : Plan) → fault_of plan ≡ None → (sheet : List SheetLine) (front : List (List ℕ)) (at : ℕ) → AreSmall plan.version sheet
       → IsSheetOff plan sheet (front ++ text ∷ []) at → IsSheetOff plan sheet (front ++ other ∷ others) at

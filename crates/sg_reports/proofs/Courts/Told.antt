@@ -11,9 +11,10 @@ use Rattle.sg_parts.specs.declared.parts.RecountFault.{RecountFault}
 use Rattle.sg_reports.proofs.Courts.Ending.{HoldsOfAll}
 use Rattle.sg_reports.proofs.Courts.Given.{parts_are_whole}
 use Rattle.sg_reports.proofs.Courts.Longer.{long_stays, many_fault}
-use Rattle.sg_reports.specs.court.Heard.{EndsLong, HasOneMore, IsRead}
+use Rattle.sg_reports.specs.court.Heard.{EndsLong, HasOneMore}
 use Rattle.sg_reports.specs.court.Odds.{OddsDue}
 use Rattle.sg_reports.specs.court.Recounts.{IsFaulty, RecountDue}
+use Rattle.sg_reports.specs.court.inside.Hearing.{IsReadOn}
 
 -- more was not read
 record IsCut (bytes read : List ℕ) : Type 0 where
@@ -22,7 +23,7 @@ record IsCut (bytes read : List ℕ) : Type 0 where
   stops : HasOneMore read ⊎ EndsLong read
 
 -- all bytes were read, or more was not
-all_or_cut : (bytes read : List ℕ) (now : Option (List ℕ)) → IsRead (Some bytes) now read → (bytes ≡ read) ⊎ IsCut bytes read
+all_or_cut : (bytes read : List ℕ) (now : Option (List ℕ)) → IsReadOn (Some bytes) now read → (bytes ≡ read) ⊎ IsCut bytes read
 all_or_cut bytes read now is = elim is.stops [
   | inl ended ↦ inl (Consumes-all bytes now (read ++ is.ahead) is.taken ended.1 ∙ (ap (λ (l : List ℕ). read ++ l) ended.0 ∙ append-nil read))
   | inr stops ↦ inr (by_rest now is.taken stops)

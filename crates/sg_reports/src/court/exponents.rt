@@ -1,11 +1,14 @@
-//! The exponents of the odds, as text.
-ghost use Rattle.std.specs.Prelude.{◌≡◌, [], IfOk, length};
+//! The exponents of the odds: they are found, and written, each line as one put.
+ghost use Rattle.std.specs.Prelude.{◌≡◌, ◌≤◌, IfOk, length};
+ghost use Rattle.sg_outside.specs.Faults.{HasCause};
+ghost use Rattle.sg_outside.specs.Streams.{PutAppends};
 ghost use Rattle.sg_parts.specs.Given.{AreParts};
-ghost use Rattle.sg_reports.specs.court.inside.Finding.{HasOdds};
+ghost use Rattle.sg_reports.specs.court.inside.Finding.{HasOdds, values_text};
 
-use crate::court::texts::put_line;
+use crate::court::texts::write_line;
 use sg_odds::{OddsFound, odds};
-use sg_plan::{NoMemory, Word};
+use sg_outside::{Failed, Sink};
+use sg_plan::{Items, NoMemory};
 use sg_recount::Parts;
 use std::alloc::Global;
 
@@ -20,6 +23,15 @@ pub struct Lacking {
     pub row: u32,
 }
 
+/// What is found of all races.
+#[derive(Debug, Drop)]
+pub enum Exponents {
+    /// The exponent of each race.
+    All(Items<u32>),
+    /// The first row that is lacking.
+    NotFull(Lacking),
+}
+
 /// How many races there are.
 fn count_races(parts: &Parts) -> u32
     ensures count { result ≡ length parts.now.posted.plan.races }
@@ -28,23 +40,16 @@ fn count_races(parts: &Parts) -> u32
     parts.posted().plan.races.len() as u32
 }
 
-/// Puts the exponent of each race, up to the first that has a row lacking.
-pub(crate) fn put_exponents(
-    alloc: Global,
-    parts: &Parts,
-    text: &mut Word,
-) -> Result<Option<Lacking>, NoMemory>
-    requires { text.old ≡ [] }
-    ensures { IfOk result (λ found. HasOdds parts.now found text.new) }
+/// Finds the exponent of each race, up to the first that has a row lacking.
+pub(crate) fn find_exponents(alloc: Global, parts: &Parts) -> Result<Exponents, NoMemory>
+    ensures { IfOk result (λ found. HasOdds parts.now found) }
 {
+    let mut values = Items::new(alloc);
     for race in 0..count_races(parts) {
         match odds(alloc, parts, race)? {
-            OddsFound::Exponent(value) => {
-                let numbers = [race as usize, value as usize];
-                put_line(text, b"exponent", numbers.as_slice())?;
-            }
+            OddsFound::Exponent(value) => values.push(value)?,
             OddsFound::NotFull { instance, row } => {
-                return Ok(Some(Lacking {
+                return Ok(Exponents::NotFull(Lacking {
                     race,
                     instance,
                     row,
@@ -52,5 +57,20 @@ pub(crate) fn put_exponents(
             }
         }
     }
-    Ok(None)
+    Ok(Exponents::All(values))
+}
+
+/// Writes the exponent of each race.
+pub(crate) fn write_exponents<O: Sink>(out: &mut O, values: &Items<u32>) -> Result<(), Failed>
+    ensures bytes { PutAppends (O.written out.old) (O.written out.new) result (values_text 0 values.now) }
+    ensures cause { HasCause (O.faults out.old) (O.faults out.new) result }
+{
+    for race in 0..values.len() {
+        let numbers = [race, *values.get(race) as usize];
+        match write_line(out, b"exponent", numbers.as_slice()) {
+            Ok(()) => {}
+            Err(Failed) => return Err(Failed),
+        }
+    }
+    Ok(())
 }

@@ -1,64 +1,66 @@
-//! What is printed for a fault, and the status for it.
-ghost use Rattle.std.specs.Prelude.{◌≡◌, ◌≢◌, [], ◌∷◌, ◌++◌, OnOk};
+//! What is printed for a fault, as one put, and the status for it.
+ghost use Rattle.std.specs.Prelude.{◌≡◌, ◌≤◌, [], ◌∷◌, length};
+ghost use Rattle.sg_outside.specs.Faults.{HasCause};
+ghost use Rattle.sg_outside.specs.Streams.{PutAppends};
 ghost use Rattle.sg_reports.specs.court.Recounts.{fault_status, fault_text};
 ghost use Rattle.sg_reports.specs.court.Texts.{numbers_line};
-ghost use Rattle.sg_report.specs.Report.{no_text};
-ghost use Rattle.sg_parts.specs.declared.parts.RecountFault.TheVariants.{NoMemory as WantsMemory};
 
-use crate::court::texts::{put_line, put_number};
-use sg_check::Kind;
-use sg_plan::{NoMemory, Word};
+use crate::court::texts::write_line;
+use sg_outside::{Failed, Sink};
 use sg_recount::RecountFault;
-use sg_report::word_for;
+use sg_report::write_no;
 
-/// Puts `no LINE KIND`.
-fn put_no(text: &mut Word, line: u32, kind: Kind) -> Result<(), NoMemory>
-    ensures { OnOk result (text.new ≡ text.old ++ no_text line kind) }
+/// Writes a word, and the number of a line behind it.
+fn write_number<O: Sink>(out: &mut O, word: &[u8], line: u32) -> Result<(), Failed>
+    requires { length word.now ≤ 20 }
+    ensures bytes { PutAppends (O.written out.old) (O.written out.new) result (numbers_line word.now (line ∷ [])) }
+    ensures cause { HasCause (O.faults out.old) (O.faults out.new) result }
 {
-    text.extend(b"no")?;
-    put_number(text, line as usize)?;
-    text.push(b' ')?;
-    text.extend(word_for(kind))?;
-    text.push(b'\n')
+    let numbers = [line as usize];
+    write_line(out, word, numbers.as_slice())
 }
 
-/// Puts a word, and the numbers of a row behind it.
-fn put_row(text: &mut Word, word: &[u8], race: u32, instance: u32, row: u32) -> Result<(), NoMemory>
-    ensures { OnOk result (text.new ≡ text.old ++ numbers_line word.now (race ∷ instance ∷ row ∷ [])) }
+/// Writes a word, and the numbers of a row behind it.
+pub(crate) fn write_row<O: Sink>(
+    out: &mut O,
+    word: &[u8],
+    race: u32,
+    instance: u32,
+    row: u32,
+) -> Result<(), Failed>
+    requires { length word.now ≤ 20 }
+    ensures bytes { PutAppends (O.written out.old) (O.written out.new) result (numbers_line word.now (race ∷ instance ∷ row ∷ [])) }
+    ensures cause { HasCause (O.faults out.old) (O.faults out.new) result }
 {
     let numbers = [race as usize, instance as usize, row as usize];
-    put_line(text, word, numbers.as_slice())
+    write_line(out, word, numbers.as_slice())
 }
 
-/// Puts the line for a fault. There is none for want of memory, and that is answered.
-pub(crate) fn put_fault(text: &mut Word, fault: RecountFault) -> Result<(), NoMemory>
-    ensures text { OnOk result (text.new ≡ text.old ++ fault_text fault) }
-    ensures known { OnOk result (fault ≢ WantsMemory) }
+/// Writes the line for a fault. There is none for want of memory.
+pub(crate) fn write_fault<O: Sink>(out: &mut O, fault: RecountFault) -> Result<(), Failed>
+    ensures bytes { PutAppends (O.written out.old) (O.written out.new) result (fault_text fault) }
+    ensures cause { HasCause (O.faults out.old) (O.faults out.new) result }
 {
     match fault {
-        RecountFault::Record { line, kind } => put_no(text, line, kind),
-        RecountFault::Printing(line) => {
-            put_line(text, b"refused printing", [line as usize].as_slice())
-        }
+        RecountFault::Record { line, kind } => write_no(out, line, kind),
+        RecountFault::Printing(line) => write_number(out, b"refused printing", line),
         RecountFault::Stand {
             race,
             instance,
             row,
-        } => put_row(text, b"refused stand", race, instance, row),
-        RecountFault::Completion(line) => {
-            put_line(text, b"refused completion", [line as usize].as_slice())
-        }
+        } => write_row(out, b"refused stand", race, instance, row),
+        RecountFault::Completion(line) => write_number(out, b"refused completion", line),
         RecountFault::Opening {
             race,
             instance,
             row,
-        } => put_row(text, b"refused opening", race, instance, row),
+        } => write_row(out, b"refused opening", race, instance, row),
         RecountFault::Posted {
             race,
             instance,
             row,
-        } => put_row(text, b"refused posted", race, instance, row),
-        RecountFault::NoMemory => Err(NoMemory),
+        } => write_row(out, b"refused posted", race, instance, row),
+        RecountFault::NoMemory => Ok(()),
     }
 }
 

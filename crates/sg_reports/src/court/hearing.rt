@@ -1,12 +1,14 @@
 //! The input of a recount, read line by line up to its end, or until no bytes behind can make it one.
-ghost use Rattle.std.specs.Prelude.{◌≡◌, ◌≤◌, [], IfOk, false};
-ghost use Rattle.sg_plan.specs.Limits.{longest_line};
-ghost use Rattle.sg_outside.specs.Streams.{seen};
-ghost use Rattle.sg_reports.specs.court.inside.Hearing.{Hears, Steps, TakesFew};
+ghost use Rattle.std.specs.Prelude.{◌≡◌, []};
+ghost use Rattle.sg_outside.specs.Streams.{Seen, seen};
+ghost use Rattle.sg_reports.specs.court.inside.Hearing.{Hears, IsPosted, IsPostedSome};
 
-use sg_outside::{Got, Lines, Source};
+use crate::court::judging::{Begun, judge_record};
+use crate::court::taking::{Taken, take_line};
+use sg_check::Kind;
+use sg_outside::{Lines, Source};
+use sg_plan::Word;
 use sg_plan::limits::LONGEST_LINE;
-use sg_plan::{NoMemory, Word};
 use std::alloc::Global;
 
 /// The most lines that a record, its printing and its completion have: 1,200,000 of the record, the line `printing` and
@@ -14,80 +16,55 @@ use std::alloc::Global;
 const MOST_LINES: u32 = 2_060_002;
 
 /// What was heard of an input.
-#[derive(Debug, Drop)]
-pub enum Heard {
-    /// Its text, or a front of it that no text of a recount begins with.
-    Text(Word),
+#[derive(Clone, Copy, Debug, PartialEq, Eq)]
+pub(crate) enum Heard {
+    /// Its text, or a front of it that no text of a recount begins with; and the verdict on its record is yes.
+    Text,
+    /// The verdict on its record is no, and no more was read.
+    No {
+        /// The number of the line.
+        line: u32,
+        /// What it is bad in.
+        kind: Kind,
+    },
     /// A read failed.
     Fault,
     /// Memory was wanted and not found.
     NoMemory,
 }
 
-/// What became of the next line.
-#[derive(Clone, Copy, Debug, PartialEq, Eq)]
-enum Step {
-    /// It was taken.
-    More,
-    /// The last bytes were taken: those before the input's end, or as many of a line as it may have.
-    Last,
-    /// A read failed.
-    Fault,
-}
-
-/// Cuts the next line, and puts it behind the text. Whatever comes of it, at most the bytes of one line are taken.
-fn take_line<S: Source>(lines: &mut Lines, input: &mut S, text: &mut Word) -> Result<Step, NoMemory>
-    requires going { lines.old.is_over ≡ false }
-    requires limit { lines.old.limit ≡ longest_line }
-    ensures steps { IfOk result (λ step. Steps step lines.old lines.new text.old text.new (seen (S.left input.old) (S.faults input.old)) (seen (S.left input.new) (S.faults input.new))) }
-    ensures bounded { TakesFew lines.old (S.left input.old) (S.left input.new) }
-    ensures later { S.faults input.old ≤ S.faults input.new }
+/// Reads the input, and puts its text together. Its record is judged while it is read, and no more is read where that is no.
+/// Of an input that goes on behind all lines that it may have, or has a longer line, a front is read: the lines up to one too
+/// many, or to 16,384 bytes of that line. No more is taken either where a read fails or memory is wanted.
+pub(crate) fn hear<S: Source>(alloc: Global, input: &mut S, text: &mut Word) -> Heard
+    requires { text.old ≡ [] }
+    ensures { Hears result text.new (seen (S.left input.old) (S.faults input.old)) (seen (S.left input.new) (S.faults input.new)) }
 {
-    match lines.next(input) {
-        Got::Line => {
-            text.extend(lines.text())?;
-            Ok(Step::More)
-        }
-        Got::Part => {
-            text.extend(lines.text())?;
-            Ok(Step::Last)
-        }
-        Got::Long => {
-            text.extend(lines.text())?;
-            Ok(Step::Last)
-        }
-        Got::End => Ok(Step::Last),
-        Got::ReadFault => Ok(Step::Fault),
+    let Ok(mut lines) = Lines::new(alloc, LONGEST_LINE) else {
+        return Heard::NoMemory;
+    };
+    match judge_record(alloc, &mut lines, input, text) {
+        Begun::Good(count) => take_others(&mut lines, input, text, count),
+        Begun::Over(heard) => heard,
     }
 }
 
-/// Takes lines up to the last, or to one more than there may be.
-fn gather<S: Source>(alloc: Global, lines: Lines, input: &mut S) -> Heard
-    requires fresh { lines ≡ record { limit = longest_line; text = []; ahead = []; is_over = false } }
-    ensures { Hears result (seen (S.left input.old) (S.faults input.old)) (seen (S.left input.new) (S.faults input.new)) }
+/// Takes the lines behind those that were taken, so many of them, up to the last or to one more than there may be.
+fn take_others<S: Source>(lines: &mut Lines, input: &mut S, text: &mut Word, before: u32) -> Heard
+    requires { IsPostedSome before text.old lines.old (seen (S.left input.old) (S.faults input.old)) }
+    ensures { (first : Seen) → IsPosted before text.old lines.old first (seen (S.left input.old) (S.faults input.old))
+        → Hears result text.new first (seen (S.left input.new) (S.faults input.new)) }
 {
-    let mut lines = lines;
-    let mut text = Word::new(alloc);
-    let mut count = 0;
+    let mut count = before;
     while count <= MOST_LINES {
-        match take_line(&mut lines, input, &mut text) {
-            Ok(Step::More) => {}
-            Ok(Step::Last) => return Heard::Text(text),
-            Ok(Step::Fault) => return Heard::Fault,
-            Err(_) => return Heard::NoMemory,
+        match take_line(lines, input, text) {
+            Taken::Line => {}
+            Taken::Rest => return Heard::Text,
+            Taken::End => return Heard::Text,
+            Taken::Fault => return Heard::Fault,
+            Taken::NoMemory => return Heard::NoMemory,
         }
         count += 1;
     }
-    Heard::Text(text)
-}
-
-/// Reads the input. Of one that goes on behind all lines that it may have, or has a longer line, a front is read: the
-/// lines up to one too many, or to 16,384 bytes of that line. No more is taken either where a read fails or memory is wanted.
-pub(crate) fn hear<S: Source>(alloc: Global, input: &mut S) -> Heard
-    ensures { Hears result (seen (S.left input.old) (S.faults input.old)) (seen (S.left input.new) (S.faults input.new)) }
-{
-    match Lines::new(alloc, LONGEST_LINE) {
-        Ok(lines) => gather(alloc, lines, input),
-        Err(_) => Heard::NoMemory,
-    }
+    Heard::Text
 }

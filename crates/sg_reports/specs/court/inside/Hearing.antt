@@ -1,62 +1,79 @@
--- How the input is read line by line.
-use Rattle.std.specs.Prelude.{◌≡◌, ℕ, ◌+◌, ◌*◌, ◌<◌, ◌≤◌, ◌⊎◌, false, List, ◌++◌, length, Option}
-use Rattle.std.specs.List.{concat}
+-- What was heard of an input.
+use Rattle.std.specs.Prelude.{◌≡◌, ℕ, ◌+◌, ◌<◌, ◌≤◌, ◌⊎◌, List, [], ◌∷◌, ◌++◌, length, IfSome, Option}
 use Rattle.std.specs.Io.KnownBytes.{Consumes, IsAtEnd}
 use Rattle.sg_plan.specs.Limits.{longest_line}
-use Rattle.sg_outside.specs.Cutting.{Cutting, to_come}
+use Rattle.sg_outside.specs.Cutting.{Cutting}
 use Rattle.sg_outside.specs.Faults.{Rose}
 use Rattle.sg_outside.specs.Streams.{Seen}
-use Rattle.sg_outside.specs.TextLines.{AreLines, HasNoFeed, IsLine}
-use Rattle.sg_reports.specs.court.Heard.{IsRead, TookFew}
+use Rattle.sg_outside.specs.TextLines.{lines_of}
+use Rattle.sg_check.specs.Verdict.{IsVerdict}
+use Rattle.sg_check.specs.declared.judged.Judged.TheVariants as judged
+use Rattle.sg_check.specs.declared.judged.Kind.{Kind}
+use Rattle.sg_check.specs.declared.judged.Total.{Total}
+use Rattle.sg_driver.specs.Taken.{TookOneMore}
+use Rattle.sg_parts.specs.Faults.{IsAccepting, lines_behind, record_lines}
+use Rattle.sg_parts.specs.Given.{printing_line}
+use Rattle.sg_reports.specs.court.Heard.{EndsLong, HasOneMore, IsRead, IsUnsettled, TookUnsettled, most_bytes}
+use Rattle.sg_reports.specs.court.inside.Taking.{HasTaken}
 use Rattle.sg_reports.specs.declared.court.hearing.Heard.{Heard}
 use Rattle.sg_reports.specs.declared.court.hearing.Heard.TheVariants as heard
-use Rattle.sg_reports.specs.declared.court.hearing.Step.{Step}
-use Rattle.sg_reports.specs.declared.court.hearing.Step.TheVariants as step
+
+-- WHERE THE RECORD ENDS
+
+-- one of the lines is `printing`
+pub record HasWord (lines : List (List ℕ)) : Type 0 where
+  pub tail : List (List ℕ)
+  pub begins : lines_behind lines ≡ printing_line ∷ tail
+  pub before : (more : List (List ℕ)) → record_lines (lines ++ more) ≡ record_lines lines
+  pub behind : (more : List (List ℕ)) → lines_behind (lines ++ more) ≡ lines_behind lines ++ more
+
+-- none is
+pub record HasNoWord (lines : List (List ℕ)) : Type 0 where
+  pub before : (more : List (List ℕ)) → record_lines (lines ++ more) ≡ lines ++ record_lines more
+  pub behind : (more : List (List ℕ)) → lines_behind (lines ++ more) ≡ lines_behind more
+
+-- so many lines were taken, and are the text; the record ends among them, and its verdict is yes
+pub record IsPosted (count : ℕ) (text : List ℕ) (lines : Cutting) (first now : Seen) : Type 0 where
+  pub has : HasTaken count text lines first.bytes now.bytes
+  pub totals : List Total
+  pub good : IsVerdict (record_lines has.done) (judged.Yes totals)
+  pub word : HasWord has.done
+  pub later : first.faults ≤ now.faults
+
+abbrev pub IsPostedSome : ℕ → List ℕ → Cutting → Seen → Type 0
+IsPostedSome count text lines now = (first : Seen) × IsPosted count text lines first now
+
+-- WHAT WAS HEARD
+
+-- the input was read to its end, or until no text that goes on so has all parts for its length
+pub record IsReadOn (before now : Option (List ℕ)) (text : List ℕ) : Type 0 where
+  pub ahead : List ℕ
+  pub few : length ahead < longest_line
+  pub taken : Consumes before now (text ++ ahead)
+  pub bound : length text + length ahead ≤ most_bytes
+  pub stops : ((ahead ≡ []) × IsAtEnd now) ⊎ (HasOneMore text ⊎ EndsLong text)
+
+-- the verdict on the record is yes
+abbrev pub IsYes : List (List ℕ) → Type 0
+IsYes lines = IsAccepting (record_lines lines)
+
+-- this text was read, and the verdict on its record is yes
+pub record HearsText (text : List ℕ) (before now : Option (List ℕ)) : Type 0 where
+  pub is_read : IsReadOn before now text
+  pub good : IsYes (lines_of text)
+  pub took : TookUnsettled before now
+
+-- the verdict on the record is no
+pub record HearsNo (line : ℕ) (broken : Kind) (before now : Option (List ℕ)) : Type 0 where
+  pub read : List ℕ
+  pub is_read : IsRead before now read
+  pub no : IsVerdict (record_lines (lines_of read)) (judged.No line broken)
+  pub told : IfSome before (λ bytes. IsVerdict (record_lines (lines_of bytes)) (judged.No line broken))
+  pub took : TookOneMore IsUnsettled before now
 
 -- what was heard of an input
-abbrev pub Hears : Heard → Seen → Seen → Type 0
-Hears (heard.Text text) input input' = IsRead input.bytes input'.bytes text
-Hears heard.Fault input input' = Rose input.faults input'.faults × TookFew input.bytes input'.bytes
-Hears heard.NoMemory input input' = TookFew input.bytes input'.bytes
-
--- one more line was cut, and put behind the text
-pub record TakesLine (lines lines' : Cutting) (text text' : List ℕ) (before now : Option (List ℕ)) : Type 0 where
-  pub is_line : IsLine lines'.text
-  pub grown : text' ≡ text ++ lines'.text
-  pub taken : Consumes (to_come lines before) (to_come lines' now) lines'.text
-  pub goes_on : lines'.is_over ≡ false
-  pub limit : lines'.limit ≡ longest_line
-  pub few : length lines'.text + length lines'.ahead ≤ longest_line
-
--- the last bytes were cut, which have no line feed, and put behind the text: those before the end, or as many as a line has
-pub record TakesRest (lines : Cutting) (text text' : List ℕ) (before now : Option (List ℕ)) : Type 0 where
-  pub rest : List ℕ
-  pub unended : HasNoFeed rest
-  pub grown : text' ≡ text ++ rest
-  pub taken : Consumes (to_come lines before) now rest
-  pub few : length rest ≤ longest_line
-  pub ends : IsAtEnd now ⊎ (length rest ≡ longest_line)
-
--- whatever became of it: at most as many bytes were taken as a line has, those included that were held before
-pub record TakesFew (lines : Cutting) (before now : Option (List ℕ)) : Type 0 where
-  pub bytes : List ℕ
-  pub taken : Consumes (to_come lines before) now bytes
-  pub few : length bytes ≤ longest_line
-
-abbrev pub Steps : Step → (lines lines' : Cutting) (text text' : List ℕ) (input input' : Seen) → Type 0
-Steps step.More lines lines' text text' input input' = TakesLine lines lines' text text' input.bytes input'.bytes
-Steps step.Last lines lines' text text' input input' = TakesRest lines text text' input.bytes input'.bytes
-Steps step.Fault lines lines' text text' input input' = Rose input.faults input'.faults
-
--- so many whole lines were taken, and are the text
-pub record HasTaken (count : ℕ) (text : List ℕ) (lines : Cutting) (before now : Option (List ℕ)) : Type 0 where
-  pub done : List (List ℕ)
-  pub are_lines : AreLines done
-  pub text_is : text ≡ concat done
-  pub long : length done ≡ count
-  pub few : count ≤ 2060003
-  pub taken : Consumes before (to_come lines now) (concat done)
-  pub goes_on : lines.is_over ≡ false
-  pub limit : lines.limit ≡ longest_line
-  pub held : length lines.ahead < longest_line
-  pub bound : length text + length lines.ahead ≤ count * longest_line
+abbrev pub Hears : Heard → List ℕ → Seen → Seen → Type 0
+Hears heard.Text text input input' = HearsText text input.bytes input'.bytes
+Hears (heard.No line broken) text input input' = HearsNo line broken input.bytes input'.bytes
+Hears heard.Fault text input input' = Rose input.faults input'.faults × TookUnsettled input.bytes input'.bytes
+Hears heard.NoMemory text input input' = TookUnsettled input.bytes input'.bytes

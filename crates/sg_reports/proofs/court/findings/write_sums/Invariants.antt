@@ -1,0 +1,11 @@
+-- The lines of the races so far were written.
+use Rattle.std.proofs.Common.{◌≤◌, drop}
+use Rattle.sg_reports.proofs.Courts.Writing.{HasPut}
+use Rattle.sg_reports.specs.court.Recounts.{sums_text}
+use Rattle.sg_reports.proofs.court.findings.write_sums.Given as goal
+
+abbrev pub invariant-loop-race : goal.invariant-loop-race
+invariant-loop-race g l = record {
+  put : HasPut (g.O.Sink.written l.fn.out) (g.O.Sink.written l.out) (sums_text l.race (drop l.race l.lists)) (sums_text 0 l.lists);
+  later : g.O.Sink.faults l.fn.out ≤ g.O.Sink.faults l.out;
+}
