@@ -4,7 +4,7 @@
     altered.py STREAM REPORTS        (in this folder)
 
 STREAM gets each record behind a line with its name and the number of its bytes, and REPORTS what an audit says of it.
-`crates/audit_vectors` audits such streams.
+The part `records` of crates/cases audits such streams.
 """
 import io
 import random

@@ -1,10 +1,11 @@
 #!/usr/bin/env python3
-"""Steps for the program office_vectors whose inputs were written by hand, with what must come by the rules.
+"""Steps for the part `offices` of crates/cases whose inputs were written by hand, with what must come by the rules.
 
     by_hand.py STDIN STDOUT        (in this folder)
 
-appends the steps to STDIN, and to STDOUT the lines that say what must come. Codes, papers, openings and the records of
-by_hand/ were computed by another program; the replies to acts are those of office.py too, another office.
+appends the steps to STDIN, and to STDOUT the lines that say what must come (parts.py writes and puts those of the crate).
+Codes, papers, openings and the records of by_hand/ were computed by another program; the replies to acts are those of
+office.py too, another office.
 """
 import json
 import sys

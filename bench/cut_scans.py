@@ -1,10 +1,11 @@
 #!/usr/bin/env python3
-"""Steps for the program office_vectors: a scanner's file that is cut at every 97th byte, and then comes again whole.
+"""Steps for the part `offices` of crates/cases: a scanner's file that is cut at every 97th byte, and then comes again whole.
 
     cut_scans.py NAME ELECTION.json FILE.csv STDIN STDOUT
 
 appends to STDIN, for each cut, the steps of an election of its own (no rows, `init`, `scans` of the cut file, `scans` of
-the whole one, `do` of the close and `record`) with what must come, and to STDOUT the lines that say so. What must come
+the whole one, `do` of the close and `record`) with what must come, and to STDOUT the lines that say so (parts.py writes and puts those
+of the crate). What must come
 is from office.py, an office in Python, and from Python's module csv.
 """
 import csv

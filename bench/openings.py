@@ -1,9 +1,9 @@
 #!/usr/bin/env python3
-"""Steps for the program office_vectors: what a court is handed, `openings`, at each stage of offices that are made up.
+"""Steps for the part `offices` of crates/cases: what a court is handed, `openings`, at each stage of offices that are made up.
 
     openings.py STDIN STDOUT        (in this folder)
 
-appends the steps to STDIN, and to STDOUT the lines that say what must come. Each office is set up and asked, and before
+appends the steps to STDIN, and to STDOUT the lines that say what must come (parts.py writes and puts those of the crate). Each office is set up and asked, and before
 its setup, while it votes, behind its close and behind its draw `openings` is run. The openings are those of office.py,
 another office. Behind the draw the record, the line `printing`, the sheet and the openings are put behind one another and
 recounted: no row may be altered. Then come rows that are no office's.

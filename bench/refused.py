@@ -4,7 +4,7 @@
     refused.py STREAM REPORTS
 
 STREAM gets each record behind a line with its name and the number of its bytes, and REPORTS what an audit says of it:
-`no N form`, with the number of the last line. `crates/audit_vectors` audits such streams.
+`no N form`, with the number of the last line. The part `records` of crates/cases audits such streams.
 """
 import io
 import random

@@ -4,7 +4,7 @@
     vectors.py                          makes all files anew
     vectors.py check                    says which files are not as it makes them; status 1 where there are some
     vectors.py stream STREAM REPORTS    writes the records, each after a line with its name in vectors/ and the number of its
-                                        bytes, and their reports, as crates/audit_vectors reads and writes them
+                                        bytes, and their reports, as the part `records` of crates/cases reads and writes them
 
 What must be reported is said here, beside what was changed, by the rules of docs/FORMAT.md: no auditor is asked. The
 tables, commitments and coins are those of record.py, the codes of the asks' elections those of office.py.

@@ -1,6 +1,6 @@
 //! Tests of an office's libraries: its keeper over a database, the limits of its files, and the texts of its acts.
 //!
-//! Its commands are tried by the programs `office_vectors`, `office_cases` and `device_cases`.
+//! Its commands are tried by the parts `offices`, `asks` and `devices` of the program `cases`.
 #![tactic(auto)]
 
 #[cfg(test)]

@@ -1,6 +1,6 @@
 //! Tests of the libraries about a record: it is read and written, it is counted as a county's part, and its codes are told.
 //!
-//! Verdicts, recounts and counties are tried as commands, by the programs `audit_vectors` and `office_vectors`.
+//! Verdicts, recounts and counties are tried as commands, by the parts `records` and `offices` of the program `cases`.
 #![tactic(auto)]
 
 #[cfg(test)]

@@ -1,8 +1,0 @@
-use Rattle.std.proofs.Common.{◌-◌, length}
-use Rattle.audit_vectors.proofs.office.sealing.before_line.Given as goal
-
-abbrev pub invariant-loop-start : goal.invariant-loop-start
-invariant-loop-start l = Unit {0}
-
-abbrev pub decreases-loop-start : goal.decreases-loop-start
-decreases-loop-start l = length l.text - l.start
