@@ -3,6 +3,8 @@ statements, write-ahead log and full sync, in ./office.db.
 
     do.py election BALLOTS          writes an election file of so many ballots: 20,000 have 200,000 rows
     do.py asks BALLOTS              writes a scan of each ballot, one a line
+    do.py plain BALLOTS             writes an election file of one race, as `measures post` posts it: 20,000 have 200,000 rows
+    do.py votes BALLOTS             writes a scan of each ballot of that one, and then the close and the draw
     do.py file BALLOTS              writes the same scans as a scanner's file
     do.py do ELECTION < ASKS        sets an office.db up and answers the asks
 """
@@ -22,6 +24,20 @@ def election(ballots):
     styles, runs = [{"name": "All", "races": [0, 1]}], [{"style": 0, "ballots": ballots}]
     plan = {"version": 1, "name": "Timed", "instances": 1, "races": races, "styles": styles, "runs": runs}
     return {"plan": plan, "seed": "%064x" % 7, "secrets": SECRETS}
+
+
+def plain(ballots):
+    races, runs = [{"name": "R", "candidates": ["A", "B"], "votes": 1}], [{"style": 0, "ballots": ballots}]
+    plan = {"version": 1, "name": "E", "instances": 5, "races": races, "styles": [{"name": "S", "races": [0]}], "runs": runs}
+    return {"plan": plan, "seed": "%064x" % 7, "secrets": SECRETS}
+
+
+def votes(ballots):
+    by = {"station": 0, "secret": SECRETS[0]}
+    for ballot in range(1, ballots + 1):
+        yield {"ask": "scan", **by, "ref": ballot, "ballot": ballot, "marks": [[0, ballot % 2]]}
+    yield {"ask": "close", **by, "ref": 0}
+    yield {"ask": "draw", **by, "ref": ballots + 1, "draw": "00ff"}
 
 
 def asks(ballots):
@@ -74,8 +90,10 @@ def do(file):
 def main(task, given):
     if task == "election":
         print(json.dumps(election(int(given))))
-    elif task == "asks":
-        for ask in asks(int(given)):
+    elif task == "plain":
+        print(json.dumps(plain(int(given))))
+    elif task in ("asks", "votes"):
+        for ask in {"asks": asks, "votes": votes}[task](int(given)):
             print(json.dumps(ask, separators=(",", ":")))
     elif task == "file":
         print("\n".join(records(int(given))))

@@ -1,7 +1,8 @@
 #!/usr/bin/env bash
 # Times `record` of an office of 20,000 ballots (200,000 rows of table R) into a file, into nothing and into a pipe, in rounds
-# that take turns, beside the writing of a record of as many rows by `measures post` (which has no office.db to open), `cat` and
-# `sha256sum`; and counts the calls that write, where strace is there.
+# that take turns, beside the writing of such a record by `measures post` (which has no office.db to open), `cat` and
+# `sha256sum`; and counts the calls that write, where strace is there. Both records are of one race of two candidates, in five
+# instances, and as long.
 #
 #   bench/record.sh [PROGRAM..]       (at the top of the repository; these built programs, else the one that is built here)
 #
@@ -20,11 +21,8 @@ folder=$(mktemp -d) || exit 1
 trap 'rm -rf "$folder"' EXIT
 cd "$folder" || exit 1
 
-$python election 20000 > election.json
-$python asks 20000 > asks
-close='{"ask":"close","station":0,"secret":"00000000000000000000000000000001","ref":0}'
-draw='{"ask":"draw","station":0,"secret":"00000000000000000000000000000001","ref":100000,"draw":"00ff"}'
-(cat asks; echo "$close"; echo "$draw") > all
+$python plain 20000 > election.json
+$python votes 20000 > all
 "${programs[0]}" init < election.json > begun || exit 1
 "${programs[0]}" do < all > replies || exit 1
 
