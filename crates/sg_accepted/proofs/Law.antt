@@ -1,10 +1,7 @@
 -- The verdict on what is posted of an unaltered run is yes.
 use Rattle.std.proofs.Common.{◌≡◌, ℕ, List, [], length, Some, refl, subst}
-use Rattle.std.proofs.lemmas.List.Elements.{All-nil}
 use Rattle.sg_plan.specs.declared.plan.Draw.{Draw}
-use Rattle.sg_plan.specs.declared.plan.Draw.TheVariants as drawn
 use Rattle.sg_plan.specs.declared.plan.Plan.{Plan}
-use Rattle.sg_plan.specs.declared.plan.Stage.TheVariants as stage
 use Rattle.sg_outside.specs.TextLines.{lines_of}
 use Rattle.sg_forms.specs.Said.{Said}
 use Rattle.sg_grammar.proofs.Ranges.{lines_are_in_plan}
@@ -40,7 +37,6 @@ use Rattle.sg_accepted.proofs.StoryWalks.{Walks, story-walks, walked_as}
 use Rattle.sg_accepted.proofs.Total.{totals-whole}
 use Rattle.sg_accepted.proofs.Unaltered.{IsTold, unaltered-told}
 use Rattle.sg_accepted.specs.Accepted.{UnalteredIsAccepted}
-use Rattle.sg_accepted.specs.Unaltered.{IsRightClaim, IsTrueFate, IsUnaltered}
 
 module _ (plan : Plan) (seed : List ℕ) (fates : List Told) (draw : Draw) (claims : List Claimed) (told : IsTold plan seed fates claims) (bytes : AreDrawn draw)
     (long : length (lines_in (posted_record plan seed fates draw claims)) ≡ length (places_in (posted_record plan seed fates draw claims)))
@@ -88,12 +84,3 @@ unaltered_is_accepted plan seed story fine unaltered =
     let texts : List (List ℕ) = lines_of (posted_text plan seed story) in
     accepted texts (walked_as plan seed story.fates walks.draw story.claims) walks.walks
     (kinds-good plan seed story.fates walks.draw story.claims (unaltered-told plan seed story fine unaltered) walks.bytes walks.many texts walks.walks) refl
-
--- there is such a story: one without ballots and claims
-pub empty_is_unaltered : (plan : Plan) (seed : List ℕ) → IsUnaltered plan seed (record { fates = []; stage = stage.Drawn drawn.Full; claims = [] })
-empty_is_unaltered plan seed = record {
-  fits = refl;
-  drawn = tt;
-  papers = All-nil (λ (told : Told). IsTrueFate plan seed told.ballot told.fate);
-  words = All-nil (IsRightClaim plan seed []);
-}

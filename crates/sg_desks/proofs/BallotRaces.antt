@@ -1,12 +1,12 @@
 -- The races of a ballot: each is one of the plan, and the ballot has it.
-use Rattle.std.proofs.Common.{◌≡◌, ◌≢◌, ℕ, zero, suc, ◌-◌, ◌<◌, ◌==◌, Bool, true, false, ◌||◌, inl, inr, List, [], ◌∷◌, All, length, get_or, Option, Some, None, refl, arith}
+use Rattle.std.proofs.Common.{◌≡◌, ℕ, zero, suc, ◌<◌, ◌==◌, Bool, true, false, ◌||◌, inl, inr, List, [], ◌∷◌, All, length, get_or, Option, Some, None, refl, arith}
 use Rattle.std.specs.List.{list_any}
 use Rattle.std.specs.Option.{option_map_or}
-use Rattle.std.proofs.lemmas.Bool.{eq-eqb, eqb-true, ne_eqb}
+use Rattle.std.proofs.lemmas.Bool.{eq-eqb, eqb-true}
 use Rattle.std.proofs.lemmas.List.Elements.{All-head, All-tail, All-nil}
-use Rattle.std.proofs.lemmas.Option.{slice_get_cases, slice_get_past}
+use Rattle.std.proofs.lemmas.Option.{slice_get_cases}
 use Rattle.sg_plan.proofs.LimitLaws.{keeps_limits, passes_tests}
-use Rattle.sg_plan.specs.Ballots.{ballot_has, ballot_styles, ballots_of, races_of_ballot, races_of_style, style_has, style_of_ballot}
+use Rattle.sg_plan.specs.Ballots.{ballot_has, races_of_ballot, races_of_style, style_has, style_of_ballot}
 use Rattle.sg_plan.specs.Limits.{KeepsLimits, KeepsStyle, fault_of}
 use Rattle.sg_plan.specs.declared.plan.Plan.{Plan}
 
@@ -56,16 +56,3 @@ has_races plan ballot = at (style_of_ballot plan ballot)
     at : (o : Option ℕ) → All (λ race. option_map_or (style_has plan race) o false ≡ true) (option_map_or (races_of_style plan) o [])
     at None = All-nil (λ race. option_map_or (style_has plan race) None false ≡ true)
     at (Some style) = λ k d within. in_list (races_of_style plan style) k d within
-
--- a ballot that the plan does not have has no race
-pub races_none : (plan : Plan) (ballot : ℕ) → ballot ≡ 0 → races_of_ballot plan ballot ≡ []
-races_none plan ballot none = rw none refl
-
-pub races_past : (plan : Plan) (ballot : ℕ) → ballots_of plan < ballot → races_of_ballot plan ballot ≡ []
-races_past plan ballot past =
-    let some : ballot ≢ 0 = λ e. omega (arith, past) in
-    rw (ne_eqb ballot 0 some, slice_get_past (ballot_styles plan.runs) (ballot - 1) (omega (arith, past))) refl
-
--- what holds of each race of a ballot, in a list that is theirs
-pub each_has : (plan : Plan) (ballot : ℕ) (races : List ℕ) → races ≡ races_of_ballot plan ballot → All (λ race. ballot_has plan ballot race ≡ true) races
-each_has plan ballot races same = rw same (has_races plan ballot)

@@ -210,9 +210,6 @@ one_puts plan old new ballot code is sized = λ r e within below.
     at_place false (Some k) s = sym (then_none k)
     at_place b None s = cc
 
-pub none_put : (plan : Plan) (table : List (List (Option ℕ))) → Puts plan table table (λ race entry. None)
-none_put plan table = λ r e within below. sym (then_none (told table r e))
-
 pub puts_same : (plan : Plan) (old new : List (List (Option ℕ))) (f h : ℕ → ℕ → Option ℕ) → ((r e : ℕ) → f r e ≡ h r e) → Puts plan old new f → Puts plan old new h
 puts_same plan old new f h same puts = λ r e within below. puts r e within below ∙ ap (λ (o : Option ℕ). option_map_or Some (told old r e) o) (same r e)
 

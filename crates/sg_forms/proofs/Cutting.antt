@@ -2,8 +2,9 @@
 use Rattle.std.proofs.Common.{◌≡◌, ℕ, suc, ◌+◌, ◌-◌, ◌<◌, false, List, [], ◌∷◌, length, take, drop, get_or, slice_index, None, refl, sym, ap, ◌∙◌, arith, add-one, length-drop}
 use Rattle.std.proofs.Math.Seq.{split_at}
 use Rattle.std.proofs.lemmas.List.{take_all, take_more}
-use Rattle.std.proofs.lemmas.List.Elements.{All-append, All-cons, All-nil}
+use Rattle.std.proofs.lemmas.List.Elements.{All-append, All-from_recursion, All-cons, All-nil}
 use Rattle.std.proofs.lemmas.List.Splits.{slice_split_at, slice_split_none, length-slice_split}
+use Rattle.std.specs.Prelude.{codes}
 use Rattle.std.proofs.lemmas.Bool.{eq-eqb}
 use Rattle.sg_lines.specs.Words.{HasNoSpace, encode_lower}
 use Rattle.sg_lines.proofs.Spaces.{HasNoSpace-encode_lower}
@@ -42,3 +43,12 @@ not_whole_here line (word ∷ words) some = refl
 -- a text has a word at least
 pub not_whole : (line : Said) (text : List ℕ) → whole line (words_in text) ≡ None
 not_whole line text = not_whole_here line (words_in text) (omega (arith, length-slice_split is_space text))
+
+-- the longest first words have no space
+pub row_commit_word : HasNoSpace (codes "row-commit")
+row_commit_word = All-from_recursion (λ byte. is_space byte ≡ false) (codes "row-commit") (refl, (refl, (refl, (refl, (refl, (refl, (refl, (refl, (refl, (refl, tt))))))))))
+
+pub code_commit_word : HasNoSpace (codes "code-commit")
+code_commit_word = All-from_recursion (λ byte. is_space byte ≡ false) (codes "code-commit") (refl, (refl, (refl, (refl, (refl, (refl, (refl, (refl, (refl, (refl, (refl, tt)))))))))))
+
+pub ruleset long_words = (row_commit_word, code_commit_word)

@@ -1,7 +1,7 @@
 -- Words that are written one behind another.
 use Rattle.std.proofs.Common.{◌≡◌, ℕ, ◌+◌, ◌-◌, ◌<◌, ◌≤◌, List, [], ◌∷◌, ◌++◌, length, take, drop, get_or, slice_set, refl, sym, ap, ◌∙◌, arith, append_assoc, length-append, length-drop}
 use Rattle.std.proofs.Math.Seq.{set-append_seam, take-append_seam, drop-append-add}
-use Rattle.std.proofs.lemmas.List.{append-nil, take_all, drop_all, drop-drop, drop_more, length-take-le, take-append-drop}
+use Rattle.std.proofs.lemmas.List.{append-nil, take_all, drop_all, drop-drop, drop_more, length-take-le}
 use borrow.Rule.Slice.PartMut.{put_mid, mid_of}
 use Rattle.std.specs.List.{join_with_byte}
 use Rattle.sg_forms.specs.inside.Writing.{spaced, overwritten, IsWritten}
@@ -47,19 +47,11 @@ written_behind at bytes more old within =
     ∙ append_assoc (take at old) bytes (more ++ drop (at + length (bytes ++ more)) old)
     ∙ ap (λ l. take at old ++ l) (sym (append_assoc bytes more (drop (at + length (bytes ++ more)) old)))
 
--- nothing written changes nothing
-pub nothing_written : (at : ℕ) (old : List ℕ) → overwritten at [] old ≡ old
-nothing_written at old = ap (λ n. take at old ++ drop n old) (let e : at + 0 ≡ at = omega arith in e) ∙ take-append-drop at old
-
 -- what is written so far, and the words that are left, give all the words
 pub record IsOnTheWay (start : ℕ) (words : List (List ℕ)) (old : List ℕ) (at : ℕ) (left : List (List ℕ)) (out : List ℕ) : Type 0 where
   pub count : at + length (spaced left) ≡ start + length (spaced words)
   pub size : length out ≡ length old
   pub written : overwritten at (spaced left) out ≡ overwritten start (spaced words) old
-
--- at the start all words are left
-pub way_start : (start : ℕ) (words : List (List ℕ)) (old : List ℕ) → IsOnTheWay start words old start words old
-way_start start words old = record { count = refl; size = refl; written = refl }
 
 -- one word more is written
 pub way_step : (start : ℕ) (words : List (List ℕ)) (old : List ℕ) (at : ℕ) (left : List (List ℕ)) (out : List ℕ) (word : List ℕ) (behind : List (List ℕ)) (end : ℕ) (new : List ℕ)
@@ -79,13 +71,6 @@ way_step start words old at left out word behind end new way is within ends same
           ∙ ap (λ l. overwritten at l out) (sym spelled)
           ∙ way.written;
     }
-
--- at the end no word is left
-pub way_end : (start : ℕ) (words : List (List ℕ)) (old : List ℕ) (at : ℕ) (left : List (List ℕ)) (out : List ℕ) → IsOnTheWay start words old at left out → left ≡ []
-    → (at ≡ start + length (spaced words)) × (out ≡ overwritten start (spaced words) old)
-way_end start words old at left out way is =
-    let none : spaced left ≡ [] = ap spaced is in
-    (omega (arith, way.count, ap length none), sym (nothing_written at out) ∙ (ap (λ l. overwritten at l out) (sym none) ∙ way.written))
 
 -- ---- the words of a line
 
@@ -110,10 +95,6 @@ words_behind front behind old middle new at end written ends is =
           ∙ written_behind 0 (spaced front) (spaced behind) old (omega arith)
           ∙ ap (λ l. overwritten 0 l old) (sym all);
     }
-
--- there is room for the words in front
-pub room_in_front : (front behind : List (List ℕ)) → length (spaced (front ++ behind)) ≡ length (spaced front) + length (spaced behind)
-room_in_front front behind = ap length (spaced-append front behind) ∙ length-append (spaced front) (spaced behind)
 
 -- words with a space behind each are the words joined by spaces, and one space
 spaced_joined : (first : List ℕ) (words : List (List ℕ)) → spaced (first ∷ words) ≡ join_with_byte 32 (first ∷ words) ++ 32 ∷ []

@@ -11,7 +11,7 @@ use crate::line::Line;
 use crate::plan::{ballots, cand, election, instances, race, style, version};
 use crate::results::{draw, flags, places, seal, total};
 use crate::rows::{both, code_commit, left, right, row_commit};
-use crate::words::{Words, cut, is_word};
+use crate::words::{Words, behind_code_commit, behind_row_commit, cut, is_word};
 use sg_plan::limits::LONGEST_LINE;
 
 /// What stands before the line feed that ends a line.
@@ -136,11 +136,18 @@ fn any_line<'a>(version: u32, first: &[u8], words: Words<'a>) -> Option<Line<'a>
     ballot_line(version, first, words)
 }
 
-/// The line that a text says.
+/// The line that a text says. The longest first words, which most lines have, are told by their width.
+#[tactic(auto, unfolding(crate::specs::Reading::form_of))]
 fn read_text(version: u32, text: &[u8]) -> Option<Line<'_>>
     ensures exact { option_map said result ≡ form_in version (words_in text.now) }
     ensures zeros { IfSome result HasZeros }
 {
+    if let Some(words) = behind_row_commit(text) {
+        return row_commit(words);
+    }
+    if let Some(words) = behind_code_commit(text) {
+        return code_commit(words);
+    }
     let (first, rest) = cut(text);
     any_line(version, first, Words::new(rest))
 }

@@ -10,6 +10,7 @@ use crate::words::Words;
 use sg_commit::Opening;
 
 /// `code-commit R HEX`
+#[inline(always)]
 pub(crate) fn code_commit<'a>(mut words: Words<'a>) -> Option<Line<'a>>
     ensures exact { option_map said result ≡ code_commit_of words.entry }
     ensures zeros { IfSome result HasZeros }
@@ -20,6 +21,7 @@ pub(crate) fn code_commit<'a>(mut words: Words<'a>) -> Option<Line<'a>>
 }
 
 /// `row-commit R I HEX HEX`
+#[inline(always)]
 pub(crate) fn row_commit<'a>(mut words: Words<'a>) -> Option<Line<'a>>
     ensures exact { option_map said result ≡ row_commit_of words.entry }
     ensures zeros { IfSome result HasZeros }

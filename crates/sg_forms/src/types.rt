@@ -3,7 +3,7 @@ ghost use Rattle.std.specs.Prelude.{◌≡◌, ◌<◌, All, take};
 ghost use Rattle.sg_forms.specs.Said.{said};
 ghost use Rattle.sg_forms.specs.Spelling.{AreBytes, FitsForm, IsInRange, IsNumber, IsOpening, IsRow};
 
-use crate::line::{Line, RowOpening};
+use crate::line::{CodeLine, Line, RowOpening};
 use crate::lists::front;
 use sg_commit::{Digest, Key, Opening};
 
@@ -74,6 +74,44 @@ fn know_two(first: u32, second: u32)
     know_number(second);
 }
 
+/// The numbers are of 32 bits.
+fn know_three(first: u32, second: u32, third: u32)
+    ensures first { IsNumber first }
+    ensures second { IsNumber second }
+    ensures third { IsNumber third }
+{
+    know_two(first, second);
+    know_number(third);
+}
+
+/// The number is one of 32 bits, and the digest has 32 bytes.
+fn know_commitment(number: u32, digest: &Digest)
+    ensures number { IsNumber number }
+    ensures digest { AreBytes 32 digest.now.0 }
+{
+    know_number(number);
+    know_digest(digest);
+}
+
+/// The digests have 32 bytes.
+fn know_digests(left: &Digest, right: &Digest)
+    ensures left { AreBytes 32 left.now.0 }
+    ensures right { AreBytes 32 right.now.0 }
+{
+    know_digest(left);
+    know_digest(right);
+}
+
+/// The race and the column are numbers of 32 bits, and the key has 16 bytes.
+fn know_code(code: &CodeLine)
+    ensures race { IsNumber code.now.race }
+    ensures column { IsNumber code.now.column }
+    ensures key { AreBytes 16 code.now.key.0 }
+{
+    know_two(code.race, code.column);
+    know_key(&code.key);
+}
+
 /// A line is in range where the words fit that its types don't hold to their kind.
 pub fn know_line(version: u32, line: &Line)
     requires { FitsForm version (said line.now) }
@@ -92,10 +130,7 @@ pub fn know_line(version: u32, line: &Line)
         } => know_two(*candidates, *votes),
         Line::Style { races, count, .. } => know_front(races, *count),
         Line::Ballots { style, count } => know_two(*style, *count),
-        Line::CodeCommit { race, digest } => {
-            know_number(*race);
-            know_digest(digest);
-        }
+        Line::CodeCommit { race, digest } => know_commitment(*race, digest),
         Line::RowCommit {
             race,
             instance,
@@ -103,27 +138,17 @@ pub fn know_line(version: u32, line: &Line)
             right,
         } => {
             know_two(*race, *instance);
-            know_digest(left);
-            know_digest(right);
+            know_digests(left, right);
         }
-        Line::Seal { number, digest } => {
-            know_number(*number);
-            know_digest(digest);
-        }
-        Line::Code(code) => {
-            know_two(code.race, code.column);
-            know_key(&code.key);
-        }
+        Line::Seal { number, digest } => know_commitment(*number, digest),
+        Line::Code(code) => know_code(code),
         Line::Paper { race, .. } | Line::Places { race, .. } => know_number(*race),
         Line::Flags { race, instance, .. } => know_two(*race, *instance),
         Line::Total {
             race,
             candidate,
             count,
-        } => {
-            know_two(*race, *candidate);
-            know_number(*count);
-        }
+        } => know_three(*race, *candidate, *count),
         Line::Row(opening) => know_row(opening),
         Line::Dispute { ballot, race, .. } => know_two(*ballot, *race),
     }

@@ -1,5 +1,5 @@
 //! The words of a line, read one after another.
-ghost use Rattle.std.specs.Prelude.{◌≡◌, ◌<◌, ◌∷◌, [], IfSome, MatchOption, Some, bytes_eq, length, slice_index, take};
+ghost use Rattle.std.specs.Prelude.{◌≡◌, ◌<◌, ◌∷◌, [], IfSome, MatchOption, Some, bytes_eq, codes, length, slice_index, take};
 ghost use Rattle.std.specs.Option.{option_map, option_copied};
 ghost use Rattle.sg_lines.specs.Words.{HasNoSpace, decimal_of, key_of, digest_of, code_of};
 ghost use Rattle.sg_forms.specs.Reading.{words_in, words_left, name_of, bits_of, first_by, whole};
@@ -81,6 +81,35 @@ pub(crate) fn is_word(word: &[u8], other: &[u8]) -> bool
     ensures { result ≡ bytes_eq word.now other.now }
 {
     word == other
+}
+
+/// The words behind a text's first word, where that is this one. Of the text no further byte is looked at.
+fn behind<'a>(word: &[u8], text: &'a [u8]) -> Option<Words<'a>>
+    requires { HasNoSpace word.now }
+    ensures { IfSome result (λ words. words_in text.now ≡ word.now ∷ words) }
+{
+    let (first, rest) = cut_at(text, word.len())?;
+    if is_word(first, word) {
+        Some(Words::new(rest))
+    } else {
+        None
+    }
+}
+
+/// The words behind `row-commit`, where that is a text's first word.
+#[tactic(auto, using(crate::proofs::Cutting::long_words))]
+pub(crate) fn behind_row_commit(text: &[u8]) -> Option<Words<'_>>
+    ensures { IfSome result (λ words. words_in text.now ≡ codes "row-commit" ∷ words) }
+{
+    behind(b"row-commit", text)
+}
+
+/// The words behind `code-commit`, where that is a text's first word.
+#[tactic(auto, using(crate::proofs::Cutting::long_words))]
+pub(crate) fn behind_code_commit(text: &[u8]) -> Option<Words<'_>>
+    ensures { IfSome result (λ words. words_in text.now ≡ codes "code-commit" ∷ words) }
+{
+    behind(b"code-commit", text)
 }
 
 /// The words of a line that are still to be read.

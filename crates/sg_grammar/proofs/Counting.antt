@@ -1,5 +1,5 @@
 -- Each line taken leaves fewer lines to come, and so a record has few lines.
-use Rattle.std.proofs.Common.{◌≡◌, ℕ, ◌+◌, ◌^◌, ◌<◌, ◌≤◌, ◌==◌, nat_lt, nat_le, true, ◌&&◌, not, inl, inr, List, [], ◌∷◌, length, Option, Some, None, refl, sym, subst, ap, arith}
+use Rattle.std.proofs.Common.{◌≡◌, ℕ, ◌+◌, ◌<◌, ◌≤◌, ◌==◌, nat_lt, nat_le, true, ◌&&◌, not, inl, inr, List, [], ◌∷◌, length, Option, Some, None, refl, sym, subst, ap, arith}
 use Rattle.std.proofs.lemmas.Bool.{and_parts, cases_eq, eq-eqb, leb-true, ltb-true, ne_eqb}
 use Rattle.std.proofs.lemmas.List.{length-append}
 use Rattle.std.proofs.lemmas.Option.{same_Some}
@@ -327,9 +327,6 @@ pub lines_left-most : lines_left start ≤ 1200000
 unfolding lines_left
 lines_left-most = omega arith
 
-pub lines_left-start : lines_left start < 2 ^ 32
-lines_left-start = omega (arith, lines_left-most)
-
 -- the same of a walk from the first line on
 pub start-length : (lines : List (List ℕ)) (w : Walked) → walk start lines ≡ Some w → length lines + lines_left w.next ≤ lines_left start
 start-length lines w e = walk-length start lines w made-start e
@@ -337,10 +334,6 @@ start-length lines w e = walk-length start lines w made-start e
 -- what holds of the plan in the making holds behind each walk
 pub start-made : (lines : List (List ℕ)) (w : Walked) → walk start lines ≡ Some w → IsMade w.next.plan w.next.head
 start-made lines w e = walk-made start lines w made-start e
-
--- a record has so few lines that their number is one of 32 bits
-pub few_lines : (lines : List (List ℕ)) (w : Walked) → walk start lines ≡ Some w → length lines < 2 ^ 32
-few_lines lines w e = omega (arith, start-length lines w e, lines_left-start)
 
 -- a record has at most 1,200,000 lines
 pub most_lines_stand : (lines : List (List ℕ)) (w : Walked) → walk start lines ≡ Some w → length lines ≤ 1200000

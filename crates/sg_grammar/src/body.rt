@@ -35,17 +35,17 @@ pub struct Standing {
 /// The line in the place of the one that is due.
 #[tactic(auto, using(crate::proofs::DueLines::standing))]
 #[inline(always)]
-fn stand_due(plan: &CountedPlan, slot: Slot, part: Part, line: &Line) -> Option<Standing>
+fn stand_due(plan: &CountedPlan, slot: &Slot, part: Part, line: &Line) -> Option<Standing>
     requires sized { HasSizes plan.now }
-    requires slot { IsIn plan.now slot }
+    requires slot { IsIn plan.now slot.now }
     requires part { IsPartIn plan.now part }
-    ensures stands { option_map (taken_at plan.now (said line.now)) result ≡ taking plan.now (rest_of plan.now slot) part (place slot (said line.now)) }
+    ensures stands { option_map (taken_at plan.now (said line.now)) result ≡ taking plan.now (rest_of plan.now slot.now) part (place slot.now (said line.now)) }
     ensures within { IfSome result (λ standing. IsStandingIn plan.now (said line.now) standing) }
 {
     match spot_in(slot, line) {
         Some(spot) => Some(Standing {
             spot,
-            slot: next_slot(plan, slot),
+            slot: next_slot(plan, *slot),
             part,
         }),
         None => None,
@@ -167,7 +167,7 @@ fn stand_after_block(plan: &CountedPlan, last: u32, line: &Line) -> Option<Stand
         Line::Spoiled(ballot) => stand_spoiled(plan, last, *ballot),
         Line::Audited(ballot) => stand_audited(plan, last, *ballot),
         Line::Voided(ballot) => stand_voided(plan, last, *ballot),
-        _ => stand_due(plan, first_result(plan), Part::Disputes { count: 0 }, line),
+        _ => stand_due(plan, &first_result(plan), Part::Disputes { count: 0 }, line),
     }
 }
 
@@ -341,14 +341,14 @@ fn stand_beginning(plan: &CountedPlan, part: Part, line: &Line) -> Option<Standi
 #[inline(always)]
 pub(crate) fn stand(
     plan: &CountedPlan,
-    slot: Option<Slot>,
+    slot: &Option<Slot>,
     part: Part,
     line: &Line,
 ) -> Option<Standing>
     requires sized { HasSizes plan.now }
-    requires slot { IsInSome plan.now slot }
+    requires slot { IsInSome plan.now slot.now }
     requires part { IsPartIn plan.now part }
-    ensures stands { option_map (taken_at plan.now (said line.now)) result ≡ body_line plan.now (due_of plan.now slot) part (said line.now) }
+    ensures stands { option_map (taken_at plan.now (said line.now)) result ≡ body_line plan.now (due_of plan.now slot.now) part (said line.now) }
     ensures within { IfSome result (λ standing. IsStandingIn plan.now (said line.now) standing) }
 {
     match slot {
@@ -366,7 +366,7 @@ fn stand_first(plan: &CountedPlan, line: &Line) -> Option<Standing>
 {
     match line {
         Line::Ballots { .. } => None,
-        _ => stand_due(plan, first_commit(plan), Part::Ballots { last: 0 }, line),
+        _ => stand_due(plan, &first_commit(plan), Part::Ballots { last: 0 }, line),
     }
 }
 
@@ -376,14 +376,14 @@ fn stand_first(plan: &CountedPlan, line: &Line) -> Option<Standing>
 pub(crate) fn stand_behind(
     plan: &CountedPlan,
     head: Head,
-    slot: Option<Slot>,
+    slot: &Option<Slot>,
     part: Part,
     line: &Line,
 ) -> Option<Standing>
     requires made { IsMade plan.now head }
-    requires slot { IsInSome plan.now slot }
+    requires slot { IsInSome plan.now slot.now }
     requires part { IsPartIn plan.now part }
-    ensures stands { head_line plan.now head (said line.now) ≡ None → option_map (taken_at plan.now (said line.now)) result ≡ take_at plan.now head (due_of plan.now slot) part (said line.now) }
+    ensures stands { head_line plan.now head (said line.now) ≡ None → option_map (taken_at plan.now (said line.now)) result ≡ take_at plan.now head (due_of plan.now slot.now) part (said line.now) }
     ensures within { IfSome result (λ standing. IsStandingIn plan.now (said line.now) standing) }
 {
     match head {

@@ -76,7 +76,7 @@ impl Expect {
         if may_stand_in_head(&self.plan, self.head, line) {
             return Some(Spot::Plan);
         }
-        match stand_behind(&self.plan, self.head, self.slot, self.part, line) {
+        match stand_behind(&self.plan, self.head, &self.slot, self.part, line) {
             Some(standing) => Some(standing.spot),
             None => None,
         }
@@ -119,13 +119,14 @@ impl Expect {
 
     /// Where a line that is none of the plan stands, and what may stand behind it: `None` exactly where it may not stand
     /// next.
+    #[inline(always)]
     pub fn stand(&self, line: &Line) -> Option<Standing>
         requires behind { head_line self.now.plan self.now.head (said line.now) ≡ None }
         ensures taken { option_map (taken_at self.now.plan (said line.now)) result ≡ take_line self.now (said line.now) }
         ensures within { IfSome result (λ standing. IsStandingIn self.now.plan (said line.now) standing) }
         ensures made { IsSome result → IsMade self.now.plan HeadIs.Whole }
     {
-        stand_behind(&self.plan, self.head, self.slot, self.part, line)
+        stand_behind(&self.plan, self.head, &self.slot, self.part, line)
     }
 
     /// Takes a line that stands there. It takes no memory.

@@ -15,6 +15,6 @@ mod state;
 pub use body::Standing;
 pub use expecting::Expect;
 pub use meaning::{Meaning, meaning_of};
-pub use reading::{Read, read_behind, read_line};
+pub use reading::read_line;
 pub use sg_forms::{CodeLine, Line, RowOpening};
 pub use state::{Block, Head, Part, Slot, Spot};

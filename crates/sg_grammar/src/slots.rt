@@ -410,6 +410,7 @@ fn after_seal(number: u32) -> Option<Slot>
 }
 
 /// The line that is due behind the one in this slot.
+#[inline(always)]
 pub(crate) fn next_slot(plan: &CountedPlan, slot: Slot) -> Option<Slot>
     requires sized { HasSizes plan.now }
     requires within { IsIn plan.now slot }

@@ -170,11 +170,12 @@ fn row_spot(race: u32, instance: u32, row: u32, line: &Line) -> Option<Spot>
 }
 
 /// The line in the place of the one that is due, where it may stand there.
-pub(crate) fn spot_in(slot: Slot, line: &Line) -> Option<Spot>
-    requires { HasFittingLine slot }
-    ensures { option_map (λ at. placed_at at (said line.now)) result ≡ place slot (said line.now) }
+#[inline(always)]
+pub(crate) fn spot_in(slot: &Slot, line: &Line) -> Option<Spot>
+    requires { HasFittingLine slot.now }
+    ensures { option_map (λ at. placed_at at (said line.now)) result ≡ place slot.now (said line.now) }
 {
-    match slot {
+    match *slot {
         Slot::CodeCommit { race, entry } => code_commit_spot(race, entry, line),
         Slot::RowCommit {
             race,

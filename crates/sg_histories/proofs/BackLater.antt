@@ -1,9 +1,7 @@
 -- Void rows, stages and claims are put behind the ballots of a history.
 use Rattle.std.proofs.Common.{◌≡◌, ℕ, ◌==◌, Bool, true, false, ◌||◌, not, List, [], ◌∷◌, length, None, refl, ap, sym, ◌∙◌, subst}
-use Rattle.std.specs.List.{list_all}
 use Rattle.std.specs.Ordering.{int_eq}
 use Rattle.std.specs.Prelude.{pos}
-use Rattle.std.proofs.lemmas.Bool.{and_parts}
 use Rattle.sg_plan.specs.declared.plan.Draw.{Draw}
 use Rattle.sg_plan.specs.declared.plan.Fate.{Fate}
 use Rattle.sg_plan.specs.declared.plan.Fate.TheVariants as fate
@@ -28,7 +26,7 @@ use Rattle.sg_histories.specs.Lawful.{IsAskable, Lawful}
 use Rattle.sg_histories.specs.ValidRows.{fits, is_stamp}
 use Rattle.sg_histories.specs.declared.kept.Claim.{Claim}
 use Rattle.sg_histories.proofs.Accepted.{voids}
-use Rattle.sg_histories.proofs.Back.{accepted, dones_differ, entry_for, nat_of, new_before, new_out, out_rises, row_back, voids_differ}
+use Rattle.sg_histories.proofs.Back.{accepted, dones_differ, entry_for, nat_of, new_before, new_out, row_back, voids_differ}
 use Rattle.sg_histories.proofs.BackBallots.{Voted}
 use Rattle.sg_histories.proofs.OutDones.{same_ints}
 use Rattle.sg_histories.proofs.OutVoids.{fate_else, void_act, void_of}
@@ -45,12 +43,6 @@ pub record VoidAct (setup : Setup) (history : List Entry) (row : VoidRow) (d : D
   pub cast : fate_of history ballot ≡ fate.Cast marks
   pub other : (nat_of d.station == scanner_of history ballot) ≡ false
   pub words : d.act ≡ void_of setup ballot
-
-abbrev pub VoidActs : Setup → List Entry → List VoidRow → List DoneRow → Type 0
-VoidActs setup history [] [] = Unit {0}
-VoidActs setup history [] (d ∷ ds) = ⊥
-VoidActs setup history (r ∷ rows) [] = ⊥
-VoidActs setup history (r ∷ rows) (d ∷ ds) = VoidAct setup history r d × VoidActs setup history rows ds
 
 abbrev pub void_number : VoidRow → ℕ
 void_number row = nat_of row.ballot
@@ -136,19 +128,6 @@ closing_start setup text base ballots dones old = record {
 abbrev pub put_on : List DoneRow → List DoneRow → List DoneRow
 put_on [] dones = dones
 put_on (d ∷ ds) dones = put done_before d (put_on ds dones)
-
-pub voids_back : (setup : Setup) (text : List ℕ) (base : List Entry) (ballots : List BallotRow) (dones : List DoneRow) → Voted setup text ballots dones base
-    → (voids : List VoidRow) (items : List DoneRow) → VoidActs setup base voids items
-    → Rises void_before voids → Rises done_before (put_on items dones) → list_all (is_stamp (length setup.secrets)) items ≡ true
-    → Closing setup text base ballots voids (put_on items dones) (unvoted voids items base)
-voids_back setup text base ballots dones old [] [] are up rise stamps = closing_start setup text base ballots dones old
-voids_back setup text base ballots dones old [] (d ∷ ds) are up rise stamps = absurd are
-voids_back setup text base ballots dones old (r ∷ voids) [] are up rise stamps = absurd are
-voids_back setup text base ballots dones old (r ∷ voids) (d ∷ ds) are up rise stamps =
-    let parts = and_parts (is_stamp (length setup.secrets) d) (list_all (is_stamp (length setup.secrets)) ds) stamps in
-    closing_more setup text base r d ballots voids (put_on ds dones) (unvoted voids ds base)
-    (voids_back setup text base ballots dones old voids ds are.1 up.1 (out_rises done_before d (put_on ds dones) rise) parts.1)
-    are.0 parts.0 up rise
 
 -- STAGES
 

@@ -98,10 +98,6 @@ fits_new setup history station (act.Void ballot) is r =
 
 -- TEXTS OF ROWS
 
--- two words, and others that are joined already
-pub join_two : (a b w : List ℕ) (ws : List (List ℕ)) → join_with_byte 32 (a ∷ b ∷ join_with_byte 32 (w ∷ ws) ∷ []) ≡ join_with_byte 32 (a ∷ b ∷ w ∷ ws)
-join_two a b w ws = refl
-
 some_long : (n : ℕ) → 1 ≤ n → (n == 0) ≡ false
 some_long n h = grind (arith, nat_tests, h)
 

@@ -91,15 +91,6 @@ behind version (act.Draw drawn) = draw_word drawn
 behind version (act.Claim ballot race code) = []
 behind version (act.Void ballot) = []
 
-plain_first : (done : Act) → list_all free (first_word done) ≡ true
-plain_first (act.Scan ballot marks) = refl
-plain_first (act.Spoil ballot) = refl
-plain_first (act.Audit ballot paper) = refl
-plain_first act.Close = refl
-plain_first (act.Draw drawn) = refl
-plain_first (act.Claim ballot race code) = refl
-plain_first (act.Void ballot) = refl
-
 -- an act whose text begins with this word
 first_is : (version : ℕ) (done : Act) (w r : List ℕ) → list_all free w ≡ true → act_text version done ≡ w ++ 32 ∷ r → first_word done ≡ w
 unfolding act_text

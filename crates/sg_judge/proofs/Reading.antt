@@ -1,10 +1,12 @@
 -- What holds of a line that was read, where it stands.
-use Rattle.std.proofs.Common.{◌≡◌, ℕ, ◌+◌, ◌≤◌, List, [], ◌∷◌, if◌then◌else◌, length, count_by, Some, refl, subst, ◌∙◌, arith}
+use Rattle.std.proofs.Common.{◌≡◌, ℕ, ◌+◌, ◌≤◌, List, [], ◌∷◌, if◌then◌else◌, length, count_by, Some, refl, sym, subst, ap, ◌∙◌, arith}
+use Rattle.std.specs.Option.{is_some}
 use Rattle.std.proofs.lemmas.List.{length-append}
 use Rattle.std.proofs.lemmas.List.Sums.{sum_by-cons}
 use Rattle.sg_grammar.specs.Lines.{placed_of}
 use Rattle.sg_check.specs.Verdict.{total_on}
 use Rattle.sg_commit.specs.declared.Sealer.{Sealer}
+use Rattle.sg_forms.specs.Reading.{line_of}
 use Rattle.sg_forms.specs.Said.{Said}
 use Rattle.sg_forms.specs.Said.Said.{Audited, Cast, Code, CodeCommit, Dispute, DrawFull, DrawPublic, Flags, Over, Paper, Places, Row, RowCommit, Seal, Spoiled, Total, Voided}
 use Rattle.sg_forms.specs.Spelling.{IsInRange}
@@ -14,12 +16,14 @@ use Rattle.sg_ledger.specs.declared.ledger.Ledger.{Ledger}
 use Rattle.sg_judge.proofs.Placing.{taken_there}
 use Rattle.sg_judge.specs.inside.Taking.{Stands}
 use Rattle.sg_grammar.proofs.Totals.{totals_few}
-use Rattle.sg_grammar.proofs.Walking.{take_bytes-read}
+use Rattle.sg_grammar.proofs.Walking.{read_next-line, take_bytes-read}
 use Rattle.sg_grammar.specs.Left.{is_total_line}
 use Rattle.sg_grammar.specs.Placed.{Placed}
 use Rattle.sg_grammar.specs.Placed.Placed.{TotalAt}
 use Rattle.sg_grammar.specs.Spots.{placed_at, placed_next}
-use Rattle.sg_grammar.specs.Walk.{Next, read_next}
+use Rattle.sg_grammar.specs.Standing.{taken_at}
+use Rattle.sg_grammar.specs.Walk.{Next, read_next, take_line}
+use Rattle.sg_grammar.specs.declared.body.Standing.{Standing}
 use Rattle.sg_grammar.specs.declared.state.Spot.{Spot}
 use Rattle.sg_grammar.specs.declared.state.Spot.TheVariants as spot
 
@@ -86,3 +90,10 @@ room_left expect sealer ledger lines bytes said placed stands read place =
     let few_here : count_by is_total_line (placed_of stands.posted) + (if is_total_line placed then 1 else 0) ≤ 512 =
     subst (λ (p : Placed). count_by is_total_line (placed_of stands.posted) + (if is_total_line p then 1 else 0) ≤ 512) there.2 few in
     omega (arith, few_here, totals_kept-tells expect.plan ledger (placed_of stands.posted) stands.kept, totals-count (placed_of stands.posted), total-count placed)
+
+-- WHERE IT STANDS
+
+-- bytes of a line that stands there are read as it
+pub read_there : (expect : Next) (bytes : List ℕ) (said : Said) (standing : Standing) → line_of expect.plan.version bytes ≡ Some said
+    → Some (taken_at expect.plan said standing) ≡ take_line expect said → read_next expect bytes ≡ Some said
+read_there expect bytes said standing spelled stands = read_next-line expect bytes said spelled (ap is_some (sym stands))

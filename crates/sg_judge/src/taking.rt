@@ -3,7 +3,9 @@ ghost use Rattle.std.specs.Prelude.{◌≡◌, ℕ, ◌+◌, ◌<◌, ◌≤◌,
 ghost use Rattle.sg_grammar.specs.Head.{is_behind};
 ghost use Rattle.sg_check.specs.Kinds.{first_bad};
 ghost use Rattle.sg_check.specs.Verdict.{total_on};
+ghost use Rattle.sg_forms.specs.Reading.{line_of};
 ghost use Rattle.sg_forms.specs.Said.{said};
+ghost use Rattle.sg_forms.specs.Spelling.{IsInRange};
 ghost use Rattle.sg_ledger.specs.Tells.{HasDigits, Tells, TellsSome, totals_kept};
 ghost use Rattle.sg_judge.specs.inside.Taking.{Advances, IsNoPlanLine, Stands, StandsSome, next_seal, or_seal};
 ghost use Rattle.sg_plan.specs.Limits.{fault_of};
@@ -14,7 +16,8 @@ ghost use Rattle.sg_grammar.specs.Spots.{IsPlacedIn, placed_at};
 use crate::seals::{is_bad_seal, note_seal};
 use sg_check::Kind;
 use sg_commit::{Digest, Sealer};
-use sg_grammar::{Expect, Line, Spot, read_behind};
+use sg_forms::read_form;
+use sg_grammar::{Expect, Line, Spot};
 use sg_ledger::Ledger;
 use sg_plan::Plan;
 
@@ -34,18 +37,43 @@ pub(crate) fn advance(
     ensures whole { result ≡ None → is_behind expect.new.head ≡ true }
     ensures falls { result ≡ None → lines_left expect.new < lines_left expect.old }
 {
-    let Some(read) = read_behind(expect, bytes) else {
+    let read = read_form(expect.plan().version, bytes);
+    match &read {
+        Some(line) => advance_line(expect, sealer, ledger, seal, bytes, line),
+        None => Some(Kind::Form),
+    }
+}
+
+/// The same of bytes that were read as this line.
+fn advance_line(
+    expect: &mut Expect,
+    sealer: &mut Sealer,
+    ledger: &mut Ledger,
+    seal: &mut Option<Digest>,
+    bytes: &[u8],
+    line: &Line,
+) -> Option<Kind>
+    requires stands { StandsSome expect.old sealer.old (Some ledger.old) }
+    requires behind { IsNoPlanLine expect.old bytes.now }
+    requires read { line_of expect.old.plan.version bytes.now ≡ Some (said line.now) }
+    requires range { IsInRange expect.old.plan.version (said line.now) }
+    ensures goes_on { (lines : List (List ℕ)) → Stands expect.old sealer.old (Some ledger.old) lines → Advances result expect.new sealer.new (Some ledger.new) lines bytes.now }
+    ensures seal { result ≡ None → seal.new ≡ or_seal seal.old (next_seal expect.old bytes.now) }
+    ensures whole { result ≡ None → is_behind expect.new.head ≡ true }
+    ensures falls { result ≡ None → lines_left expect.new < lines_left expect.old }
+{
+    let Some(standing) = expect.stand(line) else {
         return Some(Kind::Form);
     };
-    let at = read.standing.spot;
-    if is_bad_seal(sealer, at, &read.line) {
+    let at = standing.spot;
+    if is_bad_seal(sealer, at, line) {
         return Some(Kind::Seal);
     }
-    match judge_and_keep(ledger, expect.plan(), at, &read.line) {
+    match judge_and_keep(ledger, expect.plan(), at, line) {
         Some(kind) => Some(kind),
         None => {
-            note_seal(seal, at, &read.line);
-            expect.go_on(read.standing);
+            note_seal(seal, at, line);
+            expect.go_on(standing);
             sealer.add(bytes);
             None
         }

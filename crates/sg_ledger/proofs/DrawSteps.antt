@@ -1,19 +1,16 @@
 -- What is kept of the draw and of the last claim tells one more line, where it told the lines before.
-use Rattle.std.proofs.Common.{◌≡◌, ℕ, Bool, false, not, ◌&&◌, ◌||◌, List, [], ◌∷◌, ◌++◌, Option, Some, None, is_some, refl, sym, ap, ap₂, ◌∙◌}
+use Rattle.std.proofs.Common.{◌≡◌, ℕ, Bool, false, List, [], ◌∷◌, ◌++◌, Option, Some, None, is_some, refl, sym, ap, ◌∙◌}
 use Rattle.std.specs.Option.{option_map, option_map_or, option_or}
-use Rattle.sg_check.specs.Facts.{Claim, draws_digits, draws_full, first_given, is_both, is_full_draw, last_claim, public_bytes, shows_disputed}
-use Rattle.sg_check.specs.Kinds.{bad_side, is_on_side}
+use Rattle.sg_check.specs.Facts.{Claim, draws_digits, draws_full, first_given, is_full_draw, last_claim, public_bytes, shows_disputed}
 use Rattle.sg_forms.specs.Reading.{public_bytes as bytes_of_digits}
-use Rattle.sg_forms.specs.declared.line.RowOpening.{RowOpening}
 use Rattle.sg_ledger.proofs.Lists.{any-push, any-skip, given-push, given-skip, or-true}
 use Rattle.sg_ledger.specs.inside.Steps.{claim_after, coins_after, full_after, with_shown}
 use Rattle.sg_ledger.specs.Tells.{kept_of}
 use Rattle.sg_ledger.specs.declared.claims.Claimed.{Claimed}
 use Rattle.sg_plan.specs.declared.plan.ClaimWord.{ClaimWord}
-use Rattle.sg_plan.specs.declared.plan.Plan.{Plan}
-use Rattle.sg_streams.specs.CoinSides.{coin_of, coin_seed}
+use Rattle.sg_streams.specs.CoinSides.{coin_seed}
 use Rattle.sg_grammar.specs.Placed.{Placed}
-use Rattle.sg_grammar.specs.Placed.Placed.{CodeAt, DrawnFull, DrawnPublic, RowAt, Disputed}
+use Rattle.sg_grammar.specs.Placed.Placed.{CodeAt, DrawnFull, DrawnPublic, Disputed}
 
 -- THE DRAW
 
@@ -33,18 +30,6 @@ coins_step coins lines (DrawnPublic digits) told =
     ∙ (seed_or (first_given draws_digits lines) digits
     ∙ ap (λ (o : Option (List ℕ)). option_map coin_seed (option_map bytes_of_digits o)) (sym (given-push draws_digits lines (DrawnPublic digits))))
 coins_step coins lines line told = told ∙ ap (λ (o : Option (List ℕ)). option_map coin_seed (option_map bytes_of_digits o)) (sym (given-skip draws_digits lines line refl))
-
-seed_test : (public : Option (List ℕ)) (test : List ℕ → Bool) → option_map_or test (option_map coin_seed public) false ≡ option_map_or (λ (bytes : List ℕ). test (coin_seed bytes)) public false
-seed_test None test = refl
-seed_test (Some bytes) test = refl
-
--- a row's side is bad, as is kept of the draw
-pub side_judged : (plan : Plan) (full : Bool) (coins : Option (List ℕ)) (lines : List Placed) (race instance number : ℕ) (opening : RowOpening)
-    → full ≡ is_full_draw lines → coins ≡ option_map coin_seed (public_bytes lines)
-    → ((full && not (is_both opening)) || option_map_or (λ (seed : List ℕ). not (is_on_side (coin_of seed race instance number) opening)) coins false) ≡ bad_side plan lines (RowAt race instance number opening)
-side_judged plan full coins lines race instance number opening full_is coins_are =
-    ap₂ (λ (f : Bool) (c : Option (List ℕ)). (f && not (is_both opening)) || option_map_or (λ (seed : List ℕ). not (is_on_side (coin_of seed race instance number) opening)) c false) full_is coins_are
-    ∙ ap (λ (b : Bool). (is_full_draw lines && not (is_both opening)) || b) (seed_test (public_bytes lines) (λ seed. not (is_on_side (coin_of seed race instance number) opening)))
 
 pub public_judged : (coins : Option (List ℕ)) (public : Option (List ℕ)) → coins ≡ option_map coin_seed public → is_some coins ≡ is_some public
 public_judged coins None are = ap (λ (c : Option (List ℕ)). is_some c) are

@@ -1,5 +1,5 @@
 -- A ledger that tells lines tells one more; and what it judges.
-use Rattle.std.proofs.Common.{◌≡◌, ℕ, ◌<◌, nat_lt, if◌then◌else◌, Bool, true, false, List, [], ◌∷◌, ◌++◌, append-nil, length, get_or, set, min, ◌+◌, Option, Some, None, refl, sym, ap, ◌∙◌, arith, length-set}
+use Rattle.std.proofs.Common.{◌≡◌, ℕ, ◌<◌, nat_lt, if◌then◌else◌, Bool, true, false, List, [], ◌∷◌, ◌++◌, length, get_or, set, min, ◌+◌, Option, Some, None, refl, sym, ap, ◌∙◌, arith, length-set}
 use Rattle.sg_grammar.specs.Lines.{is_audit, is_cast}
 use Rattle.sg_check.specs.Facts.{is_both, left_of, right_of}
 use Rattle.sg_check.specs.Kinds.{first_bad}
@@ -17,7 +17,6 @@ use Rattle.sg_ledger.proofs.KeptSteps.{codes_step, known_step, lefts_step, marke
 use Rattle.sg_ledger.proofs.Lists.{placed-push, totals-push}
 use Rattle.sg_ledger.proofs.PathSteps.{are_small, paths_step}
 use Rattle.sg_ledger.proofs.Places.{length-first}
-use Rattle.sg_grammar.specs.Meaning.{IsQuiet}
 use Rattle.sg_ledger.specs.inside.Steps.{audit_counts_after, audited_after, both_counts_after, papers_after, codes_after, flagged_after, known_after, ledger_after, lefts_after, marked_after, marks_after, paths_after, places_after, rights_after, seen_after, seen_lefts_after, seen_rights_after, votes_after}
 use Rattle.sg_ledger.specs.inside.Tables.{most_marks, with_one_more}
 use Rattle.sg_ledger.specs.Tells.{IsSized, Tells, candidate_place, instance_place, totals_kept, totals_placed}
@@ -27,7 +26,7 @@ use Rattle.sg_plan.specs.Ballots.{candidates_of, entries_of, entry_at, entry_pla
 use Rattle.sg_plan.specs.Limits.{fault_of}
 use Rattle.sg_plan.specs.declared.plan.Plan.{Plan}
 use Rattle.sg_grammar.specs.Placed.{Placed}
-use Rattle.sg_grammar.specs.Placed.Placed.{OfPlan, CodeCommitAt, RowCommitAt, Begun, CodeAt, PaperAt, FlagsAt, PlacesAt, RowAt}
+use Rattle.sg_grammar.specs.Placed.Placed.{OfPlan, CodeCommitAt, RowCommitAt, CodeAt, PaperAt, FlagsAt, PlacesAt, RowAt}
 use Rattle.sg_grammar.specs.Spots.{IsPlacedIn}
 
 -- THE TABLES KEEP THEIR LENGTHS
@@ -178,21 +177,6 @@ tells_after plan ledger lines line good placed tells fine =
 -- the ledger has the totals of the lines that it tells
 pub totals_kept-tells : (plan : Plan) (ledger : Ledger) (lines : List Placed) → Tells plan ledger lines → totals_kept ledger ≡ length (totals_placed lines)
 totals_kept-tells plan ledger lines tells = ap length tells.totals
-
--- QUIET LINES
-
-pub quiet_fine : (plan : Plan) (lines : List Placed) (line : Placed) → IsQuiet line → first_bad plan lines line ≡ None
-quiet_fine plan lines (OfPlan said) quiet = refl
-quiet_fine plan lines (Begun ballot) quiet = refl
-quiet_fine plan lines line quiet = absurd quiet
-
-no_totals : (ledger : Ledger) → record ledger { totals = ledger.totals ++ [] } ≡ ledger
-no_totals ledger = ap (λ (totals : List Total). record ledger { totals = totals }) (append-nil ledger.totals)
-
-pub quiet_after : (plan : Plan) (ledger : Ledger) (line : Placed) → IsQuiet line → ledger_after plan ledger line ≡ ledger
-quiet_after plan ledger (OfPlan said) quiet = no_totals ledger
-quiet_after plan ledger (Begun ballot) quiet = no_totals ledger
-quiet_after plan ledger line quiet = absurd quiet
 
 -- a line of the plan is never bad
 pub of_plan-fine : (plan : Plan) (lines : List Placed) (said : Said) → first_bad plan lines (OfPlan said) ≡ None

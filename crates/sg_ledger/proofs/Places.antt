@@ -1,13 +1,12 @@
 -- One place of a flat table is written: what stands at the places of all coordinates then.
-use Rattle.std.proofs.Common.{◌≡◌, ◌≢◌, ℕ, ◌+◌, ◌-◌, ◌*◌, ◌/◌, ◌%◌, ◌<◌, ◌≤◌, ◌==◌, inl, inr, if◌then◌else◌, Bool, true, false, ◌&&◌, List, length, get_or, set, Option, Some, None, is_some, refl, sym, ap, ◌∙◌, mul-add, arith, length-set, get_or-set_same, get_or-set_other, eqb-true, eq-eqb, lt-ltb}
+use Rattle.std.proofs.Common.{◌≡◌, ◌≢◌, ℕ, ◌+◌, ◌-◌, ◌*◌, ◌/◌, ◌%◌, ◌<◌, ◌≤◌, ◌==◌, inl, inr, if◌then◌else◌, Bool, true, false, ◌&&◌, List, length, get_or, set, Option, Some, None, is_some, refl, sym, ap, ◌∙◌, mul-add, arith, length-set, get_or-set_same, get_or-set_other, eqb-true, eq-eqb}
 use Rattle.std.proofs.lemmas.Bool.{and_from, and_parts, both_ways, cases_Bool}
 use Rattle.std.proofs.lemmas.Nat.{div-add-mod', div_below, mul-add-lt, mul-le}
-use Rattle.std.proofs.lemmas.Option.{same_Some}
 use Rattle.std.specs.Option.{option_or}
 use Rattle.sg_ledger.proofs.Lists.{option_or-none}
 use Rattle.sg_ledger.specs.inside.Tables.{with_first}
 use Rattle.sg_plan.proofs.PlanLaws.{entries_before-more, entry_place-one, entry_tells, row_place-one, rows_are_one}
-use Rattle.sg_plan.specs.Ballots.{all_entries, ballot_has, candidates_of, entries_before, entries_of, entry_at, entry_in, entry_place, r_rows, row_place, rows_of}
+use Rattle.sg_plan.specs.Ballots.{all_entries, ballot_has, candidates_of, entries_before, entries_of, entry_at, entry_place, r_rows, row_place, rows_of}
 use Rattle.sg_plan.specs.declared.plan.Plan.{Plan}
 
 -- THE TABLE
@@ -122,14 +121,6 @@ pub ballot_within : (plan : Plan) (race ballot column : ℕ) → ballot_has plan
 ballot_within plan race ballot column has below =
     let last = (entry_tells plan race ballot (candidates_of plan race - 1) has (omega arith)).below in
     omega (arith, last, below)
-
--- the entry that is found in a column is so many behind the ballot's first
-pub entry_found : (plan : Plan) (race ballot column entry : ℕ) → ballot_has plan ballot race ≡ true → column < candidates_of plan race → Some entry ≡ entry_in plan race ballot column
-    → entry ≡ entry_at plan race ballot 0 + column
-entry_found plan race ballot column entry has below found =
-    let found' : Some entry ≡ Some (entry_at plan race ballot column) = rw (has, lt-ltb column (candidates_of plan race) below) at found in
-    let is = same_Some entry (entry_at plan race ballot column) found' in
-    omega (arith, is)
 
 -- the columns of an entry's ballot are entries of the race
 pub column_below : (rows n entry column : ℕ) → entry < rows * n → column < n → entry / n * n + column < rows * n

@@ -1,7 +1,7 @@
 -- What is looked up in the tables of codes and of print audits judges a row, an answer and a race that is over as the
 -- lines before do.
 use Rattle.std.proofs.Common.{◌≡◌, ℕ, ◌+◌, ◌/◌, ◌%◌, ◌<◌, ◌≤◌, ◌==◌, nat_lt, min, inl, inr, if◌then◌else◌, Bool, true, false, not, ◌&&◌, ◌||◌, List, [], ◌∷◌, length, get_or, take, Option, Some, None, is_some, count_by, refl, sym, ap, ap₂, ◌∙◌, arith, eqb-true, eq-eqb, ne_eqb, ltb-true, lt-ltb, le-ltb}
-use Rattle.std.proofs.lemmas.Bool.{and_from, and_parts, and_right, both_ways, cases_Bool, cases_eq, cases_lt, false_from_ne_true, false≢true}
+use Rattle.std.proofs.lemmas.Bool.{and_from, and_parts, both_ways, cases_Bool, cases_eq, cases_lt, false_from_ne_true, false≢true}
 use Rattle.std.proofs.lemmas.List.{length-take, take_all}
 use Rattle.std.proofs.lemmas.List.Sums.{sum_by-cons}
 use Rattle.std.proofs.lemmas.Nat.{div-mul-add, mod-mul-add, mod_below}
@@ -197,12 +197,6 @@ answer_judged plan lines block ballot race column code (Some claim) kept marked 
     rw (is, eq-eqb (column + 1) (candidates_of plan race) last, claim_is)
     (wrong_is ∙ (ap (λ (b : Bool). not (is_right kept.answer b (kept.shown || code.code == kept.code))) marked_is
     ∙ ap (λ (k : Claimed). not (is_right k.answer (list_any (marks_code ballot race k.code) lines) (k.shown || code.code == k.code))) same))
-
--- no claim was made
-pub no_answer : (plan : Plan) (lines : List Placed) (block : Block) (ballot race column : ℕ) (code : CodeLine) (claim : Option Claim) → last_claim lines ≡ claim → None ≡ option_map kept_of claim
-    → false ≡ bad_dispute plan lines (CodeAt block ballot race column code)
-no_answer plan lines block ballot race column code None claim_is none = rw claim_is (sym (and_right (is_dispute block && column + 1 == candidates_of plan race) false refl))
-no_answer plan lines block ballot race column code (Some claim) claim_is none = absurd (cc)
 
 -- what a line that marks a code of a ballot says
 record MarksColumn (plan : Plan) (ballot race code : ℕ) (line : Placed) : Type 0 where

@@ -74,14 +74,7 @@ full_more plan completion race instance row before full = λ earlier less. elim 
   | inr other ↦ before earlier (omega (arith, less, other))
 ]
 
--- a row is lacking where one of its halves is
-pub lacking_left : (plan : Plan) (completion : Completion) (race instance row : ℕ) → is_half_lacking plan completion side.Left race instance row ≡ true → is_lacking plan completion race instance row ≡ true
-lacking_left plan completion race instance row lacks = ap (λ (b : Bool). b || is_half_lacking plan completion side.Right race instance row) lacks
-
-pub lacking_right : (plan : Plan) (completion : Completion) (race instance row : ℕ) → is_half_lacking plan completion side.Left race instance row ≡ false
-    → is_half_lacking plan completion side.Right race instance row ≡ true → is_lacking plan completion race instance row ≡ true
-lacking_right plan completion race instance row whole lacks = ap (λ (b : Bool). b || is_half_lacking plan completion side.Right race instance row) whole ∙ lacks
-
+-- a row is not lacking where none of its halves is
 pub none_lacking : (plan : Plan) (completion : Completion) (race instance row : ℕ) → is_half_lacking plan completion side.Left race instance row ≡ false
     → is_half_lacking plan completion side.Right race instance row ≡ false → is_lacking plan completion race instance row ≡ false
 none_lacking plan completion race instance row left right = ap (λ (b : Bool). b || is_half_lacking plan completion side.Right race instance row) left ∙ right

@@ -13,7 +13,6 @@ pub mod Lacks
 pub mod Leading
 pub mod Leads
 pub mod LedLaw
-pub mod Literal
 pub mod OddsLaw
 pub mod Powers
 pub mod Rows

@@ -276,14 +276,6 @@ row_out done rows apart = by_place (stands done rows)
         ∙ without_put done s.row (gathered (s.front ++ s.rest)) s.has_key (new_gathered s.row (s.front ++ s.rest) ∙ new)))
     by_place (inr new) = ap gathered (without_none done rows new) ∙ sym (without_none done (gathered rows) (new_gathered done rows ∙ new))
 
-any_both : (test : DoneRow → Bool) (front rest : List DoneRow) → list_any test (front ++ rest) ≡ (list_any test front || list_any test rest)
-any_both test [] rest = refl
-any_both test (x ∷ xs) rest = ap (λ b. test x || b) (any_both test xs rest) ∙ grouped (test x) (list_any test xs) (list_any test rest)
-  where
-    grouped : (a b c : Bool) → (a || (b || c)) ≡ ((a || b) || c)
-    grouped true b c = refl
-    grouped false b c = refl
-
 -- a key that is new among rows is new among the last of them
 pub new_behind : (done : DoneRow) (front rest : List DoneRow) → is_new done_is done (front ++ rest) ≡ true → is_new done_is done rest ≡ true
 new_behind done [] rest new = new

@@ -7,7 +7,6 @@ use Rattle.sg_plan.specs.declared.plan.Fate.TheVariants as fate
 use Rattle.sg_keeper.specs.Rows.{IsNewChange, done_is, is_new, with_change}
 use Rattle.sg_acts.specs.declared.asks.Act.{Act}
 use Rattle.sg_acts.specs.declared.asks.Act.TheVariants as act
-use Rattle.sg_acts.specs.declared.asks.Ask.{Ask}
 use Rattle.sg_acts.specs.declared.asks.Ask.TheVariants as ask
 use Rattle.sg_acts.specs.declared.asks.Look.{Look}
 use Rattle.sg_acts.specs.declared.asks.Stamp.{Stamp}
@@ -26,7 +25,7 @@ use Rattle.sg_histories.specs.Answers.{accepts, answer_of, body_of, body_with, e
 use Rattle.sg_histories.specs.Histories.{Entry, claims_of, fate_of, fate_word, phase_of, phase_word, scanner_of}
 use Rattle.sg_histories.specs.KeptRows.{change_of, done_row, rows_of}
 use Rattle.sg_histories.specs.Lawful.{IsAccepted, IsAskable}
-use Rattle.sg_histories.specs.Lawful.Turn.{Answered, NoMemory, NotStored}
+use Rattle.sg_histories.specs.Lawful.Turn.{Answered}
 use Rattle.sg_office.specs.inside.Now.{fate_at, scanner_at}
 use Rattle.sg_office.specs.inside.Ready.{Allows, FitsPart, IsReady, act_change, part_of, with_part}
 use Rattle.sg_histories.specs.declared.kept.Kept.{Kept}
@@ -38,28 +37,7 @@ use Rattle.sg_office.proofs.NewKeys.{new_change}
 use Rattle.sg_office.proofs.NowTold.{body_told, look_told, scanner_told}
 use Rattle.sg_office.proofs.Stands.{goes_on, kept_after, scan_else, scan_here, tells_one, told_else, told_here, told_slot}
 
--- a refusal, or want of memory, or a keeper that failed, changes nothing
-pub stay_memory : (kept : Kept) (tells : Type 0) (rows after : Rows) (asked : Ask) (history : List Entry) → StandsFor kept history → (tells → after ≡ rows)
-    → Turned kept kept tells rows after asked reply.Memory history
-stay_memory kept tells rows after asked history stands same = record {
-  next = history;
-  turn = NoMemory refl refl;
-  setup = refl;
-  stands = stands;
-  kept = λ t text e. same t ∙ e;
-}
-
-pub stay_store : (kept : Kept) (tells : Type 0) (rows after : Rows) (stamp : Stamp) (done : Act) (history : List Entry) → StandsFor kept history → (tells → after ≡ rows)
-    → accepts kept.setup history stamp done ≡ true
-    → Turned kept kept tells rows after (ask.Do stamp done) reply.Store history
-stay_store kept tells rows after stamp done history stands same accepted = record {
-  next = history;
-  turn = NotStored refl refl accepted;
-  setup = refl;
-  stands = stands;
-  kept = λ t text e. same t ∙ e;
-}
-
+-- a refusal changes nothing
 pub stay_early : (kept : Kept) (tells : Type 0) (rows after : Rows) (stamp : Stamp) (done : Act) (answer : Reply) (history : List Entry) → StandsFor kept history → (tells → after ≡ rows)
     → Some answer ≡ early_reply kept.setup history stamp done
     → Turned kept kept tells rows after (ask.Do stamp done) answer history

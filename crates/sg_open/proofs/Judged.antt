@@ -1,6 +1,6 @@
 -- What the readers of tables say, as the setup's own, and what rows open to by it.
 use Rattle.std.proofs.Common.{◌≡◌, ℕ, Bool, true, List, [], ◌++◌, length, map, Option, Some, None, ap, sym, ◌∙◌, subst}
-use Rattle.std.proofs.Common.{Ok, Err, IsErrAnd}
+use Rattle.std.proofs.Common.{Ok, Err}
 use Rattle.std.specs.Prelude.{ℤ, Result, OnOk, IfErr}
 use Rattle.std.specs.List.{filter_map, list_all}
 use Rattle.std.specs.Str.{is_utf8}
@@ -13,14 +13,12 @@ use Rattle.sg_keeper.specs.SetupReading.{setup_in}
 use Rattle.sg_keeper.specs.declared.rows.Rows.{Rows}
 use Rattle.sg_keeper.specs.declared.setup.Setup.{Setup}
 use Rattle.sg_histories.specs.ValidRows.{Damaged, Empty, Whole, at_table, ballot_keeps, claim_keeps, claim_text, damage_of, done_fault, is_drawn_in, opening, opening_of, opens_as, opens_from, opens_with, stage_keeps, stage_text, station_of, void_text}
-use Rattle.sg_histories.specs.declared.kept.Kept.{Kept}
 use Rattle.sg_histories.specs.declared.kept.Slot.{Slot}
 use Rattle.sg_open.specs.Opened.{IsFault}
 use Rattle.sg_open.specs.declared.ballots.Found.{Found}
 use Rattle.sg_open.specs.declared.fault.OpenFault.{OpenFault}
 use Rattle.sg_open.specs.declared.fault.OpenFault.TheVariants as fault
-use Rattle.sg_open.specs.inside.Finding.{IsDamage, IsJudged, IsRead, KeepsRows, found_after, nothing_found, stage_told, void_passes, voided_after}
-use Rattle.sg_open.specs.inside.Telling.{row_claim}
+use Rattle.sg_open.specs.inside.Finding.{IsDamage, IsJudged, IsRead, found_after, nothing_found, void_passes, voided_after}
 use Rattle.sg_open.proofs.FirstDamage.{bad_dones, bad_stages, bad_voids, gathered, of_ballots, of_claims, of_dones, of_none, of_stages, of_voids, voided}
 use Rattle.sg_open.proofs.Standing.{found_long, replicate_long, scanners_long}
 
@@ -33,11 +31,6 @@ both_ok (Err e) f p q = tt
 pub err_on : {T E : Type 0} (P Q : E → Type 0) (r : Result T E) → ((e : E) → P e → Q e) → IfErr r P → IfErr r Q
 err_on P Q (Ok x) f p = tt
 err_on P Q (Err e) f p = f e p
-
--- the refusal that a step hands on
-pub passed_on : {T E : Type 0} (r : Result T E) (e : E) (P : E → Type 0) → IsErrAnd r (λ x. x ≡ e) → P e → IfErr r P
-passed_on (Ok x) e P is p = tt
-passed_on (Err x) e P is p = subst P (sym is) p
 
 -- READING
 
@@ -130,12 +123,6 @@ is_judged setup rows stations found many slots read long firsts dones voids is =
   slots = is ∙ (ap (λ (s : List (Option ℤ)). voided_after setup.plan.version stations s found.slots rows.voids) read.scanners
       ∙ ap (λ (s : List Slot). voided_after setup.plan.version stations (found_after setup.plan stations (nothing_found setup.plan) rows.ballots).scanners s rows.voids) read.slots);
 }
-
-pub keeps_rows : (kept : Kept) (rows : Rows) (stations : List ℕ → Option ℤ) → ((text : List ℕ) → is_utf8 text ≡ true → stations text ≡ station_of text rows.dones)
-    → IsJudged kept.setup rows stations kept.slots → kept.stage ≡ stage_told kept.setup.plan.version rows.stages
-    → kept.claims ≡ filter_map (row_claim kept.setup.plan) rows.claims → kept.dones ≡ rows.dones → KeepsRows kept rows
-keeps_rows kept rows stations firsts judged stage claims dones =
-    record { stations = stations; first = firsts; slots = judged.slots; voids = judged.voids; stage = stage; claims = claims; dones = dones }
 
 -- OPENING
 

@@ -1,14 +1,11 @@
 -- Loops that look for the first bad row.
-use Rattle.std.proofs.Common.{◌≡◌, ℕ, ◌+◌, ◌<◌, ◌≤◌, Bool, true, false, cond, List, [], ◌∷◌, ◌++◌, length, take, drop, Option, Some, None, refl, ap, sym, ◌∙◌, arith}
+use Rattle.std.proofs.Common.{◌≡◌, ℕ, ◌+◌, ◌<◌, Bool, true, false, cond, List, [], ◌∷◌, ◌++◌, length, take, drop, Option, Some, refl, ap, sym, ◌∙◌, arith}
 use Rattle.std.proofs.lemmas.Grind.{common_steps}
 use Rattle.sg_plan.specs.Limits.{first_bad}
 use Rattle.sg_histories.specs.ValidRows.{at_table, first_damage}
 use Rattle.sg_open.specs.declared.fault.OpenFault.{OpenFault}
 use Rattle.sg_open.specs.declared.fault.OpenFault.TheVariants as fault
 use Rattle.sg_open.specs.inside.Finding.{IsDamage}
-
-pub bad_start : {A : Type 0} (keeps : List A → A → Bool) (rows : List A) → first_bad keeps (take 0 rows) (drop 0 rows) ≡ first_bad keeps [] rows
-bad_start keeps rows = grind (arith, common_steps)
 
 -- a good row, and then on
 pub bad_on : {A : Type 0} (keeps : List A → A → Bool) (rows : List A) (at : ℕ) (row : A)
@@ -31,13 +28,6 @@ bad_here keeps rows at row inv within rest bad =
     let many : length (take at rows) ≡ at = grind (arith, common_steps) in
     sym inv ∙ (ap (first_bad keeps (take at rows)) rest ∙ (step ∙ ap (λ n. Some n) many))
 
--- no bad row
-pub bad_none : {A : Type 0} (keeps : List A → A → Bool) (rows : List A) (at : ℕ)
-    → first_bad keeps (take at rows) (drop at rows) ≡ first_bad keeps [] rows → length rows ≤ at → first_bad keeps [] rows ≡ None
-bad_none keeps rows at inv past =
-    let none : drop at rows ≡ [] = grind (arith, common_steps, past) in
-    sym inv ∙ ap (first_bad keeps (take at rows)) none
-
 -- the refusal of a bad row
 pub damage_here : (table at : ℕ) (found : Option ℕ) (told : OpenFault) → found ≡ Some at → told ≡ fault.Damaged table (at + 1) → IsDamage told (at_table table found)
 damage_here table at found told f t = rw (f, t) refl
@@ -47,5 +37,3 @@ pub damage_first : (told : OpenFault) (damage : Option (ℕ × ℕ)) (others : L
 damage_first fault.Empty damage others d = absurd d
 damage_first (fault.Damaged table row) damage others d = ap (λ o. first_damage (o ∷ others)) d
 damage_first fault.NoMemory damage others d = tt
-
-pub ruleset stepping = (bad_start, bad_on, bad_here, bad_none, damage_here)

@@ -1,5 +1,5 @@
 -- A row passes its test exactly where it tells something, and what it tells has the text that it should.
-use Rattle.std.proofs.Common.{◌≡◌, ℕ, ◌+◌, ◌<◌, ◌≤◌, ◌==◌, nat_lt, Bool, true, false, ◌&&◌, cond, List, [], ◌∷◌, length, get_or, Option, Some, None, refl, ap, sym, ◌∙◌, inl, inr, arith, subst}
+use Rattle.std.proofs.Common.{◌≡◌, ℕ, ◌<◌, ◌≤◌, ◌==◌, nat_lt, Bool, true, false, ◌&&◌, cond, List, [], ◌∷◌, length, get_or, Option, Some, None, refl, ap, sym, ◌∙◌, inl, inr, arith, subst}
 use Rattle.std.specs.Prelude.{◌⊎◌, ℤ, pos, negsuc, codes, is_some}
 use Rattle.std.proofs.lemmas.Int.{ints}
 use Rattle.std.specs.List.{join_with_byte}
@@ -21,13 +21,12 @@ use Rattle.sg_keeper.specs.Rows.{IsAscii, ballot_before}
 use Rattle.sg_acts.specs.declared.asks.Act.{Act}
 use Rattle.sg_acts.specs.declared.asks.Act.TheVariants as act
 use Rattle.sg_keeper.specs.declared.rows.BallotRow.{BallotRow}
-use Rattle.sg_keeper.specs.declared.rows.ClaimRow.{ClaimRow}
 use Rattle.sg_keeper.specs.declared.rows.StageRow.{StageRow}
 use Rattle.sg_histories.specs.Answers.{is_ballot}
-use Rattle.sg_histories.specs.ValidRows.{ballot_keeps, ballot_text, ballot_words, claim_act, claim_keeps, climbs, fits, natural, row_fits, stage_text, tells_fit}
+use Rattle.sg_histories.specs.ValidRows.{ballot_keeps, ballot_text, ballot_words, climbs, fits, natural, row_fits, stage_text, tells_fit}
 use Rattle.sg_open.specs.declared.ballots.BallotTold.{BallotTold}
 use Rattle.sg_open.specs.declared.stages.DrawTold.{DrawTold}
-use Rattle.sg_open.specs.inside.Telling.{act_claim, act_draw, act_fate, ballot_number, ballot_told, claim_told, draw_line, draw_told, row_claim, text_drawn, text_told}
+use Rattle.sg_open.specs.inside.Telling.{act_draw, act_fate, ballot_number, ballot_told, draw_line, draw_told, text_drawn, text_told}
 use Rattle.sg_open.proofs.Agreeing.{audit_agrees, scan_agrees, spoil_agrees}
 use Rattle.sg_desks.proofs.ActsAscii.{texts_are_ascii}
 use Rattle.sg_desks.proofs.ActsFound.{acts_are_spelled}
@@ -209,16 +208,11 @@ told_utf8 plan row told e =
 pub ballot_good : (plan : Plan) (earlier : List BallotRow) (row : BallotRow) (told : BallotTold) → climbs ballot_before earlier row ≡ true → ballot_told plan row ≡ Some told → ballot_keeps plan (act_in plan.version) earlier row ≡ true
 ballot_good plan earlier row told up e = let fit : row_fits plan (act_in plan.version) row ≡ true = sym (row_tells plan row) ∙ ap is_some e in rw (up, fit) refl
 
-pub ballot_low : (plan : Plan) (earlier : List BallotRow) (row : BallotRow) → climbs ballot_before earlier row ≡ false → ballot_keeps plan (act_in plan.version) earlier row ≡ false
-ballot_low plan earlier row up = rw up refl
-
 pub ballot_bad : (plan : Plan) (earlier : List BallotRow) (row : BallotRow) → climbs ballot_before earlier row ≡ true → ballot_told plan row ≡ None → ballot_keeps plan (act_in plan.version) earlier row ≡ false
 ballot_bad plan earlier row up e = let fit : row_fits plan (act_in plan.version) row ≡ false = sym (row_tells plan row) ∙ ap is_some e in rw (up, fit) refl
 
 pub told_within : (plan : Plan) (row : BallotRow) (told : BallotTold) → ballot_told plan row ≡ Some told → (1 ≤ told.ballot) × (told.ballot ≤ ballots_of plan)
 told_within plan row told e = let k : is_ballot plan told.ballot ≡ true = (told_is plan row told e).known in (grind (arith, nat_tests, k), grind (arith, nat_tests, k))
-
-pub ruleset ballot_rules = (ballot_good, ballot_low, ballot_bad, told_utf8, told_within)
 
 -- STAGES
 
@@ -288,31 +282,3 @@ draw_utf8 version row told e =
     let tells = draw_is version row told e in
     let spelled = acts_are_spelled version told.text tells.done tells.read in
     ap is_utf8 spelled.1 ∙ act_utf8 version tells.done spelled.0
-
--- CLAIMS
-
--- the claim of a row is that of its act
-claim_some : (plan : Plan) (row : ClaimRow) → is_some (row_claim plan row) ≡ option_map_or (fits plan) (claim_act row) false
-claim_some plan row = by_ballot (natural row.ballot)
-  where
-    by_code : (ballot race : ℕ) (code : Option ℕ) → is_some (option_and_then (act_claim plan) (option_map (act.Claim ballot race) code)) ≡ option_map_or (fits plan) (option_map (act.Claim ballot race) code) false
-    by_code ballot race None = refl
-    by_code ballot race (Some code) = some_if _ _
-
-    by_race : (ballot : ℕ) (race : Option ℕ) → is_some (option_and_then (act_claim plan) (option_and_then (λ r. option_map (act.Claim ballot r) (natural row.code)) race)) ≡ option_map_or (fits plan) (option_and_then (λ r. option_map (act.Claim ballot r) (natural row.code)) race) false
-    by_race ballot None = refl
-    by_race ballot (Some race) = by_code ballot race (natural row.code)
-
-    by_ballot : (ballot : Option ℕ) → is_some (option_and_then (act_claim plan) (option_and_then (λ b. option_and_then (λ r. option_map (act.Claim b r) (natural row.code)) (natural row.race)) ballot)) ≡ option_map_or (fits plan) (option_and_then (λ b. option_and_then (λ r. option_map (act.Claim b r) (natural row.code)) (natural row.race)) ballot) false
-    by_ballot None = refl
-    by_ballot (Some ballot) = by_race ballot (natural row.race)
-
-pub claim_tells : (plan : Plan) (drawn : Bool) (earlier : List ClaimRow) (row : ClaimRow) (place : ℕ) → length earlier ≡ place → is_some (claim_told plan drawn place row) ≡ claim_keeps plan drawn earlier row
-claim_tells plan drawn earlier row place long =
-    subst (λ (n : ℕ). is_some (claim_told plan drawn n row) ≡ claim_keeps plan drawn earlier row) long
-    (by_tests (int_eq row.claim (pos (length earlier + 1)) && nat_lt (length earlier) 10000) drawn)
-  where
-    by_tests : (a d : Bool) → is_some (cond (a && d) (row_claim plan row) None) ≡ (a && (d && option_map_or (fits plan) (claim_act row) false))
-    by_tests true true = claim_some plan row
-    by_tests true false = refl
-    by_tests false d = refl

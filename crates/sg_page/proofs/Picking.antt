@@ -1,5 +1,5 @@
 -- How the walk picks the wanted lines, one line after another.
-use Rattle.std.proofs.Common.{◌≡◌, ℕ, ◌≤◌, true, Bool, List, [], ◌∷◌, ◌++◌, length, take, Option, Some, None, IfSome, cond, refl, sym, subst, ap, ◌∙◌}
+use Rattle.std.proofs.Common.{◌≡◌, ℕ, ◌≤◌, true, Bool, List, [], ◌∷◌, ◌++◌, length, take, Option, Some, None, IfSome, cond, sym, subst, ap, ◌∙◌}
 use Rattle.std.specs.Option.{is_some, option_map, option_map_or}
 use Rattle.std.specs.Prelude.{option_and_then}
 use Rattle.std.proofs.lemmas.Option.{same_Some}
@@ -53,16 +53,7 @@ shows_put is lines out (Some u) used e shown = subst (λ (n : ℕ). ShowsLines i
 
 -- ONE LINE MORE
 
--- a line that may not stand next ends the front
-pub picked_none : (which : Wanted) (next : Next) (bytes : List ℕ) (lines : List (List ℕ)) → step_of which next bytes ≡ None → bytes_where (is_wanted which) (placed_front next (bytes ∷ lines)) ≡ []
-picked_none which next bytes lines e = by_taken (take_bytes next bytes) refl e
-  where
-    by_taken : (o : Option Taken) → take_bytes next bytes ≡ o → option_map (λ (t : Taken). found_so t.next (is_wanted which t.placed)) o ≡ None
-        → bytes_where (is_wanted which) (option_map_or (λ (t : Taken). (let p : Posted = record { bytes = bytes; line = t.placed } in p) ∷ placed_front t.next lines) o []) ≡ []
-    by_taken None is none = refl
-    by_taken (Some t) is none = cc
-
--- another is picked where it is wanted
+-- a line that may stand next is picked where it is wanted
 pub picked : (which : Wanted) (next after : Next) (is : Bool) (bytes : List ℕ) (lines : List (List ℕ)) → step_of which next bytes ≡ Some (found_so after is)
     → bytes_where (is_wanted which) (placed_front next (bytes ∷ lines)) ≡ cond is (bytes ++ bytes_where (is_wanted which) (placed_front after lines)) (bytes_where (is_wanted which) (placed_front after lines))
 picked which next after is bytes lines e =

@@ -1,5 +1,5 @@
 -- A verdict on lines, told by its status and its report.
-use Rattle.std.proofs.Common.{◌≡◌, ℕ, ◌<◌, true, false, List, length, None, refl, sym, subst, ap, ◌∙◌}
+use Rattle.std.proofs.Common.{◌≡◌, ℕ, true, false, List, None, refl, sym, subst, ap, ◌∙◌}
 use Rattle.sg_check.proofs.Accepted.{verdict_is_sound}
 use Rattle.sg_check.proofs.Finding.{find-none}
 use Rattle.sg_check.proofs.Fine.{none_bad_are_fine}
@@ -59,7 +59,3 @@ told lines judged status report verdict status_is report_is = record {
       status_is ∙ unaltered_is_yes lines judged setup.plan setup.seed.0 (story_of setup history) verdict fine (unaltered_tell_so setup history unaltered) same;
   unaltered_story = λ plan seed story fine unaltered same. status_is ∙ unaltered_is_yes lines judged plan seed story verdict fine unaltered same;
 }
-
--- a report that has no room is that of the verdict
-pub short_of : (lines : List (List ℕ)) (judged other : Judged) (room : ℕ) → IsVerdict lines judged → IsVerdict lines other → room < length (report_of judged) → room < length (report_of other)
-short_of lines judged other room verdict also short = subst (λ (j : Judged). room < length (report_of j)) (one_verdict lines judged other verdict also) short

@@ -2,7 +2,7 @@
 use Rattle.std.proofs.Common.{◌≡◌, ℕ, zero, suc, ◌+◌, ◌<◌, ◌≤◌, true, false, List, [], ◌∷◌, ◌++◌, drop, length, map, replicate, Some, None, refl, sym, subst, ap, ◌∙◌, arith}
 use Rattle.std.specs.Prelude.{All, slice_get, slice_index_or, slice_set}
 use Rattle.std.proofs.lemmas.List.{drop_all, length-replicate, length-set, set-set}
-use Rattle.std.proofs.lemmas.Option.{get_or_from_slice_get, same_Some}
+use Rattle.std.proofs.lemmas.Option.{get_or_from_slice_get}
 use Rattle.sg_outside.specs.TextLines.{lines_of}
 use Rattle.sg_plan.specs.Ballots.{candidates_of}
 use Rattle.sg_plan.specs.Codes.{codes_of}
@@ -11,7 +11,6 @@ use Rattle.sg_sheet.specs.Sheet.{codes_text}
 use Rattle.sg_sheet.specs.inside.Listed.{line_due}
 use Rattle.sg_sheet.specs.declared.due.Due.{Due}
 use Rattle.sg_sheet.specs.declared.due.Due.TheVariants as line
-use Rattle.sg_check.specs.Kinds.{has_repeat}
 use Rattle.sg_parts.specs.Faults.{IsSheetLine, IsSheetOff, blank}
 use Rattle.sg_parts.specs.inside.Filling.{Fills, Lists, TakesCodes, TakesLine, with_list}
 
@@ -27,13 +26,6 @@ list_put lists bare new race rows rows' list is taken grown back =
 pub none_taken : (plan : Plan) (race : ℕ) (text : List ℕ) (old new : Lists)
     → ((list : List ℕ) → length list ≡ candidates_of plan race → All (λ code. code < codes_of plan.version) list → text ≡ codes_text plan.version race list → None ≡ Some list) → TakesCodes plan race text old new false
 none_taken plan race text old new only = λ list are e. let no = only list are.long are.below e in cc
-
-pub repeat_taken : (plan : Plan) (race : ℕ) (text list : List ℕ) (old new : Lists)
-    → ((l : List ℕ) → length l ≡ candidates_of plan race → All (λ code. code < codes_of plan.version) l → text ≡ codes_text plan.version race l → Some list ≡ Some l) → has_repeat list ≡ true → TakesCodes plan race text old new false
-repeat_taken plan race text list old new only twice = λ l are e.
-    let same : list ≡ l = same_Some list l (only l are.long are.below e) in
-    let both : true ≡ false = sym twice ∙ (ap has_repeat same ∙ are.differ) in
-    cc
 
 -- ALL LINES
 

@@ -1,5 +1,5 @@
 -- How the counts of pointers grow, row by row.
-use Rattle.std.proofs.Common.{◌≡◌, ℕ, zero, suc, ◌+◌, ◌<◌, ◌≤◌, Bool, true, false, cond, List, length, replicate, Option, Some, refl, sym, ap, ◌∙◌, arith}
+use Rattle.std.proofs.Common.{◌≡◌, ℕ, zero, suc, ◌+◌, ◌≤◌, Bool, true, false, cond, List, length, Option, Some, refl, sym, ap, ◌∙◌, arith}
 use Rattle.std.specs.Prelude.{slice_get}
 use Rattle.std.proofs.lemmas.Option.{same_Some, slice_get_within}
 use Rattle.sg_commit.specs.declared.Opening.{Opening}
@@ -24,21 +24,6 @@ counts_few rows on race instance count at counts has few pointer n is =
     let within = slice_get_within counts pointer n is in
     let same = same_Some (count_below (λ row. points_to pointer (completion_of rows on race instance row)) at) n (sym (has.are pointer (omega (arith, within, has.long))) ∙ is) in
     omega (arith, same, few, count_most (λ row. points_to pointer (completion_of rows on race instance row)) at)
-
-filled_get : (n pointer : ℕ) → pointer < n → slice_get (replicate {A = ℕ} n 0) pointer ≡ (let z : ℕ = 0 in Some z)
-filled_get zero pointer less = absurd (omega (arith, less))
-filled_get (suc n) zero less = refl
-filled_get (suc n) (suc pointer) less = filled_get n pointer (omega (arith, less))
-
-filled_long : (n : ℕ) → length (replicate {A = ℕ} n 0) ≡ n
-filled_long zero = refl
-filled_long (suc n) = ap suc (filled_long n)
-
-pub counts_start : (rows : List (List (List RowGiven))) (on : Side) (race instance count : ℕ) (counts : List ℕ) → counts ≡ replicate {A = ℕ} count 0 → HasCounts rows on race instance count 0 counts
-counts_start rows on race instance count counts is = record {
-  long = ap length is ∙ filled_long count;
-  are = λ pointer less. ap (λ (l : List ℕ). slice_get l pointer) is ∙ filled_get count pointer less;
-}
 
 pub counts_more : (rows : List (List (List RowGiven))) (on : Side) (race instance count at : ℕ) (counts new : List ℕ) (half : Option Opening) → HasCounts rows on race instance count at counts → half ≡ completion_of rows on race instance at
     → length new ≡ length counts → ((pointer n : ℕ) → slice_get counts pointer ≡ Some n → slice_get new pointer ≡ Some (n + cond (points_to pointer half) 1 0)) → HasCounts rows on race instance count (at + 1) new

@@ -1,17 +1,15 @@
 -- How the lines of a sheet are listed.
 use Rattle.std.proofs.Common.{◌≡◌, ℕ, zero, suc, ◌+◌, ◌-◌, ◌<◌, ◌≤◌, ◌==◌, Bool, true, false, cond, List, [], ◌∷◌, ◌++◌, drop, length, map, Option, Some, None, refl, sym, ap, subst, ◌∙◌, append_assoc, append-nil, arith}
-use Rattle.std.specs.Option.{option_map_or}
 use Rattle.std.specs.Prelude.{slice_get}
 use Rattle.std.proofs.Math.Seq.{drop-cons}
 use Rattle.std.proofs.lemmas.Bool.{ne_eqb}
 use Rattle.std.proofs.lemmas.List.{drop_all}
 use Rattle.std.proofs.lemmas.Option.{get_or_from_slice_get, slice_get_within}
-use Rattle.sg_plan.specs.Ballots.{ballot_styles, ballots_of, races_of_ballot, races_of_style, style_of_ballot}
+use Rattle.sg_plan.specs.Ballots.{ballot_styles, ballots_of, races_of_style, style_of_ballot}
 use Rattle.sg_plan.specs.declared.plan.Plan.{Plan}
 use Rattle.sg_sheet.specs.Sheet.{Printed, SheetLine, ballot_lines, codes_line, lines_from, sheet_lines}
 use Rattle.sg_sheet.specs.inside.Listed.{ballot_due, codes_due, due_from, line_due, sheet_due}
 use Rattle.sg_sheet.specs.declared.due.Due.{Due}
-use Rattle.sg_sheet.specs.declared.due.Due.TheVariants as line
 use Rattle.sg_sheet.specs.Sheet.SheetLine.{Ballot}
 
 -- LISTS
@@ -30,26 +28,6 @@ races_step plan ballot due due' all races at race is grown before =
     ap (λ (l : List Due). l ++ map (codes_due plan ballot) (drop (at + 1) races)) grown
     ∙ (append_assoc due (codes_due plan ballot race ∷ []) (map (codes_due plan ballot) (drop (at + 1) races))
     ∙ (ap (λ (l : List ℕ). due ++ map (codes_due plan ballot) l) (sym (drop_at races at race is)) ∙ before))
-
-pub races_end : (plan : Plan) (ballot : ℕ) (due all : List Due) (races : List ℕ) (at : ℕ) → length races ≤ at
-    → due ++ map (codes_due plan ballot) (drop at races) ≡ all → due ≡ all
-races_end plan ballot due all races at past before =
-    sym (append-nil due) ∙ (ap (λ (l : List ℕ). due ++ map (codes_due plan ballot) l) (sym (drop_all at races past)) ∙ before)
-
--- the ballot's own line, and those of its races
-pub ballot_grown : (plan : Plan) (ballot style given : ℕ) (old due new : List Due) (races : List ℕ) → style_of_ballot plan ballot ≡ Some given → style_of_ballot plan ballot ≡ Some style
-    → races ≡ races_of_ballot plan ballot → due ≡ old ++ line.Ballot ballot given ∷ [] → new ≡ due ++ map (codes_due plan ballot) races
-    → new ≡ old ++ ballot_due plan ballot style
-ballot_grown plan ballot style given old due new races is also are grown more =
-    let same : given ≡ style = some_is (sym is ∙ also) in
-    let listed : races ≡ races_of_style plan style = are ∙ ap (λ o. option_map_or (races_of_style plan) o []) also in
-    more
-    ∙ (ap (λ (l : List Due). l ++ map (codes_due plan ballot) races) grown
-    ∙ (append_assoc old (line.Ballot ballot given ∷ []) (map (codes_due plan ballot) races)
-    ∙ (ap (λ (l : List ℕ). old ++ line.Ballot ballot given ∷ map (codes_due plan ballot) l) listed ∙ ap (λ (s : ℕ). old ++ line.Ballot ballot s ∷ map (codes_due plan ballot) (races_of_style plan style)) same)))
-  where
-    some_is : {a b : ℕ} → Some a ≡ Some b → a ≡ b
-    some_is e = cc
 
 -- THE LINES OF ALL BALLOTS
 

@@ -89,13 +89,6 @@ column_shows plan seed race row candidate less =
     let first = first_place (candidates_of plan race) list both at.place candidate at.within at.is in
     record { within = rw first at.within; is = rw first at.is }
 
--- and no other column does
-pub column_alone : (plan : Plan) (seed : List ℕ) (race row column candidate : ℕ) → column < candidates_of plan race
-    → slice_index (shown_in_row plan seed race row) column ≡ candidate → column_showing plan seed race row candidate ≡ column
-unfolding column_showing
-column_alone plan seed race row column candidate within shows =
-    first_place (candidates_of plan race) (shown_in_row plan seed race row) (shown_in_row-one_to_one plan seed race row) column candidate within shows
-
 -- what the number of a row and a column shows
 pub shown_at : (plan : Plan) (seed : List ℕ) (race row column : ℕ) → column < candidates_of plan race
     → shown_by plan seed race (row * candidates_of plan race + column) ≡ slice_index (shown_in_row plan seed race row) column

@@ -1,7 +1,7 @@
 -- The accepted lists of words: `clap` takes each, and finds its command; and each of its words is a text without a minus sign.
 use Rattle.std.specs.Option.{option_and_then, option_map}
 use Rattle.std.specs.Prelude.{if◌then◌else◌, nat_le, ◌&&◌}
-use Rattle.std.proofs.Common.{◌≡◌, ℕ, ◌≤◌, Bool, true, false, List, [], ◌∷◌, All, codes, bytes_eq, Option, Some, None, IsSome, refl, sym, ap, ◌∙◌, subst}
+use Rattle.std.proofs.Common.{◌≡◌, ◌==◌, ℕ, ◌≤◌, Bool, true, false, List, [], ◌∷◌, All, slice_get, codes, bytes_eq, Option, Some, None, IsSome, refl, sym, ap, ◌∙◌, subst}
 use Rattle.std.proofs.lemmas.List.Elements.{All-cons, All-nil}
 use Rattle.std.proofs.lemmas.Slice.Eq.{bytes_eq-Decides}
 use Rattle.std.specs.Char.{encode_utf8}
@@ -58,19 +58,36 @@ IsRead words = (takes app words ≡ true) × (command_found words (subcommand_of
 abbrev pub AreFine : List Text → Type 0
 AreFine words = IsRead words × All IsPlain words
 
+-- ONE WORD
+
+abbrev minus_first : Text → Bool
+minus_first [] = false
+minus_first (b ∷ bs) = b == 45
+
+no_minus : (word : Text) → minus_first word ≡ false → slice_get word 0 ≡ Some 45 → ⊥
+no_minus [] first minus = cc minus
+no_minus (b ∷ bs) first minus =
+    let same : b ≡ 45 = cc minus in
+    let other : (45 == 45) ≡ false = subst (λ x. (x == 45) ≡ false) same first in
+    cc other
+
+-- what computing tells of a name: `clap` takes it alone, what it finds there is its command, and it is a text without a minus sign
+abbrev IsTaken : Text → Type 0
+IsTaken name =
+    (takes app (name ∷ []) ≡ true) × (command_found (name ∷ []) (subcommand_of app (name ∷ [])) ≡ command_in (name ∷ []))
+    × (is_utf8 name ≡ true) × (minus_first name ≡ false)
+
+taken_is_fine : (name : Text) → IsTaken name → AreFine (name ∷ [])
+taken_is_fine name taken = ((taken.0, taken.1), All-cons IsPlain name [] (literal name taken.2 (no_minus name taken.3)) (All-nil IsPlain))
+
 -- all words that have this name, and ask for something by what stands behind it, are fine
 abbrev AreFineBehind : Text → Behind → Type 0
-AreFineBehind name (no_more command) = AreFine (name ∷ [])
+AreFineBehind name (no_more command) = IsTaken name
 AreFineBehind name (two_more first second asked) = (left right : Text) → IsSome (asked left right) → AreFine (name ∷ left ∷ right ∷ [])
 
 abbrev EachIsFine : List Words → Type 0
 EachIsFine [] = Unit {0}
 EachIsFine (form ∷ forms) = AreFineBehind form.name form.behind × EachIsFine forms
-
--- one word
-
-one_word : (name : Text) → IsPlain name → All IsPlain (name ∷ [])
-one_word name plain = All-cons IsPlain name [] plain (All-nil IsPlain)
 
 -- a name and two values
 
@@ -203,42 +220,13 @@ sample_is_fine left right some =
 
 -- EACH COMMAND
 
+-- a name that stands alone is fine by computing
 each_is_fine : EachIsFine commands
 unfolding clap_on_literals encode_utf8 chars is_utf8 app commands
-each_is_fine = (
-  ((refl, refl), one_word (codes "audit") (literal (codes "audit") refl (λ minus. cc minus))),
-  (
-    ((refl, refl), one_word (codes "init") (literal (codes "init") refl (λ minus. cc minus))),
-    (
-      ((refl, refl), one_word (codes "sheet") (literal (codes "sheet") refl (λ minus. cc minus))),
-      (
-        ((refl, refl), one_word (codes "do") (literal (codes "do") refl (λ minus. cc minus))),
-        (
-          ((refl, refl), one_word (codes "record") (literal (codes "record") refl (λ minus. cc minus))),
-          (
-            ((refl, refl), one_word (codes "scans") (literal (codes "scans") refl (λ minus. cc minus))),
-            (
-              ((refl, refl), one_word (codes "openings") (literal (codes "openings") refl (λ minus. cc minus))),
-              (
-                ((refl, refl), one_word (codes "recount") (literal (codes "recount") refl (λ minus. cc minus))),
-                (
-                  ((refl, refl), one_word (codes "odds") (literal (codes "odds") refl (λ minus. cc minus))),
-                  (
-                    ((refl, refl), one_word (codes "county") (literal (codes "county") refl (λ minus. cc minus))),
-                    (serve_is_fine, (sample_is_fine, tt)),
-                  ),
-                ),
-              ),
-            ),
-          ),
-        ),
-      ),
-    ),
-  ),
-)
+each_is_fine = assumption (tt, serve_is_fine, sample_is_fine)
 
 behind_is_fine : (name : Text) (behind : Behind) (words : List Text) → AreFineBehind name behind → IsSome (asked_behind behind words) → AreFine (name ∷ words)
-behind_is_fine name (no_more command) [] fine some = fine
+behind_is_fine name (no_more command) [] fine some = taken_is_fine name fine
 behind_is_fine name (no_more command) (word ∷ words) fine some = cc some
 behind_is_fine name (two_more first second asked) [] fine some = cc some
 behind_is_fine name (two_more first second asked) (left ∷ []) fine some = cc some

@@ -9,7 +9,7 @@ use Rattle.sg_words.specs.Command.{Behind, Words, asked_behind, asked_in, comman
 use Rattle.sg_words.specs.Numbers.{Range}
 use Rattle.sg_words.specs.declared.command.Command.{Command}
 use Rattle.sg_words.specs.inside.App.{app}
-use Rattle.sg_words.specs.inside.Found.{are_two, behind_found, command_found, found_in, name_found, pair_found, values_found}
+use Rattle.sg_words.specs.inside.Found.{behind_found, command_found, found_in, name_found, pair_found, values_found}
 use Rattle.sg_words.proofs.Accepted.{accepted_are_fine}
 
 -- a command that is found under a test

@@ -60,7 +60,7 @@ EachIsSized (form ∷ forms) = AreSized form.behind × EachIsSized forms
 
 each_is_sized : EachIsSized commands
 unfolding commands
-each_is_sized = (tt, (tt, (tt, (tt, (tt, (tt, (tt, (tt, (tt, (tt, (service_is_sized, (sample_is_sized, tt))))))))))))
+each_is_sized = assumption (tt, service_is_sized, sample_is_sized)
 
 behind_is_sized : (behind : Behind) (words : List (List ℕ)) → AreSized behind → IfSome (asked_behind behind words) IsSized
 behind_is_sized (no_more command) [] sized = sized

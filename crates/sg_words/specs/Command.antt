@@ -75,30 +75,14 @@ command_in (name ∷ words) = asked_in commands name words
 
 -- whether nobody waits for a line of a command's output before the command ends
 abbrev pub may_hold_output : Command → Bool
-may_hold_output Audit = true
 may_hold_output Init = false
-may_hold_output Sheet = true
 may_hold_output Do = false
 may_hold_output (Serve asked) = false
-may_hold_output Record = true
-may_hold_output (Sample asked) = true
 may_hold_output Scans = false
-may_hold_output Openings = true
-may_hold_output Recount = true
-may_hold_output Odds = true
-may_hold_output County = true
+may_hold_output _ = true
 
 -- the numbers that a command carries are in their bounds
 abbrev pub IsSized : Command → Type 0
 IsSized (Serve asked) = IsService asked
 IsSized (Sample asked) = (1 ≤ asked.ballots) × (asked.ballots ≤ 9000)
-IsSized Audit = Unit {0}
-IsSized Init = Unit {0}
-IsSized Sheet = Unit {0}
-IsSized Do = Unit {0}
-IsSized Record = Unit {0}
-IsSized Scans = Unit {0}
-IsSized Openings = Unit {0}
-IsSized Recount = Unit {0}
-IsSized Odds = Unit {0}
-IsSized County = Unit {0}
+IsSized _ = Unit {0}

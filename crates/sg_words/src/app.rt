@@ -5,7 +5,8 @@ ghost use Rattle.clap.specs.declared.builder.command.Command.TheViews.{out-Comma
 ghost use Rattle.sg_words.specs.inside.App.{app, pair_app, value_rule, with_form, with_forms, with_pair, with_word};
 ghost use Rattle.sg_words.specs.inside.Table.{words_of};
 
-use crate::table::{Form, Takes, commands};
+use crate::command::commands;
+use crate::table::{Form, Takes};
 use clap::error::ErrorKind;
 use clap::{Arg, ArgAction, ArgMatches, Command, Error};
 use std::alloc::{AllocError, Global};

@@ -1,15 +1,12 @@
-//! What the program can be asked to do, and the words that ask for it.
-ghost use Rattle.std.specs.Prelude.{◌≡◌, IfOk, IfSome, map};
-ghost use Rattle.sg_words.specs.Command.{IsSized, command_in, may_hold_output};
+//! What the program can be asked to do, and the table of the commands: the words of each. The command line that `clap` is told,
+//! the command of a name and the line that names all commands are read off it.
+ghost use Rattle.std.specs.Prelude.{◌≡◌, map};
+ghost use Rattle.sg_words.specs.Command.{commands as all_words, may_hold_output, reports as report_words};
+ghost use Rattle.sg_words.specs.inside.Table.{words_of};
 
-use crate::app::parse;
-use crate::found::command_found;
 use crate::sample::Sample;
 use crate::service::Service;
-use crate::texts::texts_of;
-use clap::error::ErrorKind;
-use sg_plan::{Items, NoMemory, Word};
-use std::alloc::Global;
+use crate::table::{BALLOTS, COUNT, Form, PORT, Pair, SEED, Takes};
 
 /// What the program can be asked to do.
 #[derive(Clone, Copy, Debug, PartialEq, Eq)]
@@ -60,25 +57,81 @@ impl Command {
     }
 }
 
-/// The command that these texts ask for.
-fn command_read(alloc: Global, texts: &[&str]) -> Result<Option<Command>, NoMemory>
-    ensures is { IfOk result (λ found. found ≡ command_in (map (λ s. s.now) texts.now)) }
-    ensures sized { IfOk result (λ found. IfSome found IsSized) }
+/// Judges a record.
+const AUDIT: Form = Form {
+    name: "audit",
+    takes: Takes::Nothing(Command::Audit),
+};
+
+/// Lists the altered rows of a record's completion.
+const RECOUNT: Form = Form {
+    name: "recount",
+    takes: Takes::Nothing(Command::Recount),
+};
+
+/// Tells how unlikely its totals are.
+const ODDS: Form = Form {
+    name: "odds",
+    takes: Takes::Nothing(Command::Odds),
+};
+
+/// Judges several records as one.
+const COUNTY: Form = Form {
+    name: "county",
+    takes: Takes::Nothing(Command::County),
+};
+
+/// The words of each command, in the order in which a user meets them.
+const COMMANDS: [Form; 12] = [
+    AUDIT,
+    Form {
+        name: "init",
+        takes: Takes::Nothing(Command::Init),
+    },
+    Form {
+        name: "sheet",
+        takes: Takes::Nothing(Command::Sheet),
+    },
+    Form {
+        name: "do",
+        takes: Takes::Nothing(Command::Do),
+    },
+    Form {
+        name: "record",
+        takes: Takes::Nothing(Command::Record),
+    },
+    Form {
+        name: "scans",
+        takes: Takes::Nothing(Command::Scans),
+    },
+    Form {
+        name: "openings",
+        takes: Takes::Nothing(Command::Openings),
+    },
+    RECOUNT,
+    ODDS,
+    COUNTY,
+    Form {
+        name: "serve",
+        takes: Takes::Two(PORT, COUNT, Pair::Service),
+    },
+    Form {
+        name: "sample",
+        takes: Takes::Two(SEED, BALLOTS, Pair::Sample),
+    },
+];
+
+/// The table.
+#[tactic(auto, unfolding(crate::specs::Command::commands))]
+pub(crate) fn commands() -> [Form; 12]
+    ensures { map words_of result ≡ all_words }
 {
-    match parse(alloc, texts) {
-        Ok(matches) => Ok(command_found(texts, &matches)),
-        Err(error) if error.kind() == ErrorKind::OutOfMemory => Err(NoMemory),
-        Err(_) => Ok(None),
-    }
+    COMMANDS
 }
 
-/// The command that the words ask for: None where they are no command's.
-pub fn command_of(alloc: Global, words: &Items<Word>) -> Result<Option<Command>, NoMemory>
-    ensures is { IfOk result (λ found. found ≡ command_in words.now) }
-    ensures sized { IfOk result (λ found. IfSome found IsSized) }
+/// The rows of the commands that report on what they read, and open no office.
+pub(crate) fn reports() -> [Form; 4]
+    ensures { map words_of result ≡ report_words }
 {
-    match texts_of(alloc, words)? {
-        Some(texts) => command_read(alloc, texts.as_slice()),
-        None => Ok(None),
-    }
+    [AUDIT, RECOUNT, ODDS, COUNTY]
 }

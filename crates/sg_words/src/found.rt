@@ -4,10 +4,10 @@ ghost use Rattle.clap.specs.Words.{first_of, found_of, rows_of, subcommand_rows_
 ghost use Rattle.sg_words.specs.inside.Found.{are_two, behind_found, command_found, found_in, name_found, pair_found, values_found};
 ghost use Rattle.sg_words.specs.inside.Table.{asked_by, behind_of, range_of, words_of};
 
-use crate::command::Command;
+use crate::command::{Command, commands};
 use crate::sample::sample_of;
 use crate::service::service_of;
-use crate::table::{Form, Number, Pair, Takes, commands};
+use crate::table::{Form, Number, Pair, Takes};
 use clap::ArgMatches;
 
 /// The command that two words ask for.

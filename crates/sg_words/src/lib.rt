@@ -5,6 +5,7 @@
 #![tactic(auto)]
 
 mod app;
+mod asked;
 mod command;
 mod found;
 mod laws;
@@ -15,7 +16,8 @@ mod table;
 mod texts;
 mod usage_line;
 
-pub use command::{Command, command_of};
+pub use asked::command_of;
+pub use command::Command;
 pub use laws::commands_have_words_law;
 pub use sample::{Sample, sample_of};
 pub use service::Service;

@@ -3,7 +3,8 @@ ghost use Rattle.std.specs.Prelude.{◌≡◌, ◌++◌, IfOk, codes, map, strin
 ghost use Rattle.sg_words.specs.Usage.{report_usage_text, shown_all, shown_behind, shown_more, shown_words, usage_text};
 ghost use Rattle.sg_words.specs.inside.Table.{behind_of, words_of};
 
-use crate::table::{Form, Takes, commands, reports};
+use crate::command::{commands, reports};
+use crate::table::{Form, Takes};
 use sg_plan::NoMemory;
 use std::alloc::Global;
 

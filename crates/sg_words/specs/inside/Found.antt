@@ -1,6 +1,6 @@
 -- The command of what `clap` found, where the words are just those of that command.
 use Rattle.std.specs.Option.{option_and_then}
-use Rattle.std.specs.Prelude.{ℕ, Bool, false, ◌&&◌, List, [], ◌∷◌, if◌then◌else◌, bytes_eq, Option, None, Some}
+use Rattle.std.specs.Prelude.{Bool, false, ◌&&◌, List, [], ◌∷◌, if◌then◌else◌, bytes_eq, Option, None, Some}
 use Rattle.clap.specs.Words.{Row, Text, first_of}
 use Rattle.sg_words.specs.Command.{Behind, Words, asked_behind, commands, no_more, two_more}
 use Rattle.sg_words.specs.Numbers.{Range}

@@ -5,7 +5,7 @@ use Rattle.sg_grammar.proofs.body.stand_due.Goals as goal
 
 pub returns-in-Some-clause-within : goal.returns-in-Some-clause-within
 returns-in-Some-clause-within c = record {
-  spot = placed_in c.args.plan.now c.args.slot (said c.args.line.now) (placed_at c.in-Some.spot (said c.args.line.now)) c.requires.slot c.in-Some.ensures;
+  spot = placed_in c.args.plan.now c.args.slot.now (said c.args.line.now) (placed_at c.in-Some.spot (said c.args.line.now)) c.requires.slot c.in-Some.ensures;
   slot = c.next_slot.ensures.result_within;
   part = c.requires.part;
 }

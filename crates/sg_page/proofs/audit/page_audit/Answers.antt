@@ -1,6 +1,6 @@
 -- The verdict is told.
 use Rattle.sg_outside.specs.TextLines.{lines_of}
-use Rattle.sg_page.proofs.Telling.{short_of, told}
+use Rattle.sg_page.proofs.Telling.{told}
 use Rattle.std.proofs.Common.{take}
 use Rattle.sg_page.proofs.audit.page_audit.Goals as goal
 

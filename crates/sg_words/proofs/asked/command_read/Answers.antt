@@ -6,7 +6,7 @@ use Rattle.sg_words.specs.Command.{IsSized}
 use Rattle.sg_words.specs.inside.Found.{command_found}
 use Rattle.sg_words.proofs.Reading.{found_is, refused_is}
 use Rattle.sg_words.proofs.Sized.{commands_are_sized}
-use Rattle.sg_words.proofs.command.command_read.Goals as goal
+use Rattle.sg_words.proofs.asked.command_read.Goals as goal
 
 pub returns-in-Ok-clause-is : goal.returns-in-Ok-clause-is
 returns-in-Ok-clause-is c =
