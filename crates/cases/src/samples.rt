@@ -11,8 +11,8 @@ ghost use Rattle.std.specs.Prelude.{◌≤◌, IfSome};
 use crate::fault::Fault;
 use posted::tell_posted;
 use sg_lines::Parts;
-use sg_outside::Page;
-use sg_sample::{Sample, Sampled, sample, sample_of};
+use sg_outside::{Outcome, Page};
+use sg_sample::{Sample, sample, sample_of};
 use std::alloc::Global;
 use std::io::Write;
 
@@ -44,9 +44,9 @@ fn tell_page<W: Write>(
     requires few { asked.ballots ≤ 9000 }
 {
     match sample(alloc, asked, page) {
-        Sampled::Done => Ok(out.write_all(page.written())?),
-        Sampled::WriteFault => Err(Fault::Case),
-        Sampled::NoMemory => Err(Fault::Outside),
+        Outcome::Done => Ok(out.write_all(page.written())?),
+        Outcome::NoMemory => Err(Fault::Outside),
+        _ => Err(Fault::Case),
     }
 }
 

@@ -3,4 +3,4 @@ mod Completing
 mod Commands
 mod Headlines
 mod Obeyed
-mod Samples
+mod Statuses

@@ -35,8 +35,7 @@ pub fn run<S: Source, K: Keeper, L: Links, O: Sink>(
     ensures form { result ≡ 2 → command_in words.now ≡ None }
     ensures refused { command_in words.now ≡ None → (result ≡ 2) ⊎ (result ≡ 9) }
     ensures untouched { command_in words.now ≡ None → (input.new ≡ input.old) × (keeper.new ≡ keeper.old) × (links.new ≡ links.old) × (out.new ≡ out.old) }
-    // Only `audit`, `init`, `do`, `scans`, `recount`, `odds` and `county` read the input; only `init`, `sheet`, `do`, `scans`,
-    // `serve`, `record` and `openings` ask the keeper; and only `serve` takes connections.
+    // Only the commands that the table `touched` says so of read the input, ask the keeper, and take connections.
     ensures unread { (command : CommandSeen) → command_in words.now ≡ Some command → reads_input command ≡ false → input.new ≡ input.old }
     ensures unkept { (command : CommandSeen) → command_in words.now ≡ Some command → asks_keeper command ≡ false → keeper.new ≡ keeper.old }
     ensures unlinked { (command : CommandSeen) → command_in words.now ≡ Some command → takes_links command ≡ false → links.new ≡ links.old }
@@ -49,11 +48,11 @@ pub fn run<S: Source, K: Keeper, L: Links, O: Sink>(
     ensures headline { command_in words.now ≡ Some Command.Audit → IfSome (S.left input.old) (λ bytes. Headline (lines_of bytes) result (seen (S.left input.old) (S.faults input.old)) (seen (S.left input.new) (S.faults input.new))
         (seen (O.written out.old) (O.faults out.old)) (seen (O.written out.new) (O.faults out.new))) }
     // The status says how the command ended, by a relation for each command: what was read, what the rows are, and what was
-    // written. Where no count of faults rose, it tells no failure. `sheet`, `record` and `openings` leave the rows as they are.
+    // written. Where no count of faults rose, it tells no failure. What changes no rows, by that table, leaves them as they are.
     ensures ended { (command : CommandSeen) → command_in words.now ≡ Some command → Ended command result (K.tells keeper.old) (K.rows keeper.old) (K.rows keeper.new)
         (record { left = S.left input.old; board = L.board links.old; written = O.written out.old; read_faults = S.faults input.old; link_faults = L.faults links.old; write_faults = O.faults out.old; keep_faults = K.faults keeper.old })
         (record { left = S.left input.new; board = L.board links.new; written = O.written out.new; read_faults = S.faults input.new; link_faults = L.faults links.new; write_faults = O.faults out.new; keep_faults = K.faults keeper.new }) }
-    // After a read that failed, and where memory was wanted, `audit`, `recount`, `odds` and `county` leave the output as it was.
+    // After a read that failed, and where memory was wanted, what reports on the input leaves the output as it was.
     ensures unwritten { (command : CommandSeen) → command_in words.now ≡ Some command → is_report command ≡ true → (result ≡ 3) ⊎ (result ≡ 9) → out.new ≡ out.old }
     // Where rows are told that are an office's, they stay that office's, and what `record` writes of them only grows.
     ensures grows { K.tells keeper.old → KeepsPosted (K.rows keeper.old) (K.rows keeper.new) }
@@ -61,7 +60,7 @@ pub fn run<S: Source, K: Keeper, L: Links, O: Sink>(
     ensures unopened { (asked : ServiceSeen) → command_in words.now ≡ Some (Command.Serve asked) → (result ≡ 5) ⊎ (result ≡ 7) ⊎ (result ≡ 8) → links.new ≡ links.old }
 {
     match command_of(alloc, words) {
-        Ok(Some(command)) => obey(alloc, command, input, keeper, links, out),
+        Ok(Some(command)) => obey(alloc, command, input, keeper, links, out).status(),
         Ok(None) => 2,
         Err(NoMemory) => 9,
     }

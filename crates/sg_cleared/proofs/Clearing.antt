@@ -2,6 +2,8 @@
 use Rattle.std.proofs.Common.{◌≡◌, ℕ, ◌-◌, ◌<◌, Bool, true, cond, inl, inr, List, [], ◌∷◌, codes, length, None, refl, sym, subst, ap, ◌∙◌}
 use Rattle.std.proofs.lemmas.Bool.{true≢false}
 use Rattle.std.specs.List.{list_all}
+use Rattle.sg_outside.specs.declared.outcome.Outcome.{Outcome}
+use Rattle.sg_outside.specs.declared.outcome.Outcome.TheVariants as outcome
 use Rattle.sg_plan.specs.Ballots.{candidates_of, entries_of}
 use Rattle.sg_plan.specs.Limits.{fault_of}
 use Rattle.sg_plan.specs.declared.plan.Draw.{Draw}
@@ -31,7 +33,7 @@ use Rattle.sg_recount.specs.declared.findings.Findings.{Findings}
 use Rattle.sg_recount.specs.declared.findings.Sum.{Sum}
 use Rattle.sg_odds.specs.Odds.{exponent, is_lacking}
 use Rattle.sg_reports.specs.court.Odds.{FindsOdds, LacksRow, OddsDue}
-use Rattle.sg_reports.specs.court.Recounts.{Finds, RecountDue, findings_text}
+use Rattle.sg_reports.specs.court.Recounts.{Finds, IsFaulty, RecountDue, findings_text}
 use Rattle.sg_reports.specs.court.Texts.{numbers_line}
 use Rattle.sg_cleared.proofs.Counting.{count_is}
 use Rattle.sg_cleared.proofs.Handed.{handed_lines, office_has}
@@ -95,9 +97,14 @@ module _ (plan : Plan) (seed : List ℕ) (fates : List Told) (draw : Draw) (clai
       ap (λ (a : List (List (List ℕ))). let f : Findings = record { altered = a; sums = finds.findings.sums } in f) altered
       ∙ ap (λ (s : List (List Sum)). let f : Findings = record { altered = (clear_findings plan seed fates).altered; sums = s } in f) sums
 
-  pub recount_due : (status : ℕ) (text : List ℕ) → RecountDue all status text → (status ≡ 0) × (text ≡ findings_text (clear_findings plan seed fates))
-  recount_due status text (inl finds) = (finds.0, finds.1.text_is ∙ ap findings_text (findings_are text finds.1))
-  recount_due status text (inr faulty) = absurd (no_fault plan seed fates draw claims fine fit claimed words formed totals yes faulty.wrong faulty.known faulty.has)
+  none_faulty : (how : Outcome) (text : List ℕ) → IsFaulty all how text → ⊥
+  none_faulty how text faulty = no_fault plan seed fates draw claims fine fit claimed words formed totals yes faulty.wrong faulty.known faulty.has
+
+  pub recount_due : (how : Outcome) (text : List ℕ) → RecountDue all how text → (how ≡ outcome.Done) × (text ≡ findings_text (clear_findings plan seed fates))
+  recount_due outcome.Done text finds = (refl, finds.text_is ∙ ap findings_text (findings_are text finds))
+  recount_due outcome.No text faulty = absurd (none_faulty outcome.No text faulty)
+  recount_due outcome.Refused text faulty = absurd (none_faulty outcome.Refused text faulty)
+  recount_due _ text none = absurd none
 
   -- THE ODDS
 
@@ -124,7 +131,9 @@ module _ (plan : Plan) (seed : List ℕ) (fates : List Told) (draw : Draw) (clai
       = subst (λ (p : Record). is_lacking p.plan (completion_of given.rows) lacks.race lacks.instance lacks.row ≡ true) told.posted lacks.first.lacking in
       true≢false (sym lacking ∙ row_there plan seed (completion_of given.rows) (told_tables given told) lacks.race lacks.instance lacks.row within)
 
-  pub odds_due : (status : ℕ) (text : List ℕ) → OddsDue all status text → (status ≡ 0) × (text ≡ clear_exponents plan)
-  odds_due status text (inl finds) = (finds.0, exponents_are text finds.1)
-  odds_due status text (inr (inl lacks)) = absurd (none_lacks text lacks.1)
-  odds_due status text (inr (inr faulty)) = absurd (no_fault plan seed fates draw claims fine fit claimed words formed totals yes faulty.wrong faulty.known faulty.has)
+  pub odds_due : (how : Outcome) (text : List ℕ) → OddsDue all how text → (how ≡ outcome.Done) × (text ≡ clear_exponents plan)
+  odds_due outcome.Done text finds = (refl, exponents_are text finds)
+  odds_due outcome.No text faulty = absurd (none_faulty outcome.No text faulty)
+  odds_due outcome.Refused text (inl lacks) = absurd (none_lacks text lacks)
+  odds_due outcome.Refused text (inr faulty) = absurd (none_faulty outcome.Refused text faulty)
+  odds_due _ text none = absurd none

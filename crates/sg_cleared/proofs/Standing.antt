@@ -1,6 +1,7 @@
 -- What is due of the lines that an office hands to a court is due: they have all parts, and what is found in them is found.
-use Rattle.std.proofs.Common.{◌≡◌, ℕ, ◌<◌, true, inl, List, length, None, refl, sym}
+use Rattle.std.proofs.Common.{◌≡◌, ℕ, ◌<◌, true, List, length, None, refl, sym}
 use Rattle.std.specs.List.{list_all}
+use Rattle.sg_outside.specs.declared.outcome.Outcome.TheVariants.{Done}
 use Rattle.sg_plan.specs.Limits.{fault_of}
 use Rattle.sg_plan.specs.declared.plan.Draw.{Draw}
 use Rattle.sg_plan.specs.declared.plan.Plan.{Plan}
@@ -83,8 +84,8 @@ module _ (plan : Plan) (seed : List ℕ) (fates : List Told) (draw : Draw) (clai
     text_is = refl;
   }
 
-  pub recount_is_due : RecountDue all 0 (findings_text (clear_findings plan seed fates))
-  recount_is_due = inl (refl, finds)
+  pub recount_is_due : RecountDue all Done (findings_text (clear_findings plan seed fates))
+  recount_is_due = finds
 
   full : (race : ℕ) → race < length plan.races → IsRaceFull plan completion race
   full race in_race instance in_instances number below = row_there plan seed completion has race instance number (in_race, in_instances, below)
@@ -99,5 +100,5 @@ module _ (plan : Plan) (seed : List ℕ) (fates : List Told) (draw : Draw) (clai
     text_is = sym (exponents_none plan seed fates draw claims fine fit claimed words formed totals yes completion has);
   }
 
-  pub odds_are_due : OddsDue all 0 (clear_exponents plan)
-  odds_are_due = inl (refl, finds_odds)
+  pub odds_are_due : OddsDue all Done (clear_exponents plan)
+  odds_are_due = finds_odds

@@ -3,6 +3,7 @@ use Rattle.std.proofs.Common.{◌≡◌, ◌≢◌, ℕ, zero, suc, ◌/◌, ◌
 use Rattle.std.specs.List.{concat, list_all}
 use Rattle.std.specs.Option.{option_and_then, option_map_or}
 use Rattle.std.specs.Prelude.{slice_get}
+use Rattle.std.proofs.lemmas.List.{length-map}
 use Rattle.std.proofs.lemmas.List.Elements.{All-nil}
 use Rattle.sg_plan.specs.Ballots.{candidates_of, entry_at, r_rows}
 use Rattle.sg_plan.specs.Codes.{codes_of}
@@ -50,18 +51,13 @@ use Rattle.sg_parts.specs.Given.{AreOpenings, ArePrinted, Given, IsGiven, IsHalf
 use Rattle.sg_parts.specs.declared.parts.RecountFault.{RecountFault}
 use Rattle.sg_parts.specs.declared.parts.RecountFault.TheVariants as fault
 use Rattle.sg_parts.specs.declared.parts.RowGiven.{RowGiven}
-use Rattle.sg_reports.proofs.Courts.Given.{maps_long, rows_few}
+use Rattle.sg_reports.proofs.Courts.Given.{rows_few, tail_same}
 use Rattle.sg_cleared.proofs.Handed.{IsOffice, both_given, codes_are, handed_lines, office_has, office_rows, office_rows_given, opening_in, rows_are, rows_office, sheet, tables_of_version}
 use Rattle.sg_cleared.proofs.Posted.{both_are, code_is, half_opens, half_posted}
 use Rattle.sg_cleared.proofs.Shapes.{each_at, each_joined, images_same, rows_same}
 use Rattle.sg_cleared.proofs.SheetTexts.{Agree, AreOfVersion, IsPlaced, SameSheets, sheet_placed, sheets_told}
 use Rattle.sg_cleared.proofs.Splitting.{behind_split, both_told, record_split}
 use Rattle.sg_cleared.proofs.Unaltered.{HasTables, PrintsTables, printed_is}
-
--- LISTS
-
-tail_same : {x y : List ℕ} {xs ys : List (List ℕ)} → x ∷ xs ≡ y ∷ ys → xs ≡ ys
-tail_same e = cc
 
 -- a code by its ballot row and its candidate
 row_printed : (lists : List (List (List ℕ))) (race row candidate : ℕ) → row_in lists race row candidate ≡ slice_get (printed_of lists race row) candidate
@@ -238,7 +234,7 @@ module _ (plan : Plan) (seed : List ℕ) (fates : List Told) (draw : Draw) (clai
   no_completion_off zero off = off refl
   no_completion_off (suc at) off =
       let rows : List RowGiven = joined (joined (office_rows plan seed)) in
-      let count : r_rows plan ≡ length rows = sym (rows_few plan (office_rows plan seed) (rows_are plan (both_given plan seed))) ∙ maps_long row_text rows in
+      let count : r_rows plan ≡ length rows = sym (rows_few plan (office_rows plan seed) (rows_are plan (both_given plan seed))) ∙ length-map rows row_text in
       rows_on rows (office_rows_given plan seed fine) at (subst (λ n. AreRowsOff n (map row_text rows) at) count off.1)
 
   posted_told : (posted : Record) → IsRecordOf all posted → posted ≡ ours

@@ -1,10 +1,12 @@
 -- That an honest office is cleared: what a court finds in what such an office hands over (this project's rules for a
 -- recount).
-use Rattle.std.specs.Prelude.{◌≡◌, ℕ, ◌⊎◌, List, [], ◌∷◌, ◌++◌, length, codes, None, Some}
+use Rattle.std.specs.Prelude.{◌≡◌, ℕ, List, [], ◌∷◌, ◌++◌, length, codes, None, Some}
 use Rattle.std.specs.Io.KnownBytes.{Appends}
 use Rattle.sg_outside.specs.Faults.{Rose}
 use Rattle.sg_outside.specs.Streams.{AppendsFront, Seen}
 use Rattle.sg_outside.specs.TextLines.{lines_of}
+use Rattle.sg_outside.specs.declared.outcome.Outcome.{Outcome}
+use Rattle.sg_outside.specs.declared.outcome.Outcome.TheVariants.{Done, ReadFailed, WriteFailed, NoMemory}
 use Rattle.sg_plan.specs.Ballots.{candidates_of}
 use Rattle.sg_plan.specs.Limits.{fault_of}
 use Rattle.sg_plan.specs.declared.plan.Plan.{Plan}
@@ -21,9 +23,11 @@ use Rattle.sg_unaltered.specs.UnalteredHistories.{IsUnalteredHistory}
 use Rattle.sg_parts.specs.Given.{printing_line}
 use Rattle.sg_recount.specs.declared.findings.Findings.{Findings}
 use Rattle.sg_recount.specs.declared.findings.Sum.{Sum}
+use Rattle.sg_driver.specs.Says.{ReadFails}
+use Rattle.sg_reports.specs.court.Heard.{TookUnsettled}
 use Rattle.sg_reports.specs.court.Odds.{OddsDue}
 use Rattle.sg_reports.specs.court.Recounts.{RecountDue, findings_text}
-use Rattle.sg_reports.specs.court.Says.{OddsSays, ReadFails, RecountSays}
+use Rattle.sg_reports.specs.court.Says.{OddsSays, RecountSays}
 use Rattle.sg_reports.specs.court.Texts.{numbers_line}
 
 -- WHAT IS HANDED OVER
@@ -60,19 +64,19 @@ clear_exponents plan = each (λ race. numbers_line (codes "exponent") (race ∷ 
 
 -- THE LAW
 
--- of this input this text is due, with status 0, and nothing else: above all no fault
-pub record IsDueAlone (Due : List (List ℕ) → ℕ → List ℕ → Type 0) (input clear : List ℕ) : Type 0 where
-  pub due : Due (lines_of input) 0 clear
-  pub only : (status : ℕ) (text : List ℕ) → Due (lines_of input) status text → (status ≡ 0) × (text ≡ clear)
+-- of this input this text is due, with the work done, and nothing else: above all no fault
+pub record IsDueAlone (Due : List (List ℕ) → Outcome → List ℕ → Type 0) (input clear : List ℕ) : Type 0 where
+  pub due : Due (lines_of input) Done clear
+  pub only : (outcome : Outcome) (text : List ℕ) → Due (lines_of input) outcome text → (outcome ≡ Done) × (text ≡ clear)
 
--- this text was written, with status 0; or the command ended with 3, 4 or 9, for a fault of the input or of the output or
--- for want of memory, and wrote at most a front of it: there is no other
-abbrev pub Clears : List ℕ → ℕ → Seen → Seen → Seen → Seen → Type 0
-Clears clear status input input' out out' =
-    ((status ≡ 0) × Appends out.bytes out'.bytes clear)
-    ⊎ ((status ≡ 3) × ReadFails input input' out out')
-    ⊎ ((status ≡ 4) × Rose out.faults out'.faults × AppendsFront out.bytes out'.bytes clear)
-    ⊎ ((status ≡ 9) × (out' ≡ out))
+-- the work was done, and this text was written; or a read or a write failed or memory was wanted, and at most a front of it
+-- was: there is no other end
+abbrev pub Clears : List ℕ → Outcome → Seen → Seen → Seen → Seen → Type 0
+Clears clear Done input input' out out' = Appends out.bytes out'.bytes clear
+Clears clear ReadFailed input input' out out' = ReadFails TookUnsettled input input' out out'
+Clears clear WriteFailed input input' out out' = Rose out.faults out'.faults × AppendsFront out.bytes out'.bytes clear
+Clears clear NoMemory input input' out out' = out' ≡ out
+Clears clear _ input input' out out' = ⊥
 
 -- what is due of what an unaltered history hands over: no row is altered, each total equals its count, and each exponent is
 -- 0. In both versions, for a full draw and public bytes, whatever was voided, disputed or audited.
@@ -84,10 +88,10 @@ abbrev pub HonestIsClear : Type 0
 HonestIsClear = (setup : Setup) (history : List Entry) → fault_of setup.plan ≡ None → IsUnalteredHistory setup history → IsClear setup history
 
 -- so both commands, where their input is that, say so
-pub record IsCleared (setup : Setup) (history : List Entry) (status : ℕ) (input input' out out' : Seen) : Type 0 where
-  pub recount : RecountSays status input input' out out' → Clears (clear_counts setup history) status input input' out out'
-  pub odds : OddsSays status input input' out out' → Clears (clear_exponents setup.plan) status input input' out out'
+pub record IsCleared (setup : Setup) (history : List Entry) (outcome : Outcome) (input input' out out' : Seen) : Type 0 where
+  pub recount : RecountSays outcome input input' out out' → Clears (clear_counts setup history) outcome input input' out out'
+  pub odds : OddsSays outcome input input' out out' → Clears (clear_exponents setup.plan) outcome input input' out out'
 
 abbrev pub HonestIsCleared : Type 0
 HonestIsCleared = (setup : Setup) (history : List Entry) → fault_of setup.plan ≡ None → IsUnalteredHistory setup history
-    → (status : ℕ) (input input' out out' : Seen) → input.bytes ≡ Some (handed_of setup history) → IsCleared setup history status input input' out out'
+    → (outcome : Outcome) (input input' out out' : Seen) → input.bytes ≡ Some (handed_of setup history) → IsCleared setup history outcome input input' out out'

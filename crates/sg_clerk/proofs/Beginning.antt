@@ -1,12 +1,14 @@
 -- How `init` ends, from what was read, kept and written.
-use Rattle.std.proofs.Common.{◌≡◌, ◌≢◌, ℕ, ◌+◌, ◌≤◌, List, [], length, inl, inr, Bool, true, false, cond, refl, ap, subst, ◌∙◌, arith}
+use Rattle.std.proofs.Common.{◌≡◌, ◌≢◌, ℕ, ◌≤◌, List, [], length, inl, inr, Bool, true, false, cond, refl, ap, subst, ◌∙◌, arith}
 use Rattle.std.specs.Prelude.{◌&&◌, nat_le, is_some, Option, None, Some, Result, Ok, Err, IfSome}
 use Rattle.std.specs.Io.KnownBytes.{Consumes, IsAtEnd}
 use Rattle.std.proofs.lemmas.Bool.{and_parts, leb-true}
 use Rattle.serde_json.specs.Data.{Data}
 use Rattle.sg_outside.specs.Streams.{Seen}
+use Rattle.sg_outside.specs.declared.outcome.Outcome.{Outcome}
+use Rattle.sg_outside.specs.declared.outcome.Outcome.TheVariants as outcome
 use Rattle.sg_outside.proofs.StreamLemmas.{Consumes-nil, Rose-later}
-use Rattle.sg_plan.specs.Limits.{fault_of, longest_election}
+use Rattle.sg_plan.specs.Limits.{fault_of}
 use Rattle.sg_plan.specs.declared.limits.PlanFault.{PlanFault}
 use Rattle.sg_keeper.specs.Rows.{with_setup}
 use Rattle.sg_keeper.specs.SetupText.{IsSetup, setup_text}
@@ -16,12 +18,10 @@ use Rattle.sg_asks.specs.ElectionFile.{file_in, setup_in, with_json, with_plan, 
 use Rattle.sg_asks.specs.Json.{json_of}
 use Rattle.sg_asks.specs.declared.setups.SetupFault.{SetupFault}
 use Rattle.sg_asks.specs.declared.setups.SetupFault.TheVariants as fault
-use Rattle.sg_clerk.specs.Begun.{InitSays, IsBadFile, IsBegun, IsCause, IsCut, IsFileOf, IsSetUp, StatusSays}
+use Rattle.sg_clerk.specs.Begun.{InitEnds, IsBadFile, IsBegun, IsCause, IsCut, IsFileOf, IsSetUp}
 use Rattle.sg_clerk.specs.Taken.{TookAtMost}
-use Rattle.sg_clerk.specs.inside.Beginning.{AddsSetup, InitEnds, IsAdded, IsFile, IsHad, KeepsSetup, ReadsFile, Refuses, SetsUp, Tells, begun_status}
+use Rattle.sg_clerk.specs.inside.Beginning.{AddsSetup, IsAdded, IsFile, IsHad, KeepsSetup, ReadsFile, Refuses, SetsUp, Tells}
 use Rattle.sg_clerk.proofs.Hearing.{told_all}
-use Rattle.sg_clerk.specs.declared.begun.Begun.{Begun}
-use Rattle.sg_clerk.specs.declared.begun.Begun.TheVariants as begun
 use Rattle.sg_clerk.specs.declared.begun.File.{File}
 use Rattle.sg_clerk.specs.declared.begun.File.TheVariants as file
 use Rattle.sg_clerk.specs.declared.begun.Keeping.{Keeping}
@@ -117,44 +117,37 @@ adds_keeps keeping.Fault setup tells still rows middle rows' faults mid faults' 
 adds_keeps keeping.NoMemory setup tells still rows middle rows' faults mid faults' told same later none adds = λ was. adds (told was) ∙ same was
 
 -- it is kept
-pub tells_sets : (ending : Begun) (setup : Setup) (tells : Type 0) (rows rows' : Rows) (faults faults' : ℕ) (out out' : Seen)
-    → (tells → IsAdded setup rows rows') → Tells ending out out' → SetsUp ending setup tells rows rows' faults faults' out out'
-tells_sets begun.Done setup tells rows rows' faults faults' out out' added told = (added, told)
-tells_sets begun.WriteFault setup tells rows rows' faults faults' out out' added told = inl (added, told)
-tells_sets begun.ReadFault setup tells rows rows' faults faults' out out' added told = absurd told
-tells_sets begun.KeepFault setup tells rows rows' faults faults' out out' added told = absurd told
-tells_sets begun.Refused setup tells rows rows' faults faults' out out' added told = absurd told
-tells_sets begun.NoMemory setup tells rows rows' faults faults' out out' added told = absurd told
+pub tells_sets : (how : Outcome) (setup : Setup) (tells : Type 0) (rows rows' : Rows) (faults faults' : ℕ) (out out' : Seen)
+    → (tells → IsAdded setup rows rows') → Tells how out out' → SetsUp how setup tells rows rows' faults faults' out out'
+tells_sets outcome.Done setup tells rows rows' faults faults' out out' added told = (added, told)
+tells_sets outcome.WriteFailed setup tells rows rows' faults faults' out out' added told = inl (added, told)
+tells_sets _ setup tells rows rows' faults faults' out out' added told = absurd told
 
 -- another one was
-pub refused_sets : (ending : Begun) (setup : Setup) (tells : Type 0) (rows rows' : Rows) (faults faults' : ℕ) (out out' : Seen)
-    → (tells → IsHad rows rows') → Refuses ending refusal.Begun out out' → SetsUp ending setup tells rows rows' faults faults' out out'
-refused_sets begun.Refused setup tells rows rows' faults faults' out out' had told = (had, told)
-refused_sets begun.WriteFault setup tells rows rows' faults faults' out out' had told = inr (had, told)
-refused_sets begun.NoMemory setup tells rows rows' faults faults' out out' had told = (λ t. (had t).1, told)
-refused_sets begun.Done setup tells rows rows' faults faults' out out' had told = absurd told
-refused_sets begun.ReadFault setup tells rows rows' faults faults' out out' had told = absurd told
-refused_sets begun.KeepFault setup tells rows rows' faults faults' out out' had told = absurd told
+pub refused_sets : (how : Outcome) (setup : Setup) (tells : Type 0) (rows rows' : Rows) (faults faults' : ℕ) (out out' : Seen)
+    → (tells → IsHad rows rows') → Refuses how refusal.Begun out out' → SetsUp how setup tells rows rows' faults faults' out out'
+refused_sets outcome.Refused setup tells rows rows' faults faults' out out' had told = (had, told)
+refused_sets outcome.WriteFailed setup tells rows rows' faults faults' out out' had told = inr (had, told)
+refused_sets outcome.NoMemory setup tells rows rows' faults faults' out out' had told = (λ t. (had t).1, told)
+refused_sets _ setup tells rows rows' faults faults' out out' had told = absurd told
 
 -- ENDINGS
 
 -- a file that is refused
-pub bad_ends : (ending : Begun) (why : Refusal) (input input' : Seen) (tells : Type 0) (rows rows' : Rows) (faults faults' : ℕ) (out out' : Seen)
-    → rows' ≡ rows → ReadsFile (file.Bad why) input input' → Refuses ending why out out' → InitEnds ending input input' tells rows rows' faults faults' out out'
-bad_ends begun.Done why input input' tells rows rows' faults faults' out out' same bad ends = absurd ends
-bad_ends begun.ReadFault why input input' tells rows rows' faults faults' out out' same bad ends = absurd ends
-bad_ends begun.KeepFault why input input' tells rows rows' faults faults' out out' same bad ends = absurd ends
-bad_ends begun.WriteFault why input input' tells rows rows' faults faults' out out' same bad ends = record {
+pub bad_ends : (how : Outcome) (why : Refusal) (input input' : Seen) (tells : Type 0) (rows rows' : Rows) (faults faults' : ℕ) (out out' : Seen)
+    → rows' ≡ rows → ReadsFile (file.Bad why) input input' → Refuses how why out out' → InitEnds how input input' tells rows rows' faults faults' out out'
+bad_ends outcome.WriteFailed why input input' tells rows rows' faults faults' out out' same bad ends = record {
   cause = ends.0;
   cut = IsCut.Refusing why (record { file = bad.1; begun = λ told. not_begun why rows bad.0 }) (λ told. same) ends.1;
 }
-bad_ends begun.Refused why input input' tells rows rows' faults faults' out out' same bad ends = record {
+bad_ends outcome.Refused why input input' tells rows rows' faults faults' out out' same bad ends = record {
   why = why;
   cause = record { file = bad.1; begun = λ told. not_begun why rows bad.0 };
   same = λ told. same;
   written = ends;
 }
-bad_ends begun.NoMemory why input input' tells rows rows' faults faults' out out' same bad ends = record { same = λ told. same; quiet = ends }
+bad_ends outcome.NoMemory why input input' tells rows rows' faults faults' out out' same bad ends = record { same = λ told. same; quiet = ends }
+bad_ends _ why input input' tells rows rows' faults faults' out out' same bad ends = absurd ends
 
 -- the one that is kept is that of the file
 is_set_up : (setup : Setup) (known : Option (List ℕ)) (tells : Type 0) (rows rows' : Rows) → IfSome known (IsFileOf setup) → (tells → IsAdded setup rows rows')
@@ -171,47 +164,28 @@ had_before setup known tells rows rows' read had = record { file = good known re
     good (Some bytes) is = (setup, is)
 
 -- a file that was read
-pub good_ends : (ending : Begun) (setup : Setup) (input input' : Seen) (tells : Type 0) (rows rows' : Rows) (faults faults' : ℕ) (out out' : Seen)
-    → ReadsFile (file.Setup setup) input input' → SetsUp ending setup tells rows rows' faults faults' out out' → InitEnds ending input input' tells rows rows' faults faults' out out'
-good_ends begun.Done setup input input' tells rows rows' faults faults' out out' read sets =
+pub good_ends : (how : Outcome) (setup : Setup) (input input' : Seen) (tells : Type 0) (rows rows' : Rows) (faults faults' : ℕ) (out out' : Seen)
+    → ReadsFile (file.Setup setup) input input' → SetsUp how setup tells rows rows' faults faults' out out' → InitEnds how input input' tells rows rows' faults faults' out out'
+good_ends outcome.Done setup input input' tells rows rows' faults faults' out out' read sets =
     record { set_up = is_set_up setup input.bytes tells rows rows' read.0.1 sets.0; read = read.1; written = sets.1 }
-good_ends begun.ReadFault setup input input' tells rows rows' faults faults' out out' read sets = absurd sets
-good_ends begun.WriteFault setup input input' tells rows rows' faults faults' out out' read (inl sets) = record {
+good_ends outcome.WriteFailed setup input input' tells rows rows' faults faults' out out' read (inl sets) = record {
   cause = sets.1.0;
   cut = IsCut.Beginning (is_set_up setup input.bytes tells rows rows' read.0.1 sets.0) sets.1.1;
 }
-good_ends begun.WriteFault setup input input' tells rows rows' faults faults' out out' read (inr sets) = record {
+good_ends outcome.WriteFailed setup input input' tells rows rows' faults faults' out out' read (inr sets) = record {
   cause = sets.1.0;
   cut = IsCut.Refusing refusal.Begun (had_before setup input.bytes tells rows rows' read.0.1 sets.0) (λ told. (sets.0 told).1) sets.1.1;
 }
-good_ends begun.KeepFault setup input input' tells rows rows' faults faults' out out' read sets = record { cause = sets.0; same = sets.1; quiet = sets.2 }
-good_ends begun.Refused setup input input' tells rows rows' faults faults' out out' read sets = record {
+good_ends outcome.KeeperFailed setup input input' tells rows rows' faults faults' out out' read sets = record { cause = sets.0; same = sets.1; quiet = sets.2 }
+good_ends outcome.Refused setup input input' tells rows rows' faults faults' out out' read sets = record {
   why = refusal.Begun;
   cause = had_before setup input.bytes tells rows rows' read.0.1 sets.0;
   same = λ told. (sets.0 told).1;
   written = sets.1;
 }
-good_ends begun.NoMemory setup input input' tells rows rows' faults faults' out out' read sets = record { same = sets.0; quiet = sets.1 }
+good_ends outcome.NoMemory setup input input' tells rows rows' faults faults' out out' read sets = record { same = sets.0; quiet = sets.1 }
+good_ends _ setup input input' tells rows rows' faults faults' out out' read sets = absurd sets
 
 -- nothing was taken of an input
 pub took_nothing : (limit : ℕ) (known : Option (List ℕ)) → TookAtMost limit known known
 took_nothing limit known = record { bytes = []; taken = Consumes-nil known; few = omega arith }
-
--- STATUSES
-
--- what the status of an ending says
-status_says : (ending : Begun) (input input' : Seen) (tells : Type 0) (rows rows' : Rows) (faults faults' : ℕ) (out out' : Seen)
-    → InitEnds ending input input' tells rows rows' faults faults' out out' → StatusSays (begun_status ending) input input' tells rows rows' faults faults' out out'
-status_says begun.Done input input' tells rows rows' faults faults' out out' ends = inl (refl, ends)
-status_says begun.ReadFault input input' tells rows rows' faults faults' out out' ends = inr (inl (refl, ends))
-status_says begun.WriteFault input input' tells rows rows' faults faults' out out' ends = inr (inr (inl (refl, ends)))
-status_says begun.KeepFault input input' tells rows rows' faults faults' out out' ends = inr (inr (inr (inl (refl, ends))))
-status_says begun.Refused input input' tells rows rows' faults faults' out out' ends = inr (inr (inr (inr (inl (refl, ends)))))
-status_says begun.NoMemory input input' tells rows rows' faults faults' out out' ends = inr (inr (inr (inr (inr (refl, ends)))))
-
--- and of how much was taken of the input
-pub init_says : (ending : Begun) (input input' : Seen) (tells : Type 0) (rows rows' : Rows) (faults faults' : ℕ) (out out' : Seen)
-    → TookAtMost (longest_election + 1) input.bytes input'.bytes → InitEnds ending input input' tells rows rows' faults faults' out out'
-    → InitSays (begun_status ending) input input' tells rows rows' faults faults' out out'
-init_says ending input input' tells rows rows' faults faults' out out' took ends =
-    record { took = took; says = status_says ending input input' tells rows rows' faults faults' out out' ends }

@@ -1,6 +1,8 @@
 -- What `record` writes of told rows only grows, with each command.
 use Rattle.std.proofs.Common.{◌≡◌, ℕ, List, [], ◌++◌, Option, Some, None, inl, inr, refl, ap, sym, subst, ◌∙◌, append-nil}
 use Rattle.sg_outside.specs.Streams.{Seen}
+use Rattle.sg_outside.specs.declared.outcome.Outcome.{Outcome}
+use Rattle.sg_outside.specs.declared.outcome.Outcome.TheVariants as outcome
 use Rattle.sg_keeper.specs.SetupReading.{setup_in}
 use Rattle.sg_keeper.specs.declared.rows.Rows.{Rows}
 use Rattle.sg_keeper.specs.declared.setup.Setup.{Setup}
@@ -15,7 +17,7 @@ use Rattle.sg_histories.proofs.BackAll.{setup_kept}
 use Rattle.sg_histories.proofs.Opening.{lawful_rows_open, open_rows_are_lawful}
 use Rattle.sg_keeper.specs.SetupText.{setup_text}
 use Rattle.sg_clerk.specs.Asked.{DoSays}
-use Rattle.sg_clerk.specs.Begun.{Beginning, InitSays, IsCut, Refusing, StatusSays}
+use Rattle.sg_clerk.specs.Begun.{Beginning, InitEnds, InitSays, IsCut, Refusing}
 use Rattle.sg_clerk.specs.Does.{LineTalk, LinesEnd}
 use Rattle.sg_clerk.specs.Ends.{Moment}
 use Rattle.sg_clerk.specs.Laws.{KeepsPosted, KeepsRecord, PostedGrows}
@@ -85,33 +87,34 @@ none_grows rows rows' none setup opens = absurd (empty_is (ap (λ (t : Option (L
     empty_is e = cc
 
 -- a talk of the kept office
-pub talks_grow : {X : Type 0} (Talk : Setup → List X → List Entry → List Entry → Type 0) (stores : List X → ℕ) (Ends : Ending → Setup → List X → Type 0) (status : ℕ) (tells : Type 0) (rows rows' : Rows) (faults faults' : ℕ)
+pub talks_grow : {X : Type 0} (Talk : Setup → List X → List Entry → List Entry → Type 0) (stores : List X → ℕ) (Ends : Ending → Setup → List X → Type 0) (result : Outcome) (tells : Type 0) (rows rows' : Rows) (faults faults' : ℕ)
     → ((setup : Setup) (exchanges : List X) (history next : List Entry) → Lawful setup history → Talk setup exchanges history next → KeepsRecord setup history next)
-    → Talks Talk stores Ends status tells rows rows' faults faults' → tells → KeepsPosted rows rows'
-talks_grow Talk stores Ends status tells rows rows' faults faults' keeps talks told =
+    → Talks Talk stores Ends result tells rows rows' faults faults' → tells → KeepsPosted rows rows'
+talks_grow Talk stores Ends result tells rows rows' faults faults' keeps talks told =
     let from = talks.from told in
     let does = talks.does in
     talk_grows talks.setup talks.start does.next rows rows' (talks.whole told) talks.lawful from.0 from.1 (does.keeper.kept told from.0 from.1)
     (keeps talks.setup does.exchanges talks.start does.next talks.lawful does.talk)
 
 -- `do`
-pub do_grows : (status : ℕ) (tells : Type 0) (rows rows' : Rows) (before now : Moment) → DoSays status tells rows rows' before now → tells → KeepsPosted rows rows'
-do_grows status tells rows rows' before now (inl talks) told =
-    talks_grow LineTalk stores_in (LinesEnd before now) status tells rows rows' before.keep_faults now.keep_faults talks_keep_record talks told
-do_grows status tells rows rows' before now (inr closed) told = same_grows rows rows' (closed.same told)
+pub do_grows : (result : Outcome) (tells : Type 0) (rows rows' : Rows) (before now : Moment) → DoSays result tells rows rows' before now → tells → KeepsPosted rows rows'
+do_grows result tells rows rows' before now (inl talks) told =
+    talks_grow LineTalk stores_in (LinesEnd before now) result tells rows rows' before.keep_faults now.keep_faults talks_keep_record talks told
+do_grows result tells rows rows' before now (inr closed) told = same_grows rows rows' (closed.same told)
 
 -- `init`
-pub init_grows : (status : ℕ) (input input' : Seen) (tells : Type 0) (rows rows' : Rows) (faults faults' : ℕ) (out out' : Seen) → InitSays status input input' tells rows rows' faults faults' out out' → tells → KeepsPosted rows rows'
-init_grows status input input' tells rows rows' faults faults' out out' ended told = by_status ended.says
+pub init_grows : (result : Outcome) (input input' : Seen) (tells : Type 0) (rows rows' : Rows) (faults faults' : ℕ) (out out' : Seen) → InitSays result input input' tells rows rows' faults faults' out out' → tells → KeepsPosted rows rows'
+init_grows result input input' tells rows rows' faults faults' out out' ended told = by_end result ended.says
   where
     by_line : IsCut input tells rows rows' out out' → KeepsPosted rows rows'
     by_line (Beginning set_up front) = none_grows rows rows' (set_up.fresh told)
     by_line (Refusing why cause same front) = same_grows rows rows' (same told)
 
-    by_status : StatusSays status input input' tells rows rows' faults faults' out out' → KeepsPosted rows rows'
-    by_status (inl says) = none_grows rows rows' (says.1.set_up.fresh told)
-    by_status (inr (inl says)) = same_grows rows rows' (says.1.same told)
-    by_status (inr (inr (inl says))) = by_line says.1.cut
-    by_status (inr (inr (inr (inl says)))) = same_grows rows rows' (says.1.same told)
-    by_status (inr (inr (inr (inr (inl says))))) = same_grows rows rows' (says.1.same told)
-    by_status (inr (inr (inr (inr (inr says))))) = same_grows rows rows' (says.1.same told)
+    by_end : (how : Outcome) → InitEnds how input input' tells rows rows' faults faults' out out' → KeepsPosted rows rows'
+    by_end outcome.Done ends = none_grows rows rows' (ends.set_up.fresh told)
+    by_end outcome.ReadFailed ends = same_grows rows rows' (ends.same told)
+    by_end outcome.WriteFailed ends = by_line ends.cut
+    by_end outcome.KeeperFailed ends = same_grows rows rows' (ends.same told)
+    by_end outcome.Refused ends = same_grows rows rows' (ends.same told)
+    by_end outcome.NoMemory ends = same_grows rows rows' (ends.same told)
+    by_end _ ends = absurd ends

@@ -1,7 +1,8 @@
 -- How a command that shows what is kept ends, from what was opened and what was written.
 use Rattle.std.proofs.Common.{◌≡◌, ℕ, List, inl, inr, refl, sym, ap, ◌∙◌, subst}
-use Rattle.std.specs.Io.KnownBytes.{Appends}
 use Rattle.sg_outside.specs.Streams.{AppendsFront, Seen}
+use Rattle.sg_outside.specs.declared.outcome.Outcome.{Outcome}
+use Rattle.sg_outside.specs.declared.outcome.Outcome.TheVariants as outcome
 use Rattle.sg_keeper.specs.declared.rows.Rows.{Rows}
 use Rattle.sg_keeper.specs.declared.setup.Setup.{Setup}
 use Rattle.sg_post.specs.Posted.{posted_text}
@@ -14,12 +15,8 @@ use Rattle.sg_histories.specs.ValidRows.{Damaged, Empty, Opens, opening}
 use Rattle.sg_histories.specs.declared.kept.Kept.{Kept}
 use Rattle.sg_clerk.specs.Sheet.{sheet_of, sheet_text}
 use Rattle.sg_clerk.specs.Shown.{IsDue, IsDueOf, ShowSays, WritesFront, damaged_line, empty_line, posted_of}
-use Rattle.sg_clerk.specs.Opening.{ClosedEnds, IsClosedFor, IsOpen, IsTextOf, OfficeEnds, ShowEnds, TellsWhy, WritesPart, WritesWhole, shown_status}
-use Rattle.sg_clerk.specs.Talks.{IsCutLine, NoOffice, NoSetup}
-use Rattle.sg_clerk.specs.declared.opened.Closed.{Closed}
-use Rattle.sg_clerk.specs.declared.opened.Closed.TheVariants as closed
-use Rattle.sg_clerk.specs.declared.shown.Shown.{Shown}
-use Rattle.sg_clerk.specs.declared.shown.Shown.TheVariants as shown
+use Rattle.sg_clerk.specs.Opening.{IsOpen, IsTextOf, OfficeEnds, WritesPart}
+use Rattle.sg_clerk.specs.Talks.{ClosedSays, IsCutLine, NoOffice, NoSetup}
 
 -- WHAT IS POSTED
 
@@ -51,11 +48,6 @@ pub sheet_part : (kept : Kept) (tables : MadeFrom) (out out' : Seen) → tables 
     → AppendsFront out.bytes out'.bytes (sheet_text tables.plan tables.seed) → WritesPart sheet_of kept out out'
 sheet_part kept tables out out' same written = record { text = sheet_text tables.plan tables.seed; is = sheet_is kept tables same; written = written }
 
--- all of it was
-pub sheet_whole : (kept : Kept) (tables : MadeFrom) (out out' : Seen) → tables ≡ record { plan = kept.setup.plan; seed = kept.setup.seed.0 }
-    → Appends out.bytes out'.bytes (sheet_text tables.plan tables.seed) → WritesWhole sheet_of kept out out'
-sheet_whole kept tables out out' same written = record { text = sheet_text tables.plan tables.seed; is = sheet_is kept tables same; written = written }
-
 -- ENDINGS
 
 -- what is due of rows that open so
@@ -80,39 +72,19 @@ due_front due_of kept tells rows out out' opens part = record {
 }
 
 -- behind an office that was opened
-pub office_shows : (due_of : Setup → List Entry → List ℕ) (ending : Shown) (kept : Kept) (tells : Type 0) (rows : Rows) (faults faults' : ℕ) (out out' : Seen)
-    → (tells → IsOpen kept rows) → OfficeEnds due_of ending kept out out' → ShowEnds due_of ending tells rows faults faults' out out'
-office_shows due_of shown.Done kept tells rows faults faults' out out' opens ends = record {
+pub office_shows : (due_of : Setup → List Entry → List ℕ) (how : Outcome) (kept : Kept) (tells : Type 0) (rows : Rows) (faults faults' : ℕ) (out out' : Seen)
+    → (tells → IsOpen kept rows) → OfficeEnds due_of how kept out out' → ShowSays due_of how tells rows faults faults' out out'
+office_shows due_of outcome.Done kept tells rows faults faults' out out' opens ends = record {
   due = ends.text;
   whole = λ told. (kept.setup, (opens told).whole);
   is_due = due_whole due_of kept tells rows ends.text opens ends.is;
   written = ends.written;
 }
-office_shows due_of shown.WriteFault kept tells rows faults faults' out out' opens ends =
+office_shows due_of outcome.WriteFailed kept tells rows faults faults' out out' opens ends =
     record { cause = ends.0; front = due_front due_of kept tells rows out out' opens ends.1 }
-office_shows due_of shown.LoadFault kept tells rows faults faults' out out' opens ends = absurd ends
-office_shows due_of shown.Empty kept tells rows faults faults' out out' opens ends = absurd ends
-office_shows due_of shown.Damaged kept tells rows faults faults' out out' opens ends = absurd ends
-office_shows due_of shown.NoMemory kept tells rows faults faults' out out' opens (inl same) = inl same
-office_shows due_of shown.NoMemory kept tells rows faults faults' out out' opens (inr part) = inr (due_front due_of kept tells rows out out' opens part)
-
--- what was written where no office was opened
-pub closed_ends : (why : Closed) (how : Shown) (tells : Type 0) (rows : Rows) (faults faults' : ℕ) (out out' : Seen) → IsClosedFor why tells rows faults faults' → TellsWhy why how out out'
-    → ClosedEnds how tells rows faults faults' out out'
-closed_ends closed.LoadFault how tells rows faults faults' out out' rose told =
-    subst (λ (h : Shown). ClosedEnds h tells rows faults faults' out out') (sym told.0) (record { cause = rose; same = told.1 })
-closed_ends closed.Empty how tells rows faults faults' out out' empty (inl line) =
-    subst (λ (h : Shown). ClosedEnds h tells rows faults faults' out out') (sym line.0) (record { empty = empty; written = line.1 })
-closed_ends closed.Empty how tells rows faults faults' out out' empty (inr (inl front)) =
-    subst (λ (h : Shown). ClosedEnds h tells rows faults faults' out out') (sym front.0) (record { cause = front.1; cut = IsCutLine.NoSetup empty front.2 })
-closed_ends closed.Empty how tells rows faults faults' out out' empty (inr (inr none)) = subst (λ (h : Shown). ClosedEnds h tells rows faults faults' out out') (sym none.0) none.1
-closed_ends (closed.Damaged table row) how tells rows faults faults' out out' damage (inl line) =
-    subst (λ (h : Shown). ClosedEnds h tells rows faults faults' out out') (sym line.0) (record { table = table; row = row; damage = damage; written = line.1 })
-closed_ends (closed.Damaged table row) how tells rows faults faults' out out' damage (inr (inl front)) =
-    subst (λ (h : Shown). ClosedEnds h tells rows faults faults' out out') (sym front.0) (record { cause = front.1; cut = IsCutLine.NoOffice table row damage front.2 })
-closed_ends (closed.Damaged table row) how tells rows faults faults' out out' damage (inr (inr none)) =
-    subst (λ (h : Shown). ClosedEnds h tells rows faults faults' out out') (sym none.0) none.1
-closed_ends closed.NoMemory how tells rows faults faults' out out' is told = subst (λ (h : Shown). ClosedEnds h tells rows faults faults' out out') (sym told.0) told.1
+office_shows due_of outcome.NoMemory kept tells rows faults faults' out out' opens (inl same) = inl same
+office_shows due_of outcome.NoMemory kept tells rows faults faults' out out' opens (inr part) = inr (due_front due_of kept tells rows out out' opens part)
+office_shows due_of _ kept tells rows faults faults' out out' opens ends = absurd ends
 
 -- a front of the line that is due was written
 line_front : (due_of : Setup → List Entry → List ℕ) (tells : Type 0) (rows : Rows) (out out' : Seen) → IsCutLine tells rows out out' → WritesFront due_of tells rows out out'
@@ -122,23 +94,11 @@ line_front due_of tells rows out out' (NoOffice table row damage written) =
     record { due = damaged_line table row; is_due = due_as due_of tells rows (Damaged table row) (damaged_line table row) damage (λ told. refl); written = written }
 
 -- behind rows that no office was opened of
-pub closed_shows : (due_of : Setup → List Entry → List ℕ) (ending : Shown) (tells : Type 0) (rows : Rows) (faults faults' : ℕ) (out out' : Seen)
-    → ClosedEnds ending tells rows faults faults' out out' → ShowEnds due_of ending tells rows faults faults' out out'
-closed_shows due_of shown.Done tells rows faults faults' out out' ends = absurd ends
-closed_shows due_of shown.WriteFault tells rows faults faults' out out' ends = record { cause = ends.cause; front = line_front due_of tells rows out out' ends.cut }
-closed_shows due_of shown.LoadFault tells rows faults faults' out out' ends = ends
-closed_shows due_of shown.Empty tells rows faults faults' out out' ends = ends
-closed_shows due_of shown.Damaged tells rows faults faults' out out' ends = ends
-closed_shows due_of shown.NoMemory tells rows faults faults' out out' ends = inl ends
-
--- STATUSES
-
--- what the status of an ending says
-pub show_says : (due_of : Setup → List Entry → List ℕ) (ending : Shown) (tells : Type 0) (rows : Rows) (faults faults' : ℕ) (out out' : Seen)
-    → ShowEnds due_of ending tells rows faults faults' out out' → ShowSays due_of (shown_status ending) tells rows faults faults' out out'
-show_says due_of shown.Done tells rows faults faults' out out' ends = inl (refl, ends)
-show_says due_of shown.WriteFault tells rows faults faults' out out' ends = inr (inl (refl, ends))
-show_says due_of shown.LoadFault tells rows faults faults' out out' ends = inr (inr (inl (refl, ends)))
-show_says due_of shown.Empty tells rows faults faults' out out' ends = inr (inr (inr (inl (refl, ends))))
-show_says due_of shown.Damaged tells rows faults faults' out out' ends = inr (inr (inr (inr (inl (refl, ends)))))
-show_says due_of shown.NoMemory tells rows faults faults' out out' ends = inr (inr (inr (inr (inr (refl, ends)))))
+pub closed_shows : (due_of : Setup → List Entry → List ℕ) (how : Outcome) (tells : Type 0) (rows : Rows) (faults faults' : ℕ) (out out' : Seen)
+    → ClosedSays how tells rows faults faults' out out' → ShowSays due_of how tells rows faults faults' out out'
+closed_shows due_of outcome.WriteFailed tells rows faults faults' out out' says = record { cause = says.cause; front = line_front due_of tells rows out out' says.cut }
+closed_shows due_of outcome.KeeperFailed tells rows faults faults' out out' says = says
+closed_shows due_of outcome.Refused tells rows faults faults' out out' says = says
+closed_shows due_of outcome.Damaged tells rows faults faults' out out' says = says
+closed_shows due_of outcome.NoMemory tells rows faults faults' out out' says = inl says
+closed_shows due_of _ tells rows faults faults' out out' says = absurd says

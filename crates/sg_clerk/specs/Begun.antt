@@ -1,9 +1,11 @@
 -- How `init` ends (this project's command line).
-use Rattle.std.specs.Prelude.{◌≡◌, ℕ, ◌+◌, ◌<◌, ◌≤◌, ◌⊎◌, ◌++◌, ◌∷◌, [], List, length, codes, decimal, Option, None, Some, IfSome, Ok, Err}
+use Rattle.std.specs.Prelude.{◌≡◌, ℕ, ◌+◌, ◌<◌, ◌≤◌, ◌++◌, ◌∷◌, [], List, length, codes, decimal, Option, None, Some, IfSome, Ok, Err}
 use Rattle.std.specs.Io.KnownBytes.{Appends, IsAtEnd}
 use Rattle.sg_plan.specs.Limits.{longest_election}
 use Rattle.sg_outside.specs.Faults.{Rose}
 use Rattle.sg_outside.specs.Streams.{AppendsFront, Seen}
+use Rattle.sg_outside.specs.declared.outcome.Outcome.{Outcome}
+use Rattle.sg_outside.specs.declared.outcome.Outcome.TheVariants as outcome
 use Rattle.sg_plan.specs.declared.limits.PlanFault.{PlanFault}
 use Rattle.sg_plan.specs.declared.limits.PlanFault.TheVariants as plan
 use Rattle.sg_keeper.specs.Rows.{with_setup}
@@ -70,7 +72,7 @@ pub record IsCause (why : Refusal) (known : Option (List ℕ)) (tells : Type 0) 
   pub file : IfSome known (IsBadFile why)
   pub begun : tells → IsBegun why rows
 
--- WHAT EACH STATUS SAYS. `rows` and `rows'` are those of the keeper before and after.
+-- HOW IT ENDS. `rows` and `rows'` are those of the keeper before and after.
 
 -- the rows are as they were, where they are told
 abbrev pub AreSame : (tells : Type 0) → Rows → Rows → Type 0
@@ -83,13 +85,13 @@ pub record IsSetUp (known : Option (List ℕ)) (tells : Type 0) (rows rows' : Ro
   pub fresh : tells → rows.setup ≡ None
   pub kept : tells → rows' ≡ with_setup rows (setup_text setup)
 
--- 0: an office was set up, the whole input was read, and the line that says so was written
+-- an office was set up, the whole input was read, and the line that says so was written
 pub record Begins (input input' : Seen) (tells : Type 0) (rows rows' : Rows) (out out' : Seen) : Type 0 where
   pub set_up : IsSetUp input.bytes tells rows rows'
   pub read : IsAtEnd input'.bytes
   pub written : Appends out.bytes out'.bytes begun_line
 
--- 3: the input's count of faults rose; nothing was kept or written
+-- the input's count of faults rose; nothing was kept or written
 pub record ReadFails (input input' : Seen) (tells : Type 0) (rows rows' : Rows) (out out' : Seen) : Type 0 where
   pub cause : Rose input.faults input'.faults
   pub same : AreSame tells rows rows'
@@ -100,42 +102,41 @@ pub data IsCut (input : Seen) (tells : Type 0) (rows rows' : Rows) (out out' : S
   Beginning : IsSetUp input.bytes tells rows rows' → AppendsFront out.bytes out'.bytes begun_line → IsCut input tells rows rows' out out'
   Refusing : (why : Refusal) → IsCause why input.bytes tells rows → AreSame tells rows rows' → AppendsFront out.bytes out'.bytes (refusal_line why) → IsCut input tells rows rows' out out'
 
--- 4: the output's count of faults rose, and a front of the line that is due was written; the setup is kept only where that
--- is the line that says so
+-- the output's count of faults rose, and a front of the line that is due was written; the setup is kept only where that is
+-- the line that says so
 pub record WriteFails (input : Seen) (tells : Type 0) (rows rows' : Rows) (out out' : Seen) : Type 0 where
   pub cause : Rose out.faults out'.faults
   pub cut : IsCut input tells rows rows' out out'
 
--- 5: the keeper's count of faults rose; nothing was kept or written
+-- the keeper's count of faults rose; nothing was kept or written
 pub record KeeperFails (faults faults' : ℕ) (tells : Type 0) (rows rows' : Rows) (out out' : Seen) : Type 0 where
   pub cause : Rose faults faults'
   pub same : AreSame tells rows rows'
   pub quiet : out' ≡ out
 
--- 7: there is cause to refuse, nothing was kept, and the refusal's line was written
+-- there is cause to refuse, nothing was kept, and the refusal's line was written
 pub record IsRefused (input : Seen) (tells : Type 0) (rows rows' : Rows) (out out' : Seen) : Type 0 where
   pub why : Refusal
   pub cause : IsCause why input.bytes tells rows
   pub same : AreSame tells rows rows'
   pub written : Appends out.bytes out'.bytes (refusal_line why)
 
--- 9: memory was wanted; nothing was kept or written
+-- memory was wanted; nothing was kept or written
 pub record LacksMemory (tells : Type 0) (rows rows' : Rows) (out out' : Seen) : Type 0 where
   pub same : AreSame tells rows rows'
   pub quiet : out' ≡ out
 
--- what each status says: there is no other
-abbrev pub StatusSays : ℕ → Seen → Seen → (tells : Type 0) → Rows → Rows → ℕ → ℕ → Seen → Seen → Type 0
-StatusSays status input input' tells rows rows' faults faults' out out' =
-    ((status ≡ 0) × Begins input input' tells rows rows' out out')
-    ⊎ ((status ≡ 3) × ReadFails input input' tells rows rows' out out')
-    ⊎ ((status ≡ 4) × WriteFails input tells rows rows' out out')
-    ⊎ ((status ≡ 5) × KeeperFails faults faults' tells rows rows' out out')
-    ⊎ ((status ≡ 7) × IsRefused input tells rows rows' out out')
-    ⊎ ((status ≡ 9) × LacksMemory tells rows rows' out out')
+-- what was read, kept and written, by how it ended
+abbrev pub InitEnds : Outcome → Seen → Seen → (tells : Type 0) → Rows → Rows → ℕ → ℕ → Seen → Seen → Type 0
+InitEnds outcome.Done input input' tells rows rows' faults faults' out out' = Begins input input' tells rows rows' out out'
+InitEnds outcome.ReadFailed input input' tells rows rows' faults faults' out out' = ReadFails input input' tells rows rows' out out'
+InitEnds outcome.WriteFailed input input' tells rows rows' faults faults' out out' = WriteFails input tells rows rows' out out'
+InitEnds outcome.KeeperFailed input input' tells rows rows' faults faults' out out' = KeeperFails faults faults' tells rows rows' out out'
+InitEnds outcome.Refused input input' tells rows rows' faults faults' out out' = IsRefused input tells rows rows' out out'
+InitEnds outcome.NoMemory input input' tells rows rows' faults faults' out out' = LacksMemory tells rows rows' out out'
+InitEnds _ input input' tells rows rows' faults faults' out out' = ⊥
 
--- how `init` ended, by its status; and with each, of the input at most as many bytes were taken as an election file has, and
--- one more
-pub record InitSays (status : ℕ) (input input' : Seen) (tells : Type 0) (rows rows' : Rows) (faults faults' : ℕ) (out out' : Seen) : Type 0 where
+-- how `init` ended; and however it did, of the input at most as many bytes were taken as an election file has, and one more
+pub record InitSays (result : Outcome) (input input' : Seen) (tells : Type 0) (rows rows' : Rows) (faults faults' : ℕ) (out out' : Seen) : Type 0 where
   pub took : TookAtMost (longest_election + 1) input.bytes input'.bytes
-  pub says : StatusSays status input input' tells rows rows' faults faults' out out'
+  pub says : InitEnds result input input' tells rows rows' faults faults' out out'

@@ -4,6 +4,8 @@ use Rattle.std.specs.List.{concat}
 use Rattle.std.specs.Io.KnownBytes.{Appends}
 use Rattle.sg_outside.specs.Faults.{Rose}
 use Rattle.sg_outside.specs.Streams.{AppendsFront, Seen}
+use Rattle.sg_outside.specs.declared.outcome.Outcome.{Outcome}
+use Rattle.sg_outside.specs.declared.outcome.Outcome.TheVariants as outcome
 use Rattle.sg_talk.specs.declared.answered.Answered.{Answered}
 use Rattle.sg_talk.specs.Answers.{text_of_answer}
 use Rattle.sg_clerk.specs.declared.ended.Ending.{Ending}
@@ -28,17 +30,16 @@ input_at moment = record { bytes = moment.left; faults = moment.read_faults }
 abbrev pub out_at : Moment → Seen
 out_at moment = record { bytes = moment.written; faults = moment.write_faults }
 
--- THE STATUS
+-- THE OUTCOME
 
--- the status that the program ends with: 0, all was answered; 3, a read failed; 4, a write failed; 6, the links failed; 7, the
--- input is refused; 9, memory was wanted
-abbrev pub ending_status : Ending → ℕ
-ending_status ending.Done = 0
-ending_status ending.ReadFault = 3
-ending_status (ending.WriteFault due) = 4
-ending_status ending.LinkFault = 6
-ending_status (ending.Refused why) = 7
-ending_status ending.NoMemory = 9
+-- how a command ends whose talk ended so
+abbrev pub outcome_of : Ending → Outcome
+outcome_of ending.Done = outcome.Done
+outcome_of ending.ReadFault = outcome.ReadFailed
+outcome_of (ending.WriteFault due) = outcome.WriteFailed
+outcome_of ending.LinkFault = outcome.LinksFailed
+outcome_of (ending.Refused why) = outcome.Refused
+outcome_of ending.NoMemory = outcome.NoMemory
 
 -- what failed, where a talk ends for that: the count of faults rose of what is asked from, the input or the links; or that of the
 -- output

@@ -4,6 +4,8 @@ use Rattle.std.specs.Prelude.{◌≡◌, ℕ, ◌⊎◌, ◌++◌, ◌∷◌, []
 use Rattle.std.specs.Io.KnownBytes.{Appends}
 use Rattle.sg_outside.specs.Faults.{Rose}
 use Rattle.sg_outside.specs.Streams.{AppendsFront, Seen}
+use Rattle.sg_outside.specs.declared.outcome.Outcome.{Outcome}
+use Rattle.sg_outside.specs.declared.outcome.Outcome.TheVariants as outcome
 use Rattle.sg_keeper.specs.declared.rows.Rows.{Rows}
 use Rattle.sg_keeper.specs.declared.setup.Setup.{Setup}
 use Rattle.sg_post.specs.Posted.{posted_text}
@@ -39,9 +41,9 @@ IsDueOf shown rows (Whole setup) due = (text : List ℕ) (history : List Entry) 
 abbrev pub IsDue : (Setup → List Entry → List ℕ) → (tells : Type 0) → Rows → List ℕ → Type 0
 IsDue shown tells rows due = tells → IsDueOf shown rows (opening rows) due
 
--- WHAT EACH STATUS SAYS
+-- HOW IT ENDS
 
--- 0: where rows are told they are an office's, and what is shown of them was written whole
+-- where rows are told they are an office's, and what is shown of them was written whole
 pub record ShowsAll (shown : Setup → List Entry → List ℕ) (tells : Type 0) (rows : Rows) (out out' : Seen) : Type 0 where
   pub due : List ℕ
   pub whole : tells → (setup : Setup) × (opening rows ≡ Whole setup)
@@ -54,38 +56,38 @@ pub record WritesFront (shown : Setup → List Entry → List ℕ) (tells : Type
   pub is_due : IsDue shown tells rows due
   pub written : AppendsFront out.bytes out'.bytes due
 
--- 4: the output's count of faults rose, and a front of what is due was written
+-- the output's count of faults rose, and a front of what is due was written
 pub record CutsShort (shown : Setup → List Entry → List ℕ) (tells : Type 0) (rows : Rows) (out out' : Seen) : Type 0 where
   pub cause : Rose out.faults out'.faults
   pub front : WritesFront shown tells rows out out'
 
--- 5: the keeper's count of faults rose, and nothing was written
+-- the keeper's count of faults rose, and nothing was written
 pub record LoadFails (faults faults' : ℕ) (out out' : Seen) : Type 0 where
   pub cause : Rose faults faults'
   pub same : out' ≡ out
 
--- 7: no setup is kept where rows are told, and the line that says so was written
+-- no setup is kept where rows are told, and the line that says so was written
 pub record IsEmpty (tells : Type 0) (rows : Rows) (out out' : Seen) : Type 0 where
   pub empty : tells → opening rows ≡ Empty
   pub written : Appends out.bytes out'.bytes empty_line
 
--- 8: where rows are told they are no office's, and the line that names the first bad row was written
+-- where rows are told they are no office's, and the line that names the first bad row was written
 pub record IsDamaged (tells : Type 0) (rows : Rows) (out out' : Seen) : Type 0 where
   pub table : ℕ
   pub row : ℕ
   pub damage : tells → opening rows ≡ Damaged table row
   pub written : Appends out.bytes out'.bytes (damaged_line table row)
 
--- 9: memory was wanted; nothing was written, or a front of what is due
+-- memory was wanted; nothing was written, or a front of what is due
 abbrev pub LacksMemory : (Setup → List Entry → List ℕ) → (tells : Type 0) → Rows → Seen → Seen → Type 0
 LacksMemory shown tells rows out out' = (out' ≡ out) ⊎ WritesFront shown tells rows out out'
 
--- how such a command ended, by its status: there is no other
-abbrev pub ShowSays : (Setup → List Entry → List ℕ) → ℕ → (tells : Type 0) → Rows → ℕ → ℕ → Seen → Seen → Type 0
-ShowSays shown status tells rows faults faults' out out' =
-    ((status ≡ 0) × ShowsAll shown tells rows out out')
-    ⊎ ((status ≡ 4) × CutsShort shown tells rows out out')
-    ⊎ ((status ≡ 5) × LoadFails faults faults' out out')
-    ⊎ ((status ≡ 7) × IsEmpty tells rows out out')
-    ⊎ ((status ≡ 8) × IsDamaged tells rows out out')
-    ⊎ ((status ≡ 9) × LacksMemory shown tells rows out out')
+-- how such a command ended
+abbrev pub ShowSays : (Setup → List Entry → List ℕ) → Outcome → (tells : Type 0) → Rows → ℕ → ℕ → Seen → Seen → Type 0
+ShowSays shown outcome.Done tells rows faults faults' out out' = ShowsAll shown tells rows out out'
+ShowSays shown outcome.WriteFailed tells rows faults faults' out out' = CutsShort shown tells rows out out'
+ShowSays shown outcome.KeeperFailed tells rows faults faults' out out' = LoadFails faults faults' out out'
+ShowSays shown outcome.Refused tells rows faults faults' out out' = IsEmpty tells rows out out'
+ShowSays shown outcome.Damaged tells rows faults faults' out out' = IsDamaged tells rows out out'
+ShowSays shown outcome.NoMemory tells rows faults faults' out out' = LacksMemory shown tells rows out out'
+ShowSays shown _ tells rows faults faults' out out' = ⊥

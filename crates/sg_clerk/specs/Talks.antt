@@ -1,14 +1,16 @@
 -- How a command ends that opens the kept office and lets it talk: `do`, `scans` and `serve` (this project's command line).
-use Rattle.std.specs.Prelude.{◌≡◌, ℕ, ◌+◌, ◌-◌, ◌^◌, ◌<◌, ◌≤◌, ◌⊎◌, List}
+use Rattle.std.specs.Prelude.{◌≡◌, ℕ, ◌+◌, ◌-◌, ◌^◌, ◌<◌, ◌≤◌, List}
 use Rattle.sg_outside.specs.Faults.{Rose}
 use Rattle.sg_outside.specs.Streams.{AppendsFront, Seen}
+use Rattle.sg_outside.specs.declared.outcome.Outcome.{Outcome}
+use Rattle.sg_outside.specs.declared.outcome.Outcome.TheVariants as outcome
 use Rattle.sg_keeper.specs.declared.rows.Rows.{Rows}
 use Rattle.sg_keeper.specs.declared.setup.Setup.{Setup}
 use Rattle.sg_histories.specs.Histories.{Entry}
 use Rattle.sg_histories.specs.KeptRows.{rows_of}
 use Rattle.sg_histories.specs.Lawful.{Lawful}
 use Rattle.sg_histories.specs.ValidRows.{Damaged, Empty, Whole, opening}
-use Rattle.sg_clerk.specs.Ends.{ending_status}
+use Rattle.sg_clerk.specs.Ends.{outcome_of}
 use Rattle.sg_clerk.specs.Shown.{IsDamaged, IsEmpty, LoadFails, damaged_line, empty_line}
 use Rattle.sg_clerk.specs.declared.ended.Ending.{Ending}
 
@@ -31,13 +33,13 @@ pub record Talked {X : Type 0} (Talk : Setup → List X → List Entry → List 
   pub ends : Ends setup exchanges
 
 -- An office was opened, and talked from a lawful history of its setup on. Where the keeper tells its rows, they open to this
--- setup and are that history's, and the talk is also one from each other lawful history whose rows they are. The status is
--- that of how the talk ended.
+-- setup and are that history's, and the talk is also one from each other lawful history whose rows they are. The command
+-- ended as the talk did.
 pub record Talks {X : Type 0} (Talk : Setup → List X → List Entry → List Entry → Type 0) (stores : List X → ℕ) (Ends : Ending → Setup → List X → Type 0)
-    (status : ℕ) (tells : Type 0) (rows rows' : Rows) (faults faults' : ℕ) : Type 0 where
+    (result : Outcome) (tells : Type 0) (rows rows' : Rows) (faults faults' : ℕ) : Type 0 where
   pub setup : Setup
   pub how : Ending
-  pub status_is : status ≡ ending_status how
+  pub result_is : result ≡ outcome_of how
   pub start : List Entry
   pub lawful : Lawful setup start
   pub from : tells → (text : List ℕ) × (rows ≡ rows_of setup text start)
@@ -53,23 +55,23 @@ pub data IsCutLine (tells : Type 0) (rows : Rows) (out out' : Seen) : Type 0 whe
   NoSetup : (tells → opening rows ≡ Empty) → AppendsFront out.bytes out'.bytes empty_line → IsCutLine tells rows out out'
   NoOffice : (table row : ℕ) → (tells → opening rows ≡ Damaged table row) → AppendsFront out.bytes out'.bytes (damaged_line table row) → IsCutLine tells rows out out'
 
--- 4: the output's count of faults rose, and a front of the line that is due was written
+-- the output's count of faults rose, and a front of the line that is due was written
 pub record LineFails (tells : Type 0) (rows : Rows) (out out' : Seen) : Type 0 where
   pub cause : Rose out.faults out'.faults
   pub cut : IsCutLine tells rows out out'
 
--- the status, where no office was opened: with 5 the keeper's count of faults rose, with 7 no setup is kept, with 8 the rows
--- are no office's, with 4 a write of the line that says so failed, and with 9 memory was wanted and nothing was written
-abbrev pub ClosedSays : ℕ → (tells : Type 0) → Rows → ℕ → ℕ → Seen → Seen → Type 0
-ClosedSays status tells rows faults faults' out out' =
-    ((status ≡ 4) × LineFails tells rows out out')
-    ⊎ ((status ≡ 5) × LoadFails faults faults' out out')
-    ⊎ ((status ≡ 7) × IsEmpty tells rows out out')
-    ⊎ ((status ≡ 8) × IsDamaged tells rows out out')
-    ⊎ ((status ≡ 9) × (out' ≡ out))
+-- how a command ended that opened no office: the keeper failed, no setup is kept, or the rows are no office's; or a write of
+-- the line that says so failed; or memory was wanted, and nothing was written
+abbrev pub ClosedSays : Outcome → (tells : Type 0) → Rows → ℕ → ℕ → Seen → Seen → Type 0
+ClosedSays outcome.WriteFailed tells rows faults faults' out out' = LineFails tells rows out out'
+ClosedSays outcome.KeeperFailed tells rows faults faults' out out' = LoadFails faults faults' out out'
+ClosedSays outcome.Refused tells rows faults faults' out out' = IsEmpty tells rows out out'
+ClosedSays outcome.Damaged tells rows faults faults' out out' = IsDamaged tells rows out out'
+ClosedSays outcome.NoMemory tells rows faults faults' out out' = out' ≡ out
+ClosedSays _ tells rows faults faults' out out' = ⊥
 
 -- no office was opened: nothing was asked of it, and the rows are as they were, where they are told
-pub record StaysClosed (Unasked : Type 0) (status : ℕ) (tells : Type 0) (rows rows' : Rows) (faults faults' : ℕ) (out out' : Seen) : Type 0 where
+pub record StaysClosed (Unasked : Type 0) (result : Outcome) (tells : Type 0) (rows rows' : Rows) (faults faults' : ℕ) (out out' : Seen) : Type 0 where
   pub unasked : Unasked
   pub same : tells → rows' ≡ rows
-  pub says : ClosedSays status tells rows faults faults' out out'
+  pub says : ClosedSays result tells rows faults faults' out out'

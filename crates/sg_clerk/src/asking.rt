@@ -2,34 +2,32 @@
 ghost use Rattle.std.specs.Prelude.{◌≡◌, ◌≤◌};
 ghost use Rattle.sg_clerk.specs.Asked.{DoSays};
 
-use crate::ended::ending_status;
-use crate::opened::open_kept;
-use crate::shown::{show_closed, shown_status};
+use crate::office::open_office;
 use crate::talk::do_lines;
 use sg_keeper::Keeper;
-use sg_outside::{Sink, Source};
+use sg_outside::{Outcome, Sink, Source};
 use std::alloc::Global;
 
 /// Opens the office of the keeper's rows and answers the lines of the input, one after another, as [`do_lines`] does.
-/// Where there is none, no line is read. Answers the status that the program ends with.
+/// Where there is none, no line is read.
 pub fn answer_asks<S: Source, K: Keeper, O: Sink>(
     alloc: Global,
     input: &mut S,
     keeper: &mut K,
     out: &mut O,
-) -> u8
+) -> Outcome
     ensures says { DoSays result (K.tells keeper.old) (K.rows keeper.old) (K.rows keeper.new)
         (record { left = S.left input.old; written = O.written out.old; read_faults = S.faults input.old; write_faults = O.faults out.old; keep_faults = K.faults keeper.old })
         (record { left = S.left input.new; written = O.written out.new; read_faults = S.faults input.new; write_faults = O.faults out.new; keep_faults = K.faults keeper.new }) }
     ensures told { K.tells keeper.old → K.tells keeper.new }
 {
-    match open_kept(alloc, keeper) {
+    match open_office(alloc, keeper, out) {
         Ok(office) => {
             let mut office = office;
             let ending = do_lines(alloc, &mut office, input, keeper, out);
             drop(office);
-            ending_status(ending)
+            ending.outcome()
         }
-        Err(why) => shown_status(show_closed(alloc, why, out)),
+        Err(how) => how,
     }
 }

@@ -4,48 +4,18 @@ ghost use Rattle.sg_plan.specs.Limits.{longest_election};
 ghost use Rattle.sg_outside.specs.Streams.{seen};
 ghost use Rattle.sg_keeper.specs.Rows.{HasFaultCause};
 ghost use Rattle.sg_keeper.specs.SetupText.{IsSetup};
+ghost use Rattle.sg_clerk.specs.Begun.{InitSays};
 ghost use Rattle.sg_clerk.specs.Taken.{TookAtMost};
-ghost use Rattle.sg_clerk.specs.inside.Beginning.{AddsSetup, InitEnds, IsFile, KeepsSetup, ReadsFile, Refuses, SetsUp, Tells, begun_status};
+ghost use Rattle.sg_clerk.specs.inside.Beginning.{AddsSetup, IsFile, KeepsSetup, ReadsFile, Refuses, SetsUp, Tells};
 
 use crate::filling::fill;
 use crate::refusal::{Refusal, refusal_line};
 use sg_asks::{SetupFault, setup_of};
 use sg_keeper::{KeepFault, Keeper, Rows, Setup};
-use sg_outside::{Failed, Sink, Source};
+use sg_outside::{Failed, Outcome, Sink, Source};
 use sg_plan::NoMemory;
 use sg_plan::limits::LONGEST_ELECTION;
 use std::alloc::Global;
-
-/// How `init` ended.
-#[derive(Clone, Copy, Debug, PartialEq, Eq)]
-pub enum Begun {
-    /// The setup is kept, and the line that says so was written.
-    Done,
-    /// A read failed; nothing was kept or written.
-    ReadFault,
-    /// A write failed, behind a front of the line that is due.
-    WriteFault,
-    /// The keeper failed; nothing was kept or written.
-    KeepFault,
-    /// Nothing was kept, and the line that says why was written.
-    Refused,
-    /// Memory was wanted and not found; nothing was kept or written.
-    NoMemory,
-}
-
-/// The status that the program ends with.
-pub fn begun_status(ending: Begun) -> u8
-    ensures { result ≡ begun_status ending }
-{
-    match ending {
-        Begun::Done => 0,
-        Begun::ReadFault => 3,
-        Begun::WriteFault => 4,
-        Begun::KeepFault => 5,
-        Begun::Refused => 7,
-        Begun::NoMemory => 9,
-    }
-}
 
 /// What an input is.
 #[derive(Drop)]
@@ -178,30 +148,30 @@ fn keep<K: Keeper>(alloc: Global, setup: &Setup, keeper: &mut K) -> Keeping
 }
 
 /// Writes that an office was set up.
-fn tell_begun<O: Sink>(out: &mut O) -> Begun
+fn tell_begun<O: Sink>(out: &mut O) -> Outcome
     ensures { Tells result (seen (O.written out.old) (O.faults out.old)) (seen (O.written out.new) (O.faults out.new)) }
 {
     match out.put(b"begun\n") {
-        Ok(()) => Begun::Done,
-        Err(Failed) => Begun::WriteFault,
+        Ok(()) => Outcome::Done,
+        Err(Failed) => Outcome::WriteFailed,
     }
 }
 
 /// Writes why none was.
-fn refuse<O: Sink>(alloc: Global, why: Refusal, out: &mut O) -> Begun
+fn refuse<O: Sink>(alloc: Global, why: Refusal, out: &mut O) -> Outcome
     ensures { Refuses result why (seen (O.written out.old) (O.faults out.old)) (seen (O.written out.new) (O.faults out.new)) }
 {
     let Ok(line) = refusal_line(alloc, why) else {
-        return Begun::NoMemory;
+        return Outcome::NoMemory;
     };
     match out.put(line.bytes()) {
-        Ok(()) => Begun::Refused,
-        Err(Failed) => Begun::WriteFault,
+        Ok(()) => Outcome::Refused,
+        Err(Failed) => Outcome::WriteFailed,
     }
 }
 
 /// Keeps the setup of an election file, and writes what came of it.
-fn set_up<K: Keeper, O: Sink>(alloc: Global, setup: &Setup, keeper: &mut K, out: &mut O) -> Begun
+fn set_up<K: Keeper, O: Sink>(alloc: Global, setup: &Setup, keeper: &mut K, out: &mut O) -> Outcome
     requires { IsSetup setup.now }
     ensures sets { SetsUp result setup.now (K.tells keeper.old) (K.rows keeper.old) (K.rows keeper.new) (K.faults keeper.old) (K.faults keeper.new)
         (seen (O.written out.old) (O.faults out.old)) (seen (O.written out.new) (O.faults out.new)) }
@@ -211,8 +181,8 @@ fn set_up<K: Keeper, O: Sink>(alloc: Global, setup: &Setup, keeper: &mut K, out:
     match keep(alloc, setup, keeper) {
         Keeping::Kept => tell_begun(out),
         Keeping::Begun => refuse(alloc, Refusal::Begun, out),
-        Keeping::Fault => Begun::KeepFault,
-        Keeping::NoMemory => Begun::NoMemory,
+        Keeping::Fault => Outcome::KeeperFailed,
+        Keeping::NoMemory => Outcome::NoMemory,
     }
 }
 
@@ -225,18 +195,17 @@ pub fn init<S: Source, K: Keeper, O: Sink>(
     input: &mut S,
     keeper: &mut K,
     out: &mut O,
-) -> Begun
-    ensures ends { InitEnds result (seen (S.left input.old) (S.faults input.old)) (seen (S.left input.new) (S.faults input.new))
+) -> Outcome
+    ensures says { InitSays result (seen (S.left input.old) (S.faults input.old)) (seen (S.left input.new) (S.faults input.new))
         (K.tells keeper.old) (K.rows keeper.old) (K.rows keeper.new) (K.faults keeper.old) (K.faults keeper.new)
         (seen (O.written out.old) (O.faults out.old)) (seen (O.written out.new) (O.faults out.new)) }
-    ensures bounded { TookAtMost (longest_election + 1) (S.left input.old) (S.left input.new) }
     ensures told { K.tells keeper.old → K.tells keeper.new }
     ensures later { K.faults keeper.old ≤ K.faults keeper.new }
 {
     match read_file(alloc, input) {
         File::Setup(setup) => set_up(alloc, &setup, keeper, out),
         File::Bad(why) => refuse(alloc, why, out),
-        File::Fault => Begun::ReadFault,
-        File::NoMemory => Begun::NoMemory,
+        File::Fault => Outcome::ReadFailed,
+        File::NoMemory => Outcome::NoMemory,
     }
 }

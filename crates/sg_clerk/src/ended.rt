@@ -1,9 +1,9 @@
 //! How a talk of the office ends, and the lines that it writes.
 ghost use Rattle.std.specs.Prelude.{◌≡◌, ◌≤◌, IfOk};
 ghost use Rattle.sg_talk.specs.Answers.{IsWritable};
-ghost use Rattle.sg_clerk.specs.Ends.{Refuses, WroteLine, answer_line, ending_status, refused_line};
+ghost use Rattle.sg_clerk.specs.Ends.{Refuses, WroteLine, answer_line, outcome_of, refused_line};
 
-use sg_outside::{Failed, Sink};
+use sg_outside::{Failed, Outcome, Sink};
 use sg_plan::{NoMemory, Word};
 use sg_talk::Answered;
 use std::alloc::Global;
@@ -38,17 +38,19 @@ pub enum Ending {
     NoMemory,
 }
 
-/// The status that the program ends with.
-pub fn ending_status(ending: Ending) -> u8
-    ensures { result ≡ ending_status ending }
-{
-    match ending {
-        Ending::Done => 0,
-        Ending::ReadFault => 3,
-        Ending::WriteFault(_) => 4,
-        Ending::LinkFault => 6,
-        Ending::Refused(_) => 7,
-        Ending::NoMemory => 9,
+impl Ending {
+    /// How the command ends whose talk ended so.
+    pub fn outcome(self) -> Outcome
+        ensures { result ≡ outcome_of self }
+    {
+        match self {
+            Ending::Done => Outcome::Done,
+            Ending::ReadFault => Outcome::ReadFailed,
+            Ending::WriteFault(_) => Outcome::WriteFailed,
+            Ending::LinkFault => Outcome::LinksFailed,
+            Ending::Refused(_) => Outcome::Refused,
+            Ending::NoMemory => Outcome::NoMemory,
+        }
     }
 }
 

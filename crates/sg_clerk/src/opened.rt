@@ -1,7 +1,7 @@
 //! An office, opened from the rows of its keeper.
 ghost use Rattle.std.specs.Prelude.{◌≡◌, ◌≤◌};
-ghost use Rattle.sg_clerk.specs.Opening.{OpensTo, StartsFrom};
-ghost use Rattle.sg_clerk.specs.inside.Opening.{IsOpenedOf};
+ghost use Rattle.sg_clerk.specs.Opening.{StartsFrom};
+ghost use Rattle.sg_clerk.specs.inside.Opening.{IsOpenedOf, OpensTo};
 
 use sg_keeper::{KeepFault, Keeper, Rows};
 use sg_office::{Office, OpenFault};
@@ -9,7 +9,7 @@ use std::alloc::Global;
 
 /// Why no office is opened of the rows of a keeper.
 #[derive(Clone, Copy, Debug, PartialEq, Eq)]
-pub enum Closed {
+pub(crate) enum Closed {
     /// The keeper failed.
     LoadFault,
     /// It has no rows, not even a setup.
@@ -43,7 +43,7 @@ fn opened_once(alloc: Global, rows: Rows) -> Result<Office, Closed>
 
 /// Loads the rows and opens the office that they are of. The rows stay as they are.
 #[tactic(auto, using(crate::proofs::Opening::opens_to, crate::proofs::Opening::starts_from))]
-pub fn open_kept<K: Keeper>(alloc: Global, keeper: &mut K) -> Result<Office, Closed>
+pub(crate) fn open_kept<K: Keeper>(alloc: Global, keeper: &mut K) -> Result<Office, Closed>
     ensures opens { OpensTo result (K.tells keeper.old) (K.rows keeper.old) (K.faults keeper.old) (K.faults keeper.new) }
     ensures starts { StartsFrom result (K.tells keeper.old) (K.rows keeper.old) }
     ensures told { K.tells keeper.old → K.tells keeper.new }

@@ -10,16 +10,16 @@ ghost use Rattle.sg_tables.specs.Tables.{codes_of_row};
 ghost use Rattle.sg_sheet.specs.Sheet.{ballot_lines, ballot_text, code_words, codes_line as codes_seen, line_text, lines_text};
 ghost use Rattle.sg_clerk.specs.Sheet.{sheet_of, sheet_text};
 ghost use Rattle.sg_sheet.specs.Sheet.SheetLine.{Codes};
-ghost use Rattle.sg_clerk.specs.Opening.{OfficeEnds, ShowEnds};
+ghost use Rattle.sg_clerk.specs.Opening.{OfficeEnds};
+ghost use Rattle.sg_clerk.specs.Shown.{ShowSays};
 ghost use Rattle.sg_clerk.specs.inside.Printing.{HasStopCause};
 
 use crate::lines::put_decimal;
-use crate::opened::open_kept;
-use crate::shown::{Shown, show_closed};
+use crate::office::open_office;
 use sg_keeper::Keeper;
 use sg_lines::write_code;
 use sg_office::Office;
-use sg_outside::{Failed, Sink};
+use sg_outside::{Failed, Outcome, Sink};
 use sg_plan::{BallotIndex, NoMemory, Word};
 use sg_tables::Tables;
 use std::alloc::Global;
@@ -259,35 +259,35 @@ fn write_ballots<O: Sink>(
 }
 
 /// Writes the sheet of an office.
-fn write_sheet<O: Sink>(alloc: Global, office: &Office, out: &mut O) -> Shown
+fn write_sheet<O: Sink>(alloc: Global, office: &Office, out: &mut O) -> Outcome
     ensures { OfficeEnds sheet_of result office.now (seen (O.written out.old) (O.faults out.old)) (seen (O.written out.new) (O.faults out.new)) }
 {
     let tables = office.tables();
     let Ok(index) = BallotIndex::make(alloc, tables.plan()) else {
-        return Shown::NoMemory;
+        return Outcome::NoMemory;
     };
     match write_ballots(alloc, tables, &index, out) {
-        Ok(()) => Shown::Done,
-        Err(Stop::Failed) => Shown::WriteFault,
-        Err(Stop::NoMemory) => Shown::NoMemory,
+        Ok(()) => Outcome::Done,
+        Err(Stop::Failed) => Outcome::WriteFailed,
+        Err(Stop::NoMemory) => Outcome::NoMemory,
     }
 }
 
 /// Writes the printer's text: for each ballot a line `ballot B STYLE`, and for each race of its style a line
 /// `codes R CODE ..` with a code for each candidate. The keeper's rows stay as they are.
-pub fn sheet<K: Keeper, O: Sink>(alloc: Global, keeper: &mut K, out: &mut O) -> Shown
-    ensures ends { ShowEnds sheet_of result (K.tells keeper.old) (K.rows keeper.old) (K.faults keeper.old) (K.faults keeper.new)
+pub fn sheet<K: Keeper, O: Sink>(alloc: Global, keeper: &mut K, out: &mut O) -> Outcome
+    ensures says { ShowSays sheet_of result (K.tells keeper.old) (K.rows keeper.old) (K.faults keeper.old) (K.faults keeper.new)
         (seen (O.written out.old) (O.faults out.old)) (seen (O.written out.new) (O.faults out.new)) }
     ensures told { K.tells keeper.old → K.tells keeper.new }
     ensures same { K.tells keeper.old → K.rows keeper.new ≡ K.rows keeper.old }
     ensures later { K.faults keeper.old ≤ K.faults keeper.new }
 {
-    match open_kept(alloc, keeper) {
+    match open_office(alloc, keeper, out) {
         Ok(office) => {
             let shown = write_sheet(alloc, &office, out);
             drop(office);
             shown
         }
-        Err(why) => show_closed(alloc, why, out),
+        Err(how) => how,
     }
 }

@@ -5,7 +5,6 @@ use Rattle.std.specs.List.{concat}
 use Rattle.std.specs.Io.KnownBytes.{Consumes, IsAtEnd}
 use Rattle.sg_outside.specs.Cutting.{Cutting, to_come}
 use Rattle.sg_outside.specs.Streams.{Seen}
-use Rattle.sg_outside.specs.TextLines.{IsLine}
 use Rattle.sg_outside.proofs.LineLemmas.{AreLines-append}
 use Rattle.sg_outside.proofs.StreamLemmas.{Consumes-front, Consumes-trans, IsAtEnd-held, Rose-later}
 use Rattle.sg_driver.specs.Judging.{Judging}
@@ -14,16 +13,7 @@ use Rattle.sg_driver.specs.Taken.{TookLines, TookOneMore, TookUnended}
 use Rattle.sg_driver.specs.inside.Stopping.{AtEnd, AtNoLine, AtSettled, Cuts, CutsEnd, CutsFault, CutsLine, CutsNoLine, IsFed, Stops}
 use Rattle.sg_driver.specs.declared.hearing.Stop.{Stop}
 use Rattle.sg_driver.specs.declared.hearing.Stop.TheVariants as stop
-use Rattle.sg_driver.proofs.Cut.{end-cut, few-behind, few-of_all, line-cut, open-cut, some_then}
-
--- one more line joined to others
-concat-push : (lines : List (List ℕ)) (line : List ℕ) → concat (lines ++ line ∷ []) ≡ concat lines ++ line
-concat-push [] line = append-nil line
-concat-push (x ∷ xs) line = ap (λ l. x ++ l) (concat-push xs line) ∙ sym (append_assoc x (concat xs) line)
-
-line-some : (line : List ℕ) → IsLine line → 0 < length line
-line-some [] is_line = absurd is_line
-line-some (x ∷ xs) is_line = omega arith
+use Rattle.sg_driver.proofs.Cut.{concat-push, end-cut, few-behind, few-of_all, line-cut, line-some, open-cut, some_then}
 
 -- a refusal took little
 refused-read : {Answer : Type 0} (judging : Judging Answer) (answer : Answer) (before now : Option (List ℕ)) → judging.Refuses answer

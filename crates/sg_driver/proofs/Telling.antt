@@ -1,59 +1,42 @@
--- What the status of such a command says.
-use Rattle.std.proofs.Common.{◌≡◌, ℕ, inl, inr, refl}
-use Rattle.std.specs.Prelude.{◌⊎◌, List, Option}
-use Rattle.sg_outside.specs.Faults.{Rose}
+-- How such a command ends.
+use Rattle.std.proofs.Common.{◌≡◌, inl, inr, refl, sym, subst, ap, ◌∙◌, arith}
+use Rattle.std.specs.Prelude.{◌⊎◌, ℕ, List}
+use Rattle.sg_outside.specs.Outcomes.{status_of}
 use Rattle.sg_outside.specs.Streams.{Seen}
-use Rattle.sg_outside.proofs.StreamLemmas.{Keeps-refl}
-use Rattle.sg_driver.specs.Judging.{Judging}
-use Rattle.sg_driver.specs.Says.{Answers, Ends, Says}
+use Rattle.sg_outside.specs.declared.outcome.Outcome.{Outcome}
+use Rattle.sg_outside.specs.declared.outcome.Outcome.TheVariants.{Done, No, ReadFailed, Refused, NoMemory}
+use Rattle.sg_driver.specs.Judging.{IsOfAnswer, Judging}
+use Rattle.sg_driver.specs.Says.{Ends, HasRead, IsDue, Owing, Says, Shows, Taking, WriteFails, Writes}
 use Rattle.sg_driver.specs.Taken.{TookLines, TookUnended}
-use Rattle.sg_driver.specs.inside.Hearing.{Tells}
 use Rattle.sg_driver.specs.inside.Stopping.{IsHeard}
 
--- how far an input is read for an answer, and what is said of one, by a status
-abbrev Reading : Type 0 → Type 1
-Reading Answer = Answer → Option (List ℕ) → Option (List ℕ) → Type 0
+-- what ends as an answer does, or with a failed write, has read the input, and had memory
+pub writes_loud : (due : Outcome) (text : List ℕ) (outcome : Outcome) (out out' : Seen) → IsOfAnswer due → Writes due text outcome out out' → (outcome ≡ ReadFailed) ⊎ (outcome ≡ NoMemory) → ⊥
+writes_loud due text outcome out out' is (inl all) (inl read) = subst IsOfAnswer (sym all.0 ∙ read) is
+writes_loud due text outcome out out' is (inl all) (inr memory) = subst IsOfAnswer (sym all.0 ∙ memory) is
+writes_loud due text outcome out out' is (inr front) (inl read) = absurd (omega (arith, ap status_of (sym front.0 ∙ read)))
+writes_loud due text outcome out out' is (inr front) (inr memory) = absurd (omega (arith, ap status_of (sym front.0 ∙ memory)))
 
-abbrev Showing : Type 1
-Showing = ℕ → Seen → Seen → Seen → Seen → Type 0
+module _ (Due : Owing) (Fails Wants : Taking) (input input' out out' : Seen) where
+  shown_ends : (outcome : Outcome) → IsOfAnswer outcome → Shows Due outcome input input' out out' → Ends Due Fails Wants outcome input input' out out'
+  shown_ends Done is shown = shown
+  shown_ends No is shown = shown
+  shown_ends Refused is shown = shown
+  shown_ends _ is shown = absurd is
+
+  -- what is due was written, or a front of it
+  pub writes_end : (due : Outcome) (text : List ℕ) (outcome : Outcome) → Due due text input.bytes input'.bytes → IsOfAnswer due → Writes due text outcome out out'
+      → Ends Due Fails Wants outcome input input' out out'
+  writes_end due text outcome is_due is (inl all) =
+      let shown : Shows Due due input input' out out' = record { text = text; due = is_due; written = all.1 } in
+      subst (λ (o : Outcome). Ends Due Fails Wants o input input' out out') (sym all.0) (shown_ends due is shown)
+  writes_end due text outcome is_due is (inr front) =
+      let failed : WriteFails Due input input' out out' = record { cause = front.1; outcome = due; text = text; due = is_due; written = front.2 } in
+      subst (λ (o : Outcome). Ends Due Fails Wants o input input' out out') (sym front.0) failed
 
 -- an answer was told
-pub says_told : {A : Type 0} (judging : Judging A) (answer : A) (status : ℕ) (input input' out out' : Seen) → IsHeard judging answer input input'
-    → Tells judging answer status out out' → Says judging status input input' out out'
-says_told judging answer status input input' out out' heard (inl told) =
-    inl (record { answer = answer; status_is = told.0; answers = heard.0; read = heard.1; written = told.1 })
-says_told judging answer status input input' out out' heard (inr failed) =
-    inr (inr (inl (failed.0, record { cause = failed.1; answer = answer; answers = heard.0; read = heard.1; written = failed.2 })))
-
--- there was none
-pub ends_fault : {A : Type 0} (judging : Judging A) (Read : Reading A) (Shown : Showing) (input input' out : Seen) → Rose input.faults input'.faults
-    → TookUnended judging.Unsettled input.bytes input'.bytes → Ends judging Read Shown 3 input input' out out
-ends_fault judging Read Shown input input' out cause taken = inr (inl (refl, record { cause = cause; taken = taken; written = Keeps-refl out.bytes }))
-
-pub ends_memory : {A : Type 0} (judging : Judging A) (Read : Reading A) (Shown : Showing) (input input' out : Seen) → TookLines judging.Wants input.bytes input'.bytes
-    → Ends judging Read Shown 9 input input' out out
-ends_memory judging Read Shown input input' out taken = inr (inr (inr (refl, record { taken = taken; written = Keeps-refl out.bytes })))
-
--- what is said of an answer says something else, and how far was read for it too
-pub ends_as : {A : Type 0} (judging : Judging A) (Read Read' : Reading A) (Shown Shown' : Showing) (status : ℕ) (input input' out out' : Seen)
-    → ((answer : A) → Answers judging input.bytes answer → Read answer input.bytes input'.bytes → Read' answer input.bytes input'.bytes)
-    → (Shown status input input' out out' → Shown' status input input' out out') → Ends judging Read Shown status input input' out out'
-    → Ends judging Read' Shown' status input input' out out'
-ends_as judging Read Read' Shown Shown' status input input' out out' reads shows (inl shown) = inl (shows shown)
-ends_as judging Read Read' Shown Shown' status input input' out out' reads shows (inr (inl says)) = inr (inl says)
-ends_as judging Read Read' Shown Shown' status input input' out out' reads shows (inr (inr (inl says))) =
-    let failed = says.1 in
-    inr (inr (inl (
-      says.0,
-      record { cause = failed.cause; answer = failed.answer; answers = failed.answers; read = reads failed.answer failed.answers failed.read; written = failed.written },
-    )))
-ends_as judging Read Read' Shown Shown' status input input' out out' reads shows (inr (inr (inr says))) = inr (inr (inr says))
-
--- where nothing failed an answer is shown, but for want of memory
-pub shown_or_memory : {A : Type 0} (judging : Judging A) (Read : Reading A) (Shown : Showing) (status : ℕ) (input input' out out' : Seen)
-    → Ends judging Read Shown status input input' out out' → ¬ Rose input.faults input'.faults → ¬ Rose out.faults out'.faults
-    → (status ≡ 9) ⊎ Shown status input input' out out'
-shown_or_memory judging Read Shown status input input' out out' (inl shown) reads writes = inr shown
-shown_or_memory judging Read Shown status input input' out out' (inr (inl says)) reads writes = absurd (reads says.1.cause)
-shown_or_memory judging Read Shown status input input' out out' (inr (inr (inl says))) reads writes = absurd (writes says.1.cause)
-shown_or_memory judging Read Shown status input input' out out' (inr (inr (inr says))) reads writes = inl says.0
+pub says_told : {A : Type 0} (judging : Judging A) (answer : A) (outcome : Outcome) (input input' out out' : Seen) → IsOfAnswer (judging.outcome answer) → IsHeard judging answer input input'
+    → Writes (judging.outcome answer) (judging.report answer) outcome out out' → Says judging outcome input input' out out'
+says_told judging answer outcome input input' out out' is heard writes =
+    writes_end (IsDue judging (HasRead judging)) (TookUnended judging.Unsettled) (TookLines judging.Wants) input input' out out' (judging.outcome answer) (judging.report answer) outcome
+    (record { answer = answer; outcome_is = refl; text_is = refl; answers = heard.0; read = heard.1 }) is writes

@@ -2,6 +2,8 @@
 use Rattle.std.specs.Prelude.{◌≡◌, ◌⊎◌, ℕ, List, [], ◌++◌, length}
 use Rattle.sg_plan.specs.Limits.{longest_line}
 use Rattle.sg_outside.specs.TextLines.{HasNoFeed}
+use Rattle.sg_outside.specs.declared.outcome.Outcome.{Outcome}
+use Rattle.sg_outside.specs.declared.outcome.Outcome.TheVariants.{Done, No, Refused}
 
 -- what the answers of a command say of lines
 pub record Judging (Answer : Type 0) : Type 1 where
@@ -13,9 +15,16 @@ pub record Judging (Answer : Type 0) : Type 1 where
   pub Unsettled : List (List ℕ) → Type 0
   -- behind these lines memory may be wanted
   pub Wants : List (List ℕ) → Type 0
-  -- the status of the answer, and the text that reports it
-  pub status : Answer → ℕ
+  -- how the command ends with the answer, and the text that reports it
+  pub outcome : Answer → Outcome
   pub report : Answer → List ℕ
+
+-- an answer may end the command so: the work was done, or what was asked is refused
+abbrev pub IsOfAnswer : Outcome → Type 0
+IsOfAnswer Done = Unit {0}
+IsOfAnswer No = Unit {0}
+IsOfAnswer Refused = Unit {0}
+IsOfAnswer _ = ⊥
 
 -- bytes that are no line, however they go on: they have no line feed, or as many bytes as a line may have at their front have
 -- none

@@ -3,10 +3,10 @@
 ghost use Rattle.std.specs.Prelude.{◌≡◌, ◌<◌, ◌⊎◌, ◌++◌, ◌∷◌, ℕ, List, [], IfOk, OnErr};
 ghost use Rattle.sg_outside.specs.Faults.{HasCause};
 ghost use Rattle.sg_outside.specs.Streams.{PutAppends};
-ghost use Rattle.sg_driver.specs.Judging.{IsNoLine, Judging};
+ghost use Rattle.sg_driver.specs.Judging.{IsNoLine, IsOfAnswer, Judging};
 ghost use Rattle.sg_driver.specs.Standing.{Goes};
 
-use sg_outside::{Failed, Sink};
+use sg_outside::{Failed, Outcome, Sink};
 use sg_plan::NoMemory;
 use std::alloc::Global;
 
@@ -61,10 +61,10 @@ pub trait Judge {
         ensures all { (lines more : List (List ℕ)) (text : List ℕ) → stands self lines → IsNoLine text → judging.IsAnswer (lines ++ text ∷ more) result }
         ensures refuses { judging.Refuses result };
 
-    /// The status of an answer whose report was written: not 3 or 9.
-    fn status(answer: &Self::Answer) -> u8
-        ensures is { result ≡ judging.status answer.now }
-        ensures done { (result ≡ 3) ⊎ (result ≡ 9) → ⊥ };
+    /// How the command ends with an answer whose report was written.
+    fn outcome(answer: &Self::Answer) -> Outcome
+        ensures is { result ≡ judging.outcome answer.now }
+        ensures done { IsOfAnswer result };
 
     /// Writes the report of an answer.
     fn write_report<O: Sink>(answer: &Self::Answer, out: &mut O) -> Result<(), Failed>

@@ -3,6 +3,8 @@ use Rattle.std.proofs.Common.{◌≡◌, ℕ, Bool, true, false, List, inl, inr,
 use Rattle.std.specs.Io.KnownBytes.{Appends}
 use Rattle.std.proofs.lemmas.Bool.{true≢false}
 use Rattle.sg_outside.specs.Streams.{AppendsFront, Seen}
+use Rattle.sg_outside.specs.declared.outcome.Outcome.{Outcome}
+use Rattle.sg_outside.specs.declared.outcome.Outcome.TheVariants as outcome
 use Rattle.sg_plan.specs.declared.plan.Stage.{Stage}
 use Rattle.sg_plan.specs.declared.plan.Stage.TheVariants as stage
 use Rattle.sg_keeper.specs.declared.rows.Rows.{Rows}
@@ -14,15 +16,11 @@ use Rattle.sg_histories.specs.Standing.{StandsFor}
 use Rattle.sg_histories.specs.Stories.{story_of}
 use Rattle.sg_histories.specs.declared.kept.Kept.{Kept}
 use Rattle.sg_openings.specs.Openings.{openings_text}
-use Rattle.sg_clerk.specs.Opening.{ClosedEnds, IsClosedFor, IsOpen, TellsWhy, WritesPart}
-use Rattle.sg_clerk.specs.declared.opened.Closed.{Closed}
-use Rattle.sg_clerk.specs.declared.shown.Shown.{Shown}
-use Rattle.sg_clerk.specs.declared.shown.Shown.TheVariants as shown
-use Rattle.sg_clerk.proofs.Showing.{closed_ends, closed_shows, office_shows}
+use Rattle.sg_clerk.specs.Opening.{IsOpen, WritesPart}
+use Rattle.sg_clerk.specs.Talks.{ClosedSays}
+use Rattle.sg_clerk.proofs.Showing.{closed_shows, office_shows}
 use Rattle.sg_handed.specs.Handed.{IsOffice, OpeningsSays, due_at, due_of, is_drawn, undrawn_line}
-use Rattle.sg_handed.specs.inside.Endings.{HandedEnds, HandsOver, ShowsDue, WritesDue, handed_status}
-use Rattle.sg_handed.specs.declared.handing.Handed.{Handed}
-use Rattle.sg_handed.specs.declared.handing.Handed.TheVariants as handed
+use Rattle.sg_handed.specs.inside.Endings.{HandsOver}
 
 -- WHAT IS DUE
 
@@ -49,7 +47,7 @@ tables_due kept tables same = ap (λ (made : MadeFrom). openings_text made.plan 
 
 -- they were written whole
 pub rows_whole : (kept : Kept) (tables : MadeFrom) (out out' : Seen) → tables ≡ record { plan = kept.setup.plan; seed = kept.setup.seed.0 } → is_drawn kept.stage ≡ true
-    → Appends out.bytes out'.bytes (openings_text tables.plan tables.seed) → WritesDue shown.Done kept out out'
+    → Appends out.bytes out'.bytes (openings_text tables.plan tables.seed) → HandsOver outcome.Done kept out out'
 rows_whole kept tables out out' same is written = (is, subst (λ (l : List ℕ). Appends out.bytes out'.bytes l) (tables_due kept tables same) written)
 
 -- a front of them was
@@ -72,48 +70,23 @@ office_is kept rows drawn opens is = record { whole = opens.whole; each = λ tex
 due_part : (kept : Kept) (out out' : Seen) → AppendsFront out.bytes out'.bytes (due_at kept.setup kept.stage) → WritesPart due_of kept out out'
 due_part kept out out' written = record { text = due_at kept.setup kept.stage; is = λ history stands. ap (due_at kept.setup) stands.stage; written = written }
 
-due_shows : (how : Shown) (kept : Kept) (tells : Type 0) (rows : Rows) (faults faults' : ℕ) (out out' : Seen)
-    → (tells → IsOpen kept rows) → WritesDue how kept out out' → ShowsDue how tells rows faults faults' out out'
-due_shows shown.Done kept tells rows faults faults' out out' opens ends = record { setup = kept.setup; drawn = λ told. office_is kept rows true (opens told) ends.0; written = ends.1 }
-due_shows shown.WriteFault kept tells rows faults faults' out out' opens ends =
-    office_shows due_of shown.WriteFault kept tells rows faults faults' out out' opens (ends.0, due_part kept out out' ends.1)
-due_shows shown.LoadFault kept tells rows faults faults' out out' opens ends = absurd ends
-due_shows shown.Empty kept tells rows faults faults' out out' opens ends = absurd ends
-due_shows shown.Damaged kept tells rows faults faults' out out' opens ends = absurd ends
-due_shows shown.NoMemory kept tells rows faults faults' out out' opens (inl same) = office_shows due_of shown.NoMemory kept tells rows faults faults' out out' opens (inl same)
-due_shows shown.NoMemory kept tells rows faults faults' out out' opens (inr part) =
-    office_shows due_of shown.NoMemory kept tells rows faults faults' out out' opens (inr (due_part kept out out' part))
-
 -- behind an office that was opened
-pub office_ends : (how : Handed) (kept : Kept) (tells : Type 0) (rows : Rows) (faults faults' : ℕ) (out out' : Seen)
-    → (tells → IsOpen kept rows) → HandsOver how kept out out' → HandedEnds how tells rows faults faults' out out'
-office_ends (handed.Shown how) kept tells rows faults faults' out out' opens ends = due_shows how kept tells rows faults faults' out out' opens ends
-office_ends handed.Undrawn kept tells rows faults faults' out out' opens ends = record { setup = kept.setup; undrawn = λ told. office_is kept rows false (opens told) ends.0; written = ends.1 }
-
--- NO OFFICE
+pub office_ends : (how : Outcome) (kept : Kept) (tells : Type 0) (rows : Rows) (faults faults' : ℕ) (out out' : Seen)
+    → (tells → IsOpen kept rows) → HandsOver how kept out out' → OpeningsSays how tells rows faults faults' out out'
+office_ends outcome.Done kept tells rows faults faults' out out' opens ends = record { setup = kept.setup; drawn = λ told. office_is kept rows true (opens told) ends.0; written = ends.1 }
+office_ends outcome.WriteFailed kept tells rows faults faults' out out' opens ends =
+    office_shows due_of outcome.WriteFailed kept tells rows faults faults' out out' opens (ends.0, due_part kept out out' ends.1)
+office_ends outcome.Refused kept tells rows faults faults' out out' opens ends =
+    inr (record { setup = kept.setup; undrawn = λ told. office_is kept rows false (opens told) ends.0; written = ends.1 })
+office_ends outcome.NoMemory kept tells rows faults faults' out out' opens (inl same) = inl same
+office_ends outcome.NoMemory kept tells rows faults faults' out out' opens (inr part) = office_shows due_of outcome.NoMemory kept tells rows faults faults' out out' opens (inr (due_part kept out out' part))
+office_ends _ kept tells rows faults faults' out out' opens ends = absurd ends
 
 -- behind rows that no office was opened of
-closed_due : (how : Shown) (tells : Type 0) (rows : Rows) (faults faults' : ℕ) (out out' : Seen) → ClosedEnds how tells rows faults faults' out out' → ShowsDue how tells rows faults faults' out out'
-closed_due shown.Done tells rows faults faults' out out' ends = absurd ends
-closed_due shown.WriteFault tells rows faults faults' out out' ends = closed_shows due_of shown.WriteFault tells rows faults faults' out out' ends
-closed_due shown.LoadFault tells rows faults faults' out out' ends = ends
-closed_due shown.Empty tells rows faults faults' out out' ends = ends
-closed_due shown.Damaged tells rows faults faults' out out' ends = ends
-closed_due shown.NoMemory tells rows faults faults' out out' ends = inl ends
-
-pub none_ends : (why : Closed) (how : Shown) (tells : Type 0) (rows : Rows) (faults faults' : ℕ) (out out' : Seen) → IsClosedFor why tells rows faults faults' → TellsWhy why how out out'
-    → HandedEnds (handed.Shown how) tells rows faults faults' out out'
-none_ends why how tells rows faults faults' out out' is told = closed_due how tells rows faults faults' out out' (closed_ends why how tells rows faults faults' out out' is told)
-
--- STATUSES
-
--- what the status of an ending says
-pub handed_says : (how : Handed) (tells : Type 0) (rows : Rows) (faults faults' : ℕ) (out out' : Seen)
-    → HandedEnds how tells rows faults faults' out out' → OpeningsSays (handed_status how) tells rows faults faults' out out'
-handed_says (handed.Shown shown.Done) tells rows faults faults' out out' ends = inl (refl, ends)
-handed_says (handed.Shown shown.WriteFault) tells rows faults faults' out out' ends = inr (inl (refl, ends))
-handed_says (handed.Shown shown.LoadFault) tells rows faults faults' out out' ends = inr (inr (inl (refl, ends)))
-handed_says (handed.Shown shown.Empty) tells rows faults faults' out out' ends = inr (inr (inr (inl (refl, ends))))
-handed_says handed.Undrawn tells rows faults faults' out out' ends = inr (inr (inr (inr (inl (refl, ends)))))
-handed_says (handed.Shown shown.Damaged) tells rows faults faults' out out' ends = inr (inr (inr (inr (inr (inl (refl, ends))))))
-handed_says (handed.Shown shown.NoMemory) tells rows faults faults' out out' ends = inr (inr (inr (inr (inr (inr (refl, ends))))))
+pub none_ends : (how : Outcome) (tells : Type 0) (rows : Rows) (faults faults' : ℕ) (out out' : Seen) → ClosedSays how tells rows faults faults' out out' → OpeningsSays how tells rows faults faults' out out'
+none_ends outcome.WriteFailed tells rows faults faults' out out' says = closed_shows due_of outcome.WriteFailed tells rows faults faults' out out' says
+none_ends outcome.KeeperFailed tells rows faults faults' out out' says = says
+none_ends outcome.Refused tells rows faults faults' out out' says = inl says
+none_ends outcome.Damaged tells rows faults faults' out out' says = says
+none_ends outcome.NoMemory tells rows faults faults' out out' says = inl says
+none_ends _ tells rows faults faults' out out' says = absurd says

@@ -2,6 +2,8 @@
 use Rattle.std.specs.Prelude.{◌≡◌, ℕ, ◌⊎◌, Bool, true, false, List, codes}
 use Rattle.std.specs.Io.KnownBytes.{Appends}
 use Rattle.sg_outside.specs.Streams.{Seen}
+use Rattle.sg_outside.specs.declared.outcome.Outcome.{Outcome}
+use Rattle.sg_outside.specs.declared.outcome.Outcome.TheVariants as outcome
 use Rattle.sg_plan.specs.declared.plan.Stage.{Stage}
 use Rattle.sg_plan.specs.declared.plan.Stage.TheVariants as stage
 use Rattle.sg_keeper.specs.declared.rows.Rows.{Rows}
@@ -33,34 +35,31 @@ due_at setup (stage.Drawn draw) = openings_text setup.plan setup.seed.0
 abbrev pub due_of : Setup → List Entry → List ℕ
 due_of setup history = due_at setup (stage_of history)
 
--- WHAT EACH STATUS SAYS
+-- HOW IT ENDS
 
 -- the rows are those of an office with this setup, and the draw of each history whose rows they are is made, or is not
 pub record IsOffice (setup : Setup) (drawn : Bool) (rows : Rows) : Type 0 where
   pub whole : opening rows ≡ Whole setup
   pub each : (text : List ℕ) (history : List Entry) → Lawful setup history → rows ≡ rows_of setup text history → is_drawn (stage_of history) ≡ drawn
 
--- 0: where rows are told they are those of an office whose draw is made, and the openings of all its rows were written
+-- where rows are told they are those of an office whose draw is made, and the openings of all its rows were written
 pub record OpensAll (tells : Type 0) (rows : Rows) (out out' : Seen) : Type 0 where
   pub setup : Setup
   pub drawn : tells → IsOffice setup true rows
   pub written : Appends out.bytes out'.bytes (openings_text setup.plan setup.seed.0)
 
--- 7: where rows are told they are those of an office whose draw isn't made, and the line that says so was written
+-- where rows are told they are those of an office whose draw isn't made, and the line that says so was written
 pub record IsUndrawn (tells : Type 0) (rows : Rows) (out out' : Seen) : Type 0 where
   pub setup : Setup
   pub undrawn : tells → IsOffice setup false rows
   pub written : Appends out.bytes out'.bytes undrawn_line
 
--- how `openings` ended, by its status: there is no other. With 4 a write failed behind a front of what is due, with 5 the
--- keeper failed, with 7 no setup is kept or the draw isn't made, with 8 the rows are no office's, and with 9 memory was
--- wanted, and nothing or a front of what is due was written.
-abbrev pub OpeningsSays : ℕ → (tells : Type 0) → Rows → ℕ → ℕ → Seen → Seen → Type 0
-OpeningsSays status tells rows faults faults' out out' =
-    ((status ≡ 0) × OpensAll tells rows out out')
-    ⊎ ((status ≡ 4) × CutsShort due_of tells rows out out')
-    ⊎ ((status ≡ 5) × LoadFails faults faults' out out')
-    ⊎ ((status ≡ 7) × IsEmpty tells rows out out')
-    ⊎ ((status ≡ 7) × IsUndrawn tells rows out out')
-    ⊎ ((status ≡ 8) × IsDamaged tells rows out out')
-    ⊎ ((status ≡ 9) × LacksMemory due_of tells rows out out')
+-- how `openings` ended: a refusal says that no setup is kept, or that the draw isn't made
+abbrev pub OpeningsSays : Outcome → (tells : Type 0) → Rows → ℕ → ℕ → Seen → Seen → Type 0
+OpeningsSays outcome.Done tells rows faults faults' out out' = OpensAll tells rows out out'
+OpeningsSays outcome.WriteFailed tells rows faults faults' out out' = CutsShort due_of tells rows out out'
+OpeningsSays outcome.KeeperFailed tells rows faults faults' out out' = LoadFails faults faults' out out'
+OpeningsSays outcome.Refused tells rows faults faults' out out' = IsEmpty tells rows out out' ⊎ IsUndrawn tells rows out out'
+OpeningsSays outcome.Damaged tells rows faults faults' out out' = IsDamaged tells rows out out'
+OpeningsSays outcome.NoMemory tells rows faults faults' out out' = LacksMemory due_of tells rows out out'
+OpeningsSays _ tells rows faults faults' out out' = ⊥

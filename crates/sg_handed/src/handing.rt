@@ -3,35 +3,16 @@ ghost use Rattle.std.specs.Prelude.{◌≡◌, ◌≤◌, IfOk, false, true};
 ghost use Rattle.sg_outside.specs.Faults.{HasCause};
 ghost use Rattle.sg_outside.specs.Streams.{PutAppends, seen};
 ghost use Rattle.sg_handed.specs.Handed.{OpeningsSays, is_drawn as is_drawn_at, undrawn_line};
-ghost use Rattle.sg_handed.specs.inside.Endings.{HandedEnds, HandsOver, WritesDue, handed_status};
+ghost use Rattle.sg_handed.specs.inside.Endings.{HandsOver};
 
-use sg_clerk::{Shown, open_kept, show_closed, shown_status};
+use sg_clerk::open_office;
 use sg_keeper::Keeper;
 use sg_office::Office;
 use sg_openings::put_openings;
-use sg_outside::{Failed, Sink};
+use sg_outside::{Failed, Outcome, Sink};
 use sg_plan::{NoMemory, Stage};
 use sg_record::Wrote;
 use std::alloc::Global;
-
-/// How `openings` ended.
-#[derive(Clone, Copy, Debug, PartialEq, Eq)]
-pub enum Handed {
-    /// So, as a command that shows what is kept.
-    Shown(Shown),
-    /// The draw isn't made, and the line that says so was written.
-    Undrawn,
-}
-
-/// The status that the program ends with.
-fn handed_status(ending: Handed) -> u8
-    ensures { result ≡ handed_status ending }
-{
-    match ending {
-        Handed::Shown(how) => shown_status(how),
-        Handed::Undrawn => 7,
-    }
-}
 
 /// Whether the draw is made at this stage.
 fn is_drawn_stage(stage: &Stage) -> bool
@@ -55,14 +36,14 @@ fn is_drawn(alloc: Global, office: &Office) -> Result<bool, NoMemory>
 }
 
 /// Writes what opens the rows of an office whose draw is made.
-fn write_rows<O: Sink>(alloc: Global, office: &Office, out: &mut O) -> Shown
+fn write_rows<O: Sink>(alloc: Global, office: &Office, out: &mut O) -> Outcome
     requires { is_drawn_at office.now.stage ≡ true }
-    ensures { WritesDue result office.now (seen (O.written out.old) (O.faults out.old)) (seen (O.written out.new) (O.faults out.new)) }
+    ensures { HandsOver result office.now (seen (O.written out.old) (O.faults out.old)) (seen (O.written out.new) (O.faults out.new)) }
 {
     match put_openings(alloc, office.tables(), out) {
-        Wrote::Written => Shown::Done,
-        Wrote::SinkFailed => Shown::WriteFault,
-        Wrote::NoMemory => Shown::NoMemory,
+        Wrote::Written => Outcome::Done,
+        Wrote::SinkFailed => Outcome::WriteFailed,
+        Wrote::NoMemory => Outcome::NoMemory,
     }
 }
 
@@ -75,55 +56,43 @@ fn put_undrawn<O: Sink>(out: &mut O) -> Result<(), Failed>
 }
 
 /// Refuses an office whose draw isn't made.
-fn refuse<O: Sink>(office: &Office, out: &mut O) -> Handed
+fn refuse<O: Sink>(office: &Office, out: &mut O) -> Outcome
     requires { is_drawn_at office.now.stage ≡ false }
     ensures { HandsOver result office.now (seen (O.written out.old) (O.faults out.old)) (seen (O.written out.new) (O.faults out.new)) }
 {
     let _ = office;
     match put_undrawn(out) {
-        Ok(()) => Handed::Undrawn,
-        Err(Failed) => Handed::Shown(Shown::WriteFault),
+        Ok(()) => Outcome::Refused,
+        Err(Failed) => Outcome::WriteFailed,
     }
 }
 
 /// Writes what is due of an office.
-fn hand_over<O: Sink>(alloc: Global, office: &Office, out: &mut O) -> Handed
+fn hand_over<O: Sink>(alloc: Global, office: &Office, out: &mut O) -> Outcome
     ensures { HandsOver result office.now (seen (O.written out.old) (O.faults out.old)) (seen (O.written out.new) (O.faults out.new)) }
 {
     match is_drawn(alloc, office) {
-        Ok(true) => Handed::Shown(write_rows(alloc, office, out)),
+        Ok(true) => write_rows(alloc, office, out),
         Ok(false) => refuse(office, out),
-        Err(NoMemory) => Handed::Shown(Shown::NoMemory),
-    }
-}
-
-/// Opens the office of the keeper's rows and writes what is due of it. The rows stay as they are.
-fn openings<K: Keeper, O: Sink>(alloc: Global, keeper: &mut K, out: &mut O) -> Handed
-    ensures ends { HandedEnds result (K.tells keeper.old) (K.rows keeper.old) (K.faults keeper.old) (K.faults keeper.new)
-        (seen (O.written out.old) (O.faults out.old)) (seen (O.written out.new) (O.faults out.new)) }
-    ensures told { K.tells keeper.old → K.tells keeper.new }
-    ensures same { K.tells keeper.old → K.rows keeper.new ≡ K.rows keeper.old }
-    ensures later { K.faults keeper.old ≤ K.faults keeper.new }
-{
-    match open_kept(alloc, keeper) {
-        Ok(office) => {
-            let handed = hand_over(alloc, &office, out);
-            drop(office);
-            handed
-        }
-        Err(why) => Handed::Shown(show_closed(alloc, why, out)),
+        Err(NoMemory) => Outcome::NoMemory,
     }
 }
 
 /// Writes the line `completion`, and for each race, instance and row what opens both halves of the row: each line in one
 /// put, once the draw is made. Before it the line `refused undrawn` is written. The keeper's rows stay as they are.
-/// Answers the status that the program ends with.
-pub fn answer_openings<K: Keeper, O: Sink>(alloc: Global, keeper: &mut K, out: &mut O) -> u8
+pub fn answer_openings<K: Keeper, O: Sink>(alloc: Global, keeper: &mut K, out: &mut O) -> Outcome
     ensures says { OpeningsSays result (K.tells keeper.old) (K.rows keeper.old) (K.faults keeper.old) (K.faults keeper.new)
         (seen (O.written out.old) (O.faults out.old)) (seen (O.written out.new) (O.faults out.new)) }
     ensures told { K.tells keeper.old → K.tells keeper.new }
     ensures same { K.tells keeper.old → K.rows keeper.new ≡ K.rows keeper.old }
     ensures later { K.faults keeper.old ≤ K.faults keeper.new }
 {
-    handed_status(openings(alloc, keeper, out))
+    match open_office(alloc, keeper, out) {
+        Ok(office) => {
+            let handed = hand_over(alloc, &office, out);
+            drop(office);
+            handed
+        }
+        Err(how) => how,
+    }
 }

@@ -1,8 +1,8 @@
 //! Files that are as long as they may be, and others that are longer by one.
 use sg_clerk::scans::answer_scans;
-use sg_clerk::{begun_status, init};
+use sg_clerk::init;
 use sg_keeper::{MemoryKeeper, Rows};
-use sg_outside::{Bytes, Page};
+use sg_outside::{Bytes, Outcome, Page};
 use sg_plan::{Items, NoMemory, Word};
 use sg_scans::read_scans;
 use std::alloc::Global;
@@ -48,29 +48,29 @@ fn keeper_of(alloc: Global, setup: Option<Word>) -> MemoryKeeper {
     MemoryKeeper::new(alloc, rows, Items::new(alloc))
 }
 
-/// Sets an office up, and answers the status.
-fn begin(alloc: Global, file: Vec<u8>, page: &mut Page) -> u8 {
+/// Sets an office up, and says how that ended.
+fn begin(alloc: Global, file: Vec<u8>, page: &mut Page) -> Outcome {
     let mut input = Bytes::new(file, 65_536, Vec::new(alloc));
     let mut keeper = keeper_of(alloc, None);
-    begun_status(init(alloc, &mut input, &mut keeper, page))
+    init(alloc, &mut input, &mut keeper, page)
 }
 
-/// An election file of so many bytes ends with this status, and this is written.
-fn begins(alloc: Global, length: usize, status: u8, text: &str) -> Result<bool, Fail> {
+/// An election file of so many bytes ends so, and this is written.
+fn begins(alloc: Global, length: usize, outcome: Outcome, text: &str) -> Result<bool, Fail> {
     let mut page = Page::new(alloc, 40, Vec::new(alloc), 0)?;
     let file = padded(alloc, ELECTION, b' ', length)?;
-    Ok(begin(alloc, file, &mut page) == status && page.written() == text.as_bytes())
+    Ok(begin(alloc, file, &mut page) == outcome && page.written() == text.as_bytes())
 }
 
 #[test]
 fn the_longest_election_file_has_a_mebibyte(rt: HostRuntime) -> Result<(), Fail> {
-    assert!(rt; begins(rt.alloc(), 1_048_576, 0, "begun\n")?);
-    assert!(rt; begins(rt.alloc(), 1_048_577, 7, "refused size\n")?);
+    assert!(rt; begins(rt.alloc(), 1_048_576, Outcome::Done, "begun\n")?);
+    assert!(rt; begins(rt.alloc(), 1_048_577, Outcome::Refused, "refused size\n")?);
     Ok(())
 }
 
-/// Answers a scanner's file over the office of this setup, and answers the status.
-fn scan(alloc: Global, file: Vec<u8>, setup: Word, page: &mut Page) -> u8 {
+/// Answers a scanner's file over the office of this setup, and says how that ended.
+fn scan(alloc: Global, file: Vec<u8>, setup: Word, page: &mut Page) -> Outcome {
     let mut input = Bytes::new(file, 65_536, Vec::new(alloc));
     let mut keeper = keeper_of(alloc, Some(setup));
     answer_scans(alloc, &mut input, &mut keeper, page)
@@ -83,18 +83,18 @@ fn setup_text(alloc: Global) -> Result<Word, NoMemory> {
     Ok(text)
 }
 
-/// A scanner's file of so many bytes ends with this status, and this is written.
-fn scans(alloc: Global, length: usize, status: u8, text: &str) -> Result<bool, Fail> {
+/// A scanner's file of so many bytes ends so, and this is written.
+fn scans(alloc: Global, length: usize, outcome: Outcome, text: &str) -> Result<bool, Fail> {
     let mut page = Page::new(alloc, 40, Vec::new(alloc), 0)?;
     let file = padded(alloc, HEADER, b'\n', length)?;
     let setup = setup_text(alloc)?;
-    Ok(scan(alloc, file, setup, &mut page) == status && page.written() == text.as_bytes())
+    Ok(scan(alloc, file, setup, &mut page) == outcome && page.written() == text.as_bytes())
 }
 
 #[test]
 fn a_scanners_file_has_at_most_16_mebibytes(rt: HostRuntime) -> Result<(), Fail> {
-    assert!(rt; scans(rt.alloc(), 16_777_216, 0, "")?);
-    assert!(rt; scans(rt.alloc(), 16_777_217, 7, "refused size\n")?);
+    assert!(rt; scans(rt.alloc(), 16_777_216, Outcome::Done, "")?);
+    assert!(rt; scans(rt.alloc(), 16_777_217, Outcome::Refused, "refused size\n")?);
     Ok(())
 }
 

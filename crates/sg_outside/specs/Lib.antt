@@ -1,4 +1,5 @@
 pub mod Faults
+pub mod Outcomes
 pub mod Streams
 pub mod Memory
 pub mod TextLines

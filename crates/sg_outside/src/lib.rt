@@ -8,9 +8,11 @@
 mod cutter;
 mod faults;
 mod memory;
+mod outcome;
 mod streams;
 
 pub use crate::cutter::{Got, Lines, line_end};
 pub use crate::faults::{Failed, NoMemory};
 pub use crate::memory::{Bytes, Page};
+pub use crate::outcome::Outcome;
 pub use crate::streams::{Sink, Source};

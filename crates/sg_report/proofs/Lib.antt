@@ -1,2 +1,2 @@
 -- The proofs.
-mod Reporting
+pub mod Pieces

@@ -76,13 +76,13 @@ fn total_line(line: &mut [u8], total: &Total) -> usize
     ensures bound { result ≤ 64 }
     ensures text { take result line.new ≡ total_text total.now }
 {
-    let at = add(line, 0, b"total ");
+    let at = add_bytes(line, 0, b"total ");
     let at = add_decimal(line, at, total.race);
-    let at = add(line, at, b" ");
+    let at = add_bytes(line, at, b" ");
     let at = add_decimal(line, at, total.candidate);
-    let at = add(line, at, b" ");
+    let at = add_bytes(line, at, b" ");
     let at = add_decimal(line, at, total.count);
-    add(line, at, b"\n")
+    add_bytes(line, at, b"\n")
 }
 
 /// Puts `no LINE KIND` into the front of `line`, and answers its length.
@@ -91,11 +91,11 @@ fn no_line(line: &mut [u8], number: u32, kind: Kind) -> usize
     ensures bound { result ≤ 64 }
     ensures text { take result line.new ≡ no_text number kind }
 {
-    let at = add(line, 0, b"no ");
+    let at = add_bytes(line, 0, b"no ");
     let at = add_decimal(line, at, number);
-    let at = add(line, at, b" ");
-    let at = add(line, at, word_for(kind));
-    add(line, at, b"\n")
+    let at = add_bytes(line, at, b" ");
+    let at = add_bytes(line, at, word_for(kind));
+    add_bytes(line, at, b"\n")
 }
 
 /// The word for a kind of fault: a lower-case word of at most seven letters.
@@ -119,7 +119,7 @@ pub fn word_for(kind: Kind) -> &'static [u8]
 }
 
 /// Puts the bytes behind the first `at`, and answers how many stand then.
-fn add(line: &mut [u8], at: usize, bytes: &[u8]) -> usize
+pub fn add_bytes(line: &mut [u8], at: usize, bytes: &[u8]) -> usize
     requires { at + length bytes.now ≤ length line.old }
     ensures count { result ≡ at + length bytes.now }
     ensures text { take result line.new ≡ take at line.old ++ bytes.now }
@@ -130,7 +130,7 @@ fn add(line: &mut [u8], at: usize, bytes: &[u8]) -> usize
 }
 
 /// Puts a number in decimal digits behind the first `at`, and answers how many stand then.
-fn add_decimal(line: &mut [u8], at: usize, value: u32) -> usize
+pub fn add_decimal(line: &mut [u8], at: usize, value: u32) -> usize
     requires { at + 10 ≤ length line.old }
     ensures bound { result ≤ at + 10 }
     ensures text { take result line.new ≡ take at line.old ++ decimal value }

@@ -9,4 +9,3 @@ pub mod Records
 pub mod Told
 pub mod Verdicts
 pub mod Words
-pub mod Writing

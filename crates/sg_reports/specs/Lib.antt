@@ -3,3 +3,4 @@ pub mod Reports
 pub mod audit
 pub mod county
 pub mod court
+pub mod inside

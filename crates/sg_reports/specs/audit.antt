@@ -1,4 +1,3 @@
 -- The modules of definitions.
 pub mod Audit
 pub mod Promise
-pub mod inside

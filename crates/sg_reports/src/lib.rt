@@ -7,6 +7,7 @@ pub mod county;
 pub mod court;
 mod program;
 mod report;
+mod standing;
 
 pub use program::run_reports;
 pub use report::{Report, report_of, write_report};

@@ -1,13 +1,13 @@
 //! The program of who only audits, over any source and sink: its words, and the status that it ends with.
-ghost use Rattle.std.specs.Prelude.{◌≡◌, ◌⊎◌, None, Some, IfSome};
+ghost use Rattle.std.specs.Prelude.{◌≡◌, ◌≢◌, ◌⊎◌, None, Some, IfSome};
 ghost use Rattle.sg_reports.specs.audit.Promise.{Promise};
 ghost use Rattle.sg_outside.specs.Streams.{seen};
 ghost use Rattle.sg_outside.specs.TextLines.{lines_of};
-ghost use Rattle.sg_reports.specs.Reports.{IsReported, ReportSays, report_in};
+ghost use Rattle.sg_reports.specs.Reports.{Reported, report_in};
 ghost use Rattle.sg_reports.specs.declared.report.Report.{Report as ReportSeen};
 ghost use Rattle.sg_reports.specs.declared.report.Report.TheVariants.{Audit};
 
-use crate::report::{report_of, write_report};
+use crate::report::{Report, report_of, write_report};
 use sg_outside::{Sink, Source};
 use sg_plan::{Items, NoMemory, Word};
 use sg_words::command_of;
@@ -31,21 +31,31 @@ pub fn run_reports<S: Source, O: Sink>(
     // total of its race differs from the count of posted codes.
     ensures headline { report_in words.now ≡ Some Audit → IfSome (S.left input.old) (λ bytes. Promise (lines_of bytes) result (seen (S.left input.old) (S.faults input.old)) (seen (S.left input.new) (S.faults input.new))
         (seen (O.written out.old) (O.faults out.old)) (seen (O.written out.new) (O.faults out.new))) }
-    // The status says how the command ended, by a relation for each command: what was read, and what was written.
-    ensures says { (report : ReportSeen) → report_in words.now ≡ Some report → ReportSays report result (seen (S.left input.old) (S.faults input.old)) (seen (S.left input.new) (S.faults input.new))
-        (seen (O.written out.old) (O.faults out.old)) (seen (O.written out.new) (O.faults out.new)) }
-    // Where no count of faults rose, the status tells no failure: all the work was done, but for want of memory.
-    ensures complete { (report : ReportSeen) → report_in words.now ≡ Some report → IsReported result (seen (S.left input.old) (S.faults input.old)) (seen (S.left input.new) (S.faults input.new))
+    // The status says how the command ended, by a relation for each command: what was read, and what was written. Where no count
+    // of faults rose, it tells no failure: all the work was done, but for want of memory.
+    ensures says { (report : ReportSeen) → report_in words.now ≡ Some report → Reported report result (seen (S.left input.old) (S.faults input.old)) (seen (S.left input.new) (S.faults input.new))
         (seen (O.written out.old) (O.faults out.old)) (seen (O.written out.new) (O.faults out.new)) }
     // After a read that failed, and where memory was wanted, the output is as it was.
     ensures unwritten { (result ≡ 3) ⊎ (result ≡ 9) → out.new ≡ out.old }
 {
     match command_of(alloc, words) {
         Ok(Some(command)) => match report_of(command) {
-            Some(report) => write_report(alloc, report, input, out),
+            Some(report) => status_with(alloc, report, input, out),
             None => 2,
         },
         Ok(None) => 2,
         Err(NoMemory) => 9,
     }
+}
+
+/// Writes a report, and answers the status to end with.
+fn status_with<S: Source, O: Sink>(alloc: Global, report: Report, input: &mut S, out: &mut O) -> u8
+    ensures words { result ≢ 2 }
+    ensures promise { report ≡ Audit → IfSome (S.left input.old) (λ bytes. Promise (lines_of bytes) result (seen (S.left input.old) (S.faults input.old)) (seen (S.left input.new) (S.faults input.new))
+        (seen (O.written out.old) (O.faults out.old)) (seen (O.written out.new) (O.faults out.new))) }
+    ensures says { Reported report result (seen (S.left input.old) (S.faults input.old)) (seen (S.left input.new) (S.faults input.new))
+        (seen (O.written out.old) (O.faults out.old)) (seen (O.written out.new) (O.faults out.new)) }
+    ensures unwritten { (result ≡ 3) ⊎ (result ≡ 9) → out.new ≡ out.old }
+{
+    write_report(alloc, report, input, out).status()
 }

@@ -1,6 +1,7 @@
 //! A command that reports on what it reads.
-ghost use Rattle.std.specs.Prelude.{◌≡◌, ◌≢◌, ◌⊎◌, IfSome};
+ghost use Rattle.std.specs.Prelude.{◌≡◌, ◌⊎◌, IfSome};
 ghost use Rattle.sg_reports.specs.audit.Promise.{Promise};
+ghost use Rattle.sg_outside.specs.Outcomes.{status_of};
 ghost use Rattle.sg_outside.specs.Streams.{seen};
 ghost use Rattle.sg_outside.specs.TextLines.{lines_of};
 ghost use Rattle.sg_reports.specs.Reports.{ReportSays, report_of};
@@ -9,7 +10,7 @@ ghost use Rattle.sg_reports.specs.declared.report.Report.TheVariants.{Audit};
 use crate::audit::answer_audit;
 use crate::county::count_county;
 use crate::court::{answer_odds, answer_recount};
-use sg_outside::{Sink, Source};
+use sg_outside::{Outcome, Sink, Source};
 use sg_words::Command;
 use std::alloc::Global;
 
@@ -35,32 +36,24 @@ pub fn report_of(command: Command) -> Option<Report>
         Command::Recount => Some(Report::Recount),
         Command::Odds => Some(Report::Odds),
         Command::County => Some(Report::County),
-        Command::Init
-        | Command::Sheet
-        | Command::Do
-        | Command::Serve(_)
-        | Command::Record
-        | Command::Openings
-        | Command::Sample(_)
-        | Command::Scans => None,
+        _ => None,
     }
 }
 
-/// Reads the input, writes the report, and answers the status to end with: 0 where the answer is yes or what was asked for was
-/// written, 1 for no, 3 where a read failed, 4 where a write failed, 7 where the input is refused, and 9 where memory was
-/// wanted. With 3 and 9 nothing is written.
+/// Reads the input, and writes the report. It ends as done where the answer is yes or what was asked for was written, and with no
+/// for no; or the input is refused, a read failed, a write failed or memory was wanted. Where a read failed or memory was wanted
+/// nothing is written.
 pub fn write_report<S: Source, O: Sink>(
     alloc: Global,
     report: Report,
     input: &mut S,
     out: &mut O,
-) -> u8
-    ensures words { result ≢ 2 }
-    ensures promise { report ≡ Audit → IfSome (S.left input.old) (λ bytes. Promise (lines_of bytes) result (seen (S.left input.old) (S.faults input.old)) (seen (S.left input.new) (S.faults input.new))
+) -> Outcome
+    ensures promise { report ≡ Audit → IfSome (S.left input.old) (λ bytes. Promise (lines_of bytes) (status_of result) (seen (S.left input.old) (S.faults input.old)) (seen (S.left input.new) (S.faults input.new))
         (seen (O.written out.old) (O.faults out.old)) (seen (O.written out.new) (O.faults out.new))) }
     ensures says { ReportSays report result (seen (S.left input.old) (S.faults input.old)) (seen (S.left input.new) (S.faults input.new))
         (seen (O.written out.old) (O.faults out.old)) (seen (O.written out.new) (O.faults out.new)) }
-    ensures unwritten { (result ≡ 3) ⊎ (result ≡ 9) → out.new ≡ out.old }
+    ensures unwritten { (result ≡ Outcome.ReadFailed) ⊎ (result ≡ Outcome.NoMemory) → out.new ≡ out.old }
 {
     match report {
         Report::Audit => answer_audit(alloc, input, out),

@@ -1,10 +1,12 @@
--- The summary of a sample run, and how its writing ends (this project's sample run).
-use Rattle.std.specs.Io.KnownBytes.{Appends, Keeps}
+-- The summary of a sample run, and how `sample` ends (this project's command line).
+use Rattle.std.specs.Io.KnownBytes.{Appends}
 use Rattle.std.specs.List.{join_with_byte}
-use Rattle.std.specs.Prelude.{ℕ, Bool, true, false, List, [], ◌∷◌, ◌++◌, length, count_by, codes}
+use Rattle.std.specs.Prelude.{◌≡◌, ℕ, Bool, true, false, List, [], ◌∷◌, ◌++◌, length, count_by, codes}
 use Rattle.sg_outside.specs.Faults.{Rose}
 use Rattle.sg_outside.specs.Streams.{AppendsFront, Seen}
 use Rattle.sg_outside.specs.TextLines.{lines_of}
+use Rattle.sg_outside.specs.declared.outcome.Outcome.{Outcome}
+use Rattle.sg_outside.specs.declared.outcome.Outcome.TheVariants as outcome
 use Rattle.sg_plan.specs.declared.plan.Fate.{Fate}
 use Rattle.sg_plan.specs.declared.plan.Fate.TheVariants as fate
 use Rattle.sg_lines.specs.Words.{decimal, encode_lower}
@@ -14,8 +16,7 @@ use Rattle.sg_check.specs.declared.judged.Total.{Total}
 use Rattle.sg_report.specs.Report.{totals_text}
 use Rattle.sg_accepted.specs.Totals.{told_totals}
 use Rattle.sg_sample.specs.SampleRun.{sample_draw, sample_plan, sample_record, sample_seed, sample_story}
-use Rattle.sg_sample.specs.declared.sampling.Sampled.{Sampled}
-use Rattle.sg_sample.specs.declared.sampling.Sampled.TheVariants as sampled
+use Rattle.sg_words.specs.declared.sample.Sample.{Sample}
 
 -- WHAT BECAME OF THE BALLOTS
 
@@ -75,17 +76,17 @@ summary_text number ballots =
     (encode_lower (seal_3 (sample_plan ballots) (sample_seed number) fates (sample_draw number)).0)
     (told_totals (sample_plan ballots) (sample_seed number) fates)
 
--- HOW ITS WRITING ENDS
+-- HOW IT ENDS
 
--- it was appended whole; or the output failed, and a front of it was appended; or memory was wanted, and nothing was
+-- the output's count of faults rose, and a front of the summary was written
+pub record CutsSummary (asked : Sample) (out out' : Seen) : Type 0 where
+  pub cause : Rose out.faults out'.faults
+  pub written : AppendsFront out.bytes out'.bytes (summary_text asked.seed asked.ballots)
+
+-- how `sample` ended: the summary of the run was written whole; or a write failed; or memory was wanted, and nothing was
 -- written
-abbrev pub SampleEnds : Sampled → Seen → Seen → List ℕ → Type 0
-SampleEnds sampled.Done before now text = Appends before.bytes now.bytes text
-SampleEnds sampled.WriteFault before now text = Rose before.faults now.faults × AppendsFront before.bytes now.bytes text
-SampleEnds sampled.NoMemory before now text = Keeps before.bytes now.bytes
-
--- the status that the program ends with
-abbrev pub sample_status : Sampled → ℕ
-sample_status sampled.Done = 0
-sample_status sampled.WriteFault = 4
-sample_status sampled.NoMemory = 9
+abbrev pub SampleSays : Sample → Outcome → Seen → Seen → Type 0
+SampleSays asked outcome.Done out out' = Appends out.bytes out'.bytes (summary_text asked.seed asked.ballots)
+SampleSays asked outcome.WriteFailed out out' = CutsSummary asked out out'
+SampleSays asked outcome.NoMemory out out' = out' ≡ out
+SampleSays asked _ out out' = ⊥

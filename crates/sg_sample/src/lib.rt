@@ -18,5 +18,5 @@ mod sampling;
 mod steady;
 mod telling;
 
-pub use sampling::{Sampled, sample, sampled_status};
+pub use sampling::sample;
 pub use sg_words::{Sample, sample_of};

@@ -4,7 +4,7 @@ ghost use Rattle.sg_outside.specs.Streams.{seen};
 ghost use Rattle.sg_post.specs.Fits.{story_fits};
 ghost use Rattle.sg_histories.specs.Standing.{StandsFor};
 ghost use Rattle.sg_sample.specs.SampleRun.{sample_history, sample_record, sample_setup, sample_story};
-ghost use Rattle.sg_sample.specs.Summary.{SampleEnds, sample_status, summary_of, summary_text};
+ghost use Rattle.sg_sample.specs.Summary.{SampleSays, summary_of, summary_text};
 
 use crate::asking::sample_office;
 use crate::counts::{count_audited, count_cast, count_lines, count_spoiled, last_digits};
@@ -14,33 +14,11 @@ use crate::putting::put_lines;
 use crate::telling::{add_digits, add_number, add_totals};
 use sg_check::Total;
 use sg_office::Office;
-use sg_outside::{Failed, Sink};
+use sg_outside::{Failed, Outcome, Sink};
 use sg_plan::{Items, NoMemory, Word};
 use sg_post::{Story, Told};
 use sg_words::Sample;
 use std::alloc::Global;
-
-/// How a sample run ended.
-#[derive(Clone, Copy, Debug, PartialEq, Eq)]
-pub enum Sampled {
-    /// Its summary was written.
-    Done,
-    /// A write failed, and a front of the summary was written.
-    WriteFault,
-    /// Memory was wanted and not found, and nothing was written.
-    NoMemory,
-}
-
-/// The status that the program ends with: 0, 4 or 9.
-pub fn sampled_status(sampled: Sampled) -> u8
-    ensures { result ≡ sample_status sampled }
-{
-    match sampled {
-        Sampled::Done => 0,
-        Sampled::WriteFault => 4,
-        Sampled::NoMemory => 9,
-    }
-}
 
 /// The lines of a summary.
 #[tactic(auto, unfolding(crate::specs::Summary::summary_of))]
@@ -134,20 +112,20 @@ fn run_sample(alloc: Global, sample: Sample) -> Result<Word, NoMemory>
 /// its record is written into memory and audited, and then each line of the summary is one put. It depends on nothing but
 /// the two numbers.
 ///
-/// `Done`: the whole summary was appended. `WriteFault`: a front of it was, and the output has counted a fault.
+/// `Done`: the whole summary was appended. `WriteFailed`: a front of it was, and the output has counted a fault.
 /// `NoMemory`: nothing was written. All memory is taken before the first line is put.
-pub fn sample<O: Sink>(alloc: Global, sample: Sample, out: &mut O) -> Sampled
+pub fn sample<O: Sink>(alloc: Global, sample: Sample, out: &mut O) -> Outcome
     requires some { 1 ≤ sample.ballots }
     requires few { sample.ballots ≤ 9000 }
-    ensures ends { SampleEnds result (seen (O.written out.old) (O.faults out.old)) (seen (O.written out.new) (O.faults out.new)) (summary_text sample.seed sample.ballots) }
-    ensures quiet { result ≡ Sampled.NoMemory → out.new ≡ out.old }
+    ensures says { SampleSays sample result (seen (O.written out.old) (O.faults out.old)) (seen (O.written out.new) (O.faults out.new)) }
+    ensures quiet { result ≡ Outcome.NoMemory → out.new ≡ out.old }
     ensures later { O.faults out.old ≤ O.faults out.new }
 {
     let Ok(text) = run_sample(alloc, sample) else {
-        return Sampled::NoMemory;
+        return Outcome::NoMemory;
     };
     match put_lines(text.bytes(), out) {
-        Ok(()) => Sampled::Done,
-        Err(Failed) => Sampled::WriteFault,
+        Ok(()) => Outcome::Done,
+        Err(Failed) => Outcome::WriteFailed,
     }
 }

@@ -1,7 +1,7 @@
 //! What is told of a run.
 use super::script::add_marked;
 use crate::fault::Fault;
-use sg_clerk::{Ending, ending_status};
+use sg_clerk::Ending;
 use sg_keeper::{Keeper, Rows};
 use sg_links::Calls;
 use std::alloc::Global;
@@ -17,7 +17,7 @@ fn add_line(text: &mut String, word: &str, bytes: &[u8]) -> Result<(), Fault> {
 
 /// Adds the status that the run ended with, and what it wrote.
 pub(super) fn add_ending(text: &mut String, ending: Ending, written: &[u8]) -> Result<(), Fault> {
-    let status = ending_status(ending);
+    let status = ending.outcome().status();
     write!(text, "ended {status}\n")?;
     add_line(text, "wrote", written)
 }

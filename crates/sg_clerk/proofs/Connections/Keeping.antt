@@ -1,5 +1,6 @@
 -- A talk over connections keeps what was accepted and posted.
 use Rattle.std.proofs.Common.{ℕ, Bool, List, Option, Some, None, inl, inr}
+use Rattle.sg_outside.specs.declared.outcome.Outcome.{Outcome}
 use Rattle.sg_acts.specs.declared.asks.Ask.TheVariants as ask
 use Rattle.sg_keeper.specs.declared.rows.Rows.{Rows}
 use Rattle.sg_keeper.specs.declared.setup.Setup.{Setup}
@@ -41,8 +42,8 @@ calls_keep_record setup = turns_keep by_calls setup (λ call before after lawful
     ends_later call.how setup call.taken call.is_ended call.sent call.said before after lawful turn.1)
 
 -- `serve`
-pub serve_grows : (status port count : ℕ) (tells : Type 0) (rows rows' : Rows) (before now : Scene) → ServeSays status port count tells rows rows' before now → tells → KeepsPosted rows rows'
-serve_grows status port count tells rows rows' before now (inl served) told =
-    talks_grow AreServed stores_in (CallsEnd count (listening port before) now) status tells rows rows' before.keep_faults now.keep_faults calls_keep_record served told
-serve_grows status port count tells rows rows' before now (inr (inl shut)) told = same_grows rows rows' (shut.1.same told)
-serve_grows status port count tells rows rows' before now (inr (inr closed)) told = same_grows rows rows' (closed.same told)
+pub serve_grows : (result : Outcome) (port count : ℕ) (tells : Type 0) (rows rows' : Rows) (before now : Scene) → ServeSays result port count tells rows rows' before now → tells → KeepsPosted rows rows'
+serve_grows result port count tells rows rows' before now (inl served) told =
+    talks_grow AreServed stores_in (CallsEnd count (listening port before) now) result tells rows rows' before.keep_faults now.keep_faults calls_keep_record served told
+serve_grows result port count tells rows rows' before now (inr (inl shut)) told = same_grows rows rows' (shut.1.same told)
+serve_grows result port count tells rows rows' before now (inr (inr closed)) told = same_grows rows rows' (closed.same told)

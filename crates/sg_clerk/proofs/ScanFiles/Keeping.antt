@@ -1,5 +1,6 @@
 -- A talk over a scanner's file keeps what was accepted and posted.
-use Rattle.std.proofs.Common.{ℕ, List, inl, inr}
+use Rattle.std.proofs.Common.{List, inl, inr}
+use Rattle.sg_outside.specs.declared.outcome.Outcome.{Outcome}
 use Rattle.sg_keeper.specs.declared.rows.Rows.{Rows}
 use Rattle.sg_keeper.specs.declared.setup.Setup.{Setup}
 use Rattle.sg_talk.specs.declared.answered.Answered.{Answered}
@@ -24,7 +25,7 @@ pub scans_keep_record : ScansKeepRecord
 scans_keep_record setup = turns_keep by_scans setup (λ one. line_later setup one.line one.answer)
 
 -- `scans`
-pub scans_grow : (status : ℕ) (tells : Type 0) (rows rows' : Rows) (before now : Moment) → ScansSay status tells rows rows' before now → tells → KeepsPosted rows rows'
-scans_grow status tells rows rows' before now (inl talks) told =
-    talks_grow ScanTalk stores_of (ScansEnd before now) status tells rows rows' before.keep_faults now.keep_faults scans_keep_record talks told
-scans_grow status tells rows rows' before now (inr closed) told = same_grows rows rows' (closed.same told)
+pub scans_grow : (result : Outcome) (tells : Type 0) (rows rows' : Rows) (before now : Moment) → ScansSay result tells rows rows' before now → tells → KeepsPosted rows rows'
+scans_grow result tells rows rows' before now (inl talks) told =
+    talks_grow ScanTalk stores_of (ScansEnd before now) result tells rows rows' before.keep_faults now.keep_faults scans_keep_record talks told
+scans_grow result tells rows rows' before now (inr closed) told = same_grows rows rows' (closed.same told)

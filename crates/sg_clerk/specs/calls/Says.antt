@@ -1,6 +1,8 @@
--- How the command `serve` ends, by its status (this project's command line).
+-- How the command `serve` ends (this project's command line).
 use Rattle.std.specs.Prelude.{◌≡◌, ℕ, ◌⊎◌}
 use Rattle.sg_outside.specs.Faults.{Rose}
+use Rattle.sg_outside.specs.declared.outcome.Outcome.{Outcome}
+use Rattle.sg_outside.specs.declared.outcome.Outcome.TheVariants as outcome
 use Rattle.sg_keeper.specs.declared.rows.Rows.{Rows}
 use Rattle.sg_keeper.specs.declared.setup.Setup.{Setup}
 use Rattle.sg_histories.specs.ValidRows.{Whole, opening}
@@ -8,13 +10,12 @@ use Rattle.sg_clerk.specs.Talks.{StaysClosed, Talks}
 use Rattle.sg_clerk.specs.calls.Calls.{AreServed, stores_in}
 use Rattle.sg_clerk.specs.calls.Serves.{CallsEnd, Scene, listening, out_at}
 
--- 0, 4, 6 or 9, by how the run over the connections ended: an office was opened and the port listened on, and it served
--- connections
-abbrev pub HasServed : ℕ → ℕ → ℕ → (tells : Type 0) → Rows → Rows → Scene → Scene → Type 0
-HasServed status port count tells rows rows' before now =
-    Talks AreServed stores_in (CallsEnd count (listening port before) now) status tells rows rows' before.keep_faults now.keep_faults
+-- an office was opened and the port listened on, and it served connections
+abbrev pub HasServed : Outcome → ℕ → ℕ → (tells : Type 0) → Rows → Rows → Scene → Scene → Type 0
+HasServed result port count tells rows rows' before now =
+    Talks AreServed stores_in (CallsEnd count (listening port before) now) result tells rows rows' before.keep_faults now.keep_faults
 
--- 6: an office was opened, and the links' count of faults rose where the port was to be listened on; no connection was taken,
+-- an office was opened, and the links' count of faults rose where the port was to be listened on; no connection was taken,
 -- nothing was written, and the rows are as they were, where they are told
 pub record ListenFails (tells : Type 0) (rows rows' : Rows) (before now : Scene) : Type 0 where
   pub setup : Setup
@@ -28,10 +29,11 @@ pub record ListenFails (tells : Type 0) (rows rows' : Rows) (before now : Scene)
 abbrev pub IsUnlinked : Scene → Scene → Type 0
 IsUnlinked before now = (now.board ≡ before.board) × (now.link_faults ≡ before.link_faults)
 
--- How `serve` ended, by its status: there is no other. With 9 it may also be that memory was wanted behind an office that was
--- opened, before a port was listened on; that is told as where none is opened.
-abbrev pub ServeSays : ℕ → ℕ → ℕ → (tells : Type 0) → Rows → Rows → Scene → Scene → Type 0
-ServeSays status port count tells rows rows' before now =
-    HasServed status port count tells rows rows' before now
-    ⊎ ((status ≡ 6) × ListenFails tells rows rows' before now)
-    ⊎ StaysClosed (IsUnlinked before now) status tells rows rows' before.keep_faults now.keep_faults (out_at before) (out_at now)
+-- How `serve` ended: by the end of its run over connections; or the links failed before it; or no office was opened. It may
+-- also be that memory was wanted behind an office that was opened, before a port was listened on; that is told as where none
+-- is opened.
+abbrev pub ServeSays : Outcome → ℕ → ℕ → (tells : Type 0) → Rows → Rows → Scene → Scene → Type 0
+ServeSays result port count tells rows rows' before now =
+    HasServed result port count tells rows rows' before now
+    ⊎ ((result ≡ outcome.LinksFailed) × ListenFails tells rows rows' before now)
+    ⊎ StaysClosed (IsUnlinked before now) result tells rows rows' before.keep_faults now.keep_faults (out_at before) (out_at now)

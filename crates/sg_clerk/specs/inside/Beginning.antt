@@ -1,15 +1,15 @@
--- How `init` ends, by the program's own types, and what it read.
+-- What `init` read, kept and wrote.
 use Rattle.std.specs.Prelude.{◌≡◌, ◌≢◌, ℕ, ◌⊎◌, List, Option, None, Some, IfSome}
 use Rattle.std.specs.Io.KnownBytes.{Appends, IsAtEnd}
 use Rattle.sg_outside.specs.Faults.{Rose}
 use Rattle.sg_outside.specs.Streams.{AppendsFront, Seen}
+use Rattle.sg_outside.specs.declared.outcome.Outcome.{Outcome}
+use Rattle.sg_outside.specs.declared.outcome.Outcome.TheVariants as outcome
 use Rattle.sg_keeper.specs.Rows.{with_setup}
 use Rattle.sg_keeper.specs.SetupText.{IsSetup, setup_text}
 use Rattle.sg_keeper.specs.declared.rows.Rows.{Rows}
 use Rattle.sg_keeper.specs.declared.setup.Setup.{Setup}
-use Rattle.sg_clerk.specs.Begun.{AreSame, Begins, IsBadFile, IsFileOf, IsRefused, KeeperFails, LacksMemory, ReadFails, WriteFails, begun_line, refusal_line}
-use Rattle.sg_clerk.specs.declared.begun.Begun.{Begun}
-use Rattle.sg_clerk.specs.declared.begun.Begun.TheVariants as begun
+use Rattle.sg_clerk.specs.Begun.{AreSame, IsBadFile, IsFileOf, begun_line, refusal_line}
 use Rattle.sg_clerk.specs.declared.begun.File.{File}
 use Rattle.sg_clerk.specs.declared.begun.File.TheVariants as file
 use Rattle.sg_clerk.specs.declared.begun.Keeping.{Keeping}
@@ -54,47 +54,24 @@ KeepsSetup keeping.Fault setup tells rows rows' faults faults' = Rose faults fau
 KeepsSetup keeping.NoMemory setup tells rows rows' faults faults' = AreSame tells rows rows'
 
 -- the line that says that an office was set up was written, or a front of it where the output failed
-abbrev pub Tells : Begun → Seen → Seen → Type 0
-Tells begun.Done out out' = Appends out.bytes out'.bytes begun_line
-Tells begun.WriteFault out out' = Rose out.faults out'.faults × AppendsFront out.bytes out'.bytes begun_line
-Tells begun.ReadFault out out' = ⊥
-Tells begun.KeepFault out out' = ⊥
-Tells begun.Refused out out' = ⊥
-Tells begun.NoMemory out out' = ⊥
+abbrev pub Tells : Outcome → Seen → Seen → Type 0
+Tells outcome.Done out out' = Appends out.bytes out'.bytes begun_line
+Tells outcome.WriteFailed out out' = Rose out.faults out'.faults × AppendsFront out.bytes out'.bytes begun_line
+Tells _ out out' = ⊥
 
 -- the line of a refusal was written, or a front of it where the output failed, or nothing for want of memory
-abbrev pub Refuses : Begun → Refusal → Seen → Seen → Type 0
-Refuses begun.Refused why out out' = Appends out.bytes out'.bytes (refusal_line why)
-Refuses begun.WriteFault why out out' = Rose out.faults out'.faults × AppendsFront out.bytes out'.bytes (refusal_line why)
-Refuses begun.NoMemory why out out' = out' ≡ out
-Refuses begun.Done why out out' = ⊥
-Refuses begun.ReadFault why out out' = ⊥
-Refuses begun.KeepFault why out out' = ⊥
+abbrev pub Refuses : Outcome → Refusal → Seen → Seen → Type 0
+Refuses outcome.Refused why out out' = Appends out.bytes out'.bytes (refusal_line why)
+Refuses outcome.WriteFailed why out out' = Rose out.faults out'.faults × AppendsFront out.bytes out'.bytes (refusal_line why)
+Refuses outcome.NoMemory why out out' = out' ≡ out
+Refuses _ why out out' = ⊥
 
 -- a setup was kept or not, and what was written of that
-abbrev pub SetsUp : Begun → Setup → (tells : Type 0) → Rows → Rows → ℕ → ℕ → Seen → Seen → Type 0
-SetsUp begun.Done setup tells rows rows' faults faults' out out' = (tells → IsAdded setup rows rows') × Tells begun.Done out out'
-SetsUp begun.WriteFault setup tells rows rows' faults faults' out out' =
-    ((tells → IsAdded setup rows rows') × Tells begun.WriteFault out out') ⊎ ((tells → IsHad rows rows') × Refuses begun.WriteFault refusal.Begun out out')
-SetsUp begun.Refused setup tells rows rows' faults faults' out out' = (tells → IsHad rows rows') × Refuses begun.Refused refusal.Begun out out'
-SetsUp begun.KeepFault setup tells rows rows' faults faults' out out' = Rose faults faults' × AreSame tells rows rows' × (out' ≡ out)
-SetsUp begun.NoMemory setup tells rows rows' faults faults' out out' = AreSame tells rows rows' × (out' ≡ out)
-SetsUp begun.ReadFault setup tells rows rows' faults faults' out out' = ⊥
-
--- how `init` ended
-abbrev pub InitEnds : Begun → Seen → Seen → (tells : Type 0) → Rows → Rows → ℕ → ℕ → Seen → Seen → Type 0
-InitEnds begun.Done input input' tells rows rows' faults faults' out out' = Begins input input' tells rows rows' out out'
-InitEnds begun.ReadFault input input' tells rows rows' faults faults' out out' = ReadFails input input' tells rows rows' out out'
-InitEnds begun.WriteFault input input' tells rows rows' faults faults' out out' = WriteFails input tells rows rows' out out'
-InitEnds begun.KeepFault input input' tells rows rows' faults faults' out out' = KeeperFails faults faults' tells rows rows' out out'
-InitEnds begun.Refused input input' tells rows rows' faults faults' out out' = IsRefused input tells rows rows' out out'
-InitEnds begun.NoMemory input input' tells rows rows' faults faults' out out' = LacksMemory tells rows rows' out out'
-
--- 0: set up; 3: a read failed; 4: a write failed; 5: the keeper failed; 7: refused; 9: memory was wanted
-abbrev pub begun_status : Begun → ℕ
-begun_status begun.Done = 0
-begun_status begun.ReadFault = 3
-begun_status begun.WriteFault = 4
-begun_status begun.KeepFault = 5
-begun_status begun.Refused = 7
-begun_status begun.NoMemory = 9
+abbrev pub SetsUp : Outcome → Setup → (tells : Type 0) → Rows → Rows → ℕ → ℕ → Seen → Seen → Type 0
+SetsUp outcome.Done setup tells rows rows' faults faults' out out' = (tells → IsAdded setup rows rows') × Tells outcome.Done out out'
+SetsUp outcome.WriteFailed setup tells rows rows' faults faults' out out' =
+    ((tells → IsAdded setup rows rows') × Tells outcome.WriteFailed out out') ⊎ ((tells → IsHad rows rows') × Refuses outcome.WriteFailed refusal.Begun out out')
+SetsUp outcome.Refused setup tells rows rows' faults faults' out out' = (tells → IsHad rows rows') × Refuses outcome.Refused refusal.Begun out out'
+SetsUp outcome.KeeperFailed setup tells rows rows' faults faults' out out' = Rose faults faults' × AreSame tells rows rows' × (out' ≡ out)
+SetsUp outcome.NoMemory setup tells rows rows' faults faults' out out' = AreSame tells rows rows' × (out' ≡ out)
+SetsUp _ setup tells rows rows' faults faults' out out' = ⊥

@@ -1,16 +1,16 @@
 //! `serve`: connections to a port are asks of the office, one each, and each is answered.
-ghost use Rattle.std.specs.Prelude.{◌≡◌, ◌≢◌, ◌⊎◌, false};
+ghost use Rattle.std.specs.Prelude.{◌≡◌, ◌⊎◌, false};
 ghost use Rattle.sg_clerk.specs.calls.Says.{ServeSays};
 
 use crate::calls::station::serve_calls;
-use crate::{ending_status, open_kept, show_closed, shown_status};
+use crate::open_office;
 use sg_keeper::Keeper;
 use sg_links::Links;
-use sg_outside::Sink;
+use sg_outside::{Outcome, Sink};
 use std::alloc::Global;
 
 /// Opens the office of the keeper's rows, and takes and serves so many connections on a port, one after another, as
-/// [`serve_calls`] does. Where there is no office, no port is listened on. Answers the status that the program ends with.
+/// [`serve_calls`] does. Where there is no office, no port is listened on.
 pub fn serve<L: Links, K: Keeper, O: Sink>(
     alloc: Global,
     port: u16,
@@ -18,24 +18,23 @@ pub fn serve<L: Links, K: Keeper, O: Sink>(
     links: &mut L,
     keeper: &mut K,
     out: &mut O,
-) -> u8
+) -> Outcome
     requires { L.is_open links.old ≡ false }
     ensures says { ServeSays result port count (K.tells keeper.old) (K.rows keeper.old) (K.rows keeper.new)
         (record { board = L.board links.old; written = O.written out.old; link_faults = L.faults links.old; write_faults = O.faults out.old; keep_faults = K.faults keeper.old })
         (record { board = L.board links.new; written = O.written out.new; link_faults = L.faults links.new; write_faults = O.faults out.new; keep_faults = K.faults keeper.new }) }
     // Where no office is opened, the links are as they were.
-    ensures unlinked { (result ≡ 5) ⊎ (result ≡ 7) ⊎ (result ≡ 8) → links.new ≡ links.old }
+    ensures unlinked { (result ≡ Outcome.KeeperFailed) ⊎ (result ≡ Outcome.Refused) ⊎ (result ≡ Outcome.Damaged) → links.new ≡ links.old }
     ensures closed { L.is_open links.new ≡ false }
     ensures told { K.tells keeper.old → K.tells keeper.new }
-    ensures words { result ≢ 2 }
 {
-    match open_kept(alloc, keeper) {
+    match open_office(alloc, keeper, out) {
         Ok(office) => {
             let mut office = office;
             let ending = serve_calls(alloc, port, count, links, keeper, &mut office, out);
             drop(office);
-            ending_status(ending)
+            ending.outcome()
         }
-        Err(why) => shown_status(show_closed(alloc, why, out)),
+        Err(how) => how,
     }
 }

@@ -1,9 +1,12 @@
--- What an audit says by its status is its promise.
+-- How an audit ends says its promise.
 use Rattle.std.proofs.Common.{◌≡◌, ◌≢◌, ℕ, inl, inr, List, Option, None, Some, refl, sym, subst, arith}
 use Rattle.std.specs.Io.KnownBytes.{Appends}
 use Rattle.std.specs.Prelude.{IfSome}
+use Rattle.sg_outside.specs.Outcomes.{status_of}
 use Rattle.sg_outside.specs.Streams.{Seen}
 use Rattle.sg_outside.specs.TextLines.{lines_of}
+use Rattle.sg_outside.specs.declared.outcome.Outcome.{Outcome}
+use Rattle.sg_outside.specs.declared.outcome.Outcome.TheVariants as outcome
 use Rattle.sg_check.proofs.Accepted.{yes_is_sound}
 use Rattle.sg_check.proofs.Finding.{find-none}
 use Rattle.sg_check.proofs.Fine.{none_bad_are_fine}
@@ -31,39 +34,37 @@ not_no totals number broken same = subst IsNo (sym same) tt
 at_bytes : (known : Option (List ℕ)) (bytes : List ℕ) (P : List ℕ → Type 0) → known ≡ Some bytes → IfSome known P → P bytes
 at_bytes known bytes P same told = subst (λ (k : Option (List ℕ)). IfSome k P) same told
 
--- after status 0 the verdict on the input's bytes is yes
-yes_verdict : (bytes : List ℕ) (status : ℕ) (input input' out out' : Seen) → input.bytes ≡ Some bytes → AuditSays status input input' out out' → status ≡ 0
+-- where the work was done the verdict on the input's bytes is yes
+yes_verdict : (bytes : List ℕ) (how : Outcome) (input input' out out' : Seen) → input.bytes ≡ Some bytes → AuditSays how input input' out out' → status_of how ≡ 0
     → IsVerdict (lines_of bytes) (Yes (totals_of (lines_of bytes)))
-yes_verdict bytes status input input' out out' same (inl (inl says)) is =
-    let good : IsVerdict (lines_of bytes) (Yes says.1.totals) = at_bytes input.bytes bytes (λ b. IsVerdict (lines_of b) (Yes says.1.totals)) same says.1.judged in
+yes_verdict bytes outcome.Done input input' out out' same says is =
+    let good : IsVerdict (lines_of bytes) (Yes says.totals) = at_bytes input.bytes bytes (λ b. IsVerdict (lines_of b) (Yes says.totals)) same says.judged in
     record { fine = good.fine; whole = good.whole; totals_are = refl }
-yes_verdict bytes status input input' out out' same (inl (inr says)) is = absurd (omega (arith, says.0, is))
-yes_verdict bytes status input input' out out' same (inr (inl says)) is = absurd (omega (arith, says.0, is))
-yes_verdict bytes status input input' out out' same (inr (inr (inl says))) is = absurd (omega (arith, says.0, is))
-yes_verdict bytes status input input' out out' same (inr (inr (inr says))) is = absurd (omega (arith, says.0, is))
+yes_verdict bytes _ input input' out out' same says is = absurd (omega (arith, is))
 
 -- where the verdict on the input's bytes is yes, that is the answer
-pub answers_yes : (totals : List Total) (bytes : List ℕ) (status : ℕ) (input input' out out' : Seen) → input.bytes ≡ Some bytes → IsVerdict (lines_of bytes) (Yes totals)
-    → AuditSays status input input' out out' → IsAnsweredYes totals status input input' out out'
-answers_yes totals bytes status input input' out out' same good (inl (inl says)) =
-    let found : IsVerdict (lines_of bytes) (Yes says.1.totals) = at_bytes input.bytes bytes (λ b. IsVerdict (lines_of b) (Yes says.1.totals)) same says.1.judged in
-    inl (says.0, subst (λ (j : Judged). Appends out.bytes out'.bytes (report_of j)) (one_verdict (lines_of bytes) (Yes says.1.totals) (Yes totals) found good) says.1.written)
-answers_yes totals bytes status input input' out out' same good (inl (inr says)) =
-    let bad : IsVerdict (lines_of bytes) (No says.1.line says.1.broken) = at_bytes input.bytes bytes (λ b. IsVerdict (lines_of b) (No says.1.line says.1.broken)) same says.1.judged in
-    absurd (not_no totals says.1.line says.1.broken (one_verdict (lines_of bytes) (Yes totals) (No says.1.line says.1.broken) good bad))
-answers_yes totals bytes status input input' out out' same good (inr (inl says)) = inr (inl (says.0, says.1.cause))
-answers_yes totals bytes status input input' out out' same good (inr (inr (inl says))) = inr (inr (inl (says.0, says.1.cause)))
-answers_yes totals bytes status input input' out out' same good (inr (inr (inr says))) = inr (inr (inr says.0))
+pub answers_yes : (totals : List Total) (bytes : List ℕ) (how : Outcome) (input input' out out' : Seen) → input.bytes ≡ Some bytes → IsVerdict (lines_of bytes) (Yes totals)
+    → AuditSays how input input' out out' → IsAnsweredYes totals (status_of how) input input' out out'
+answers_yes totals bytes outcome.Done input input' out out' same good says =
+    let found : IsVerdict (lines_of bytes) (Yes says.totals) = at_bytes input.bytes bytes (λ b. IsVerdict (lines_of b) (Yes says.totals)) same says.judged in
+    inl (refl, subst (λ (j : Judged). Appends out.bytes out'.bytes (report_of j)) (one_verdict (lines_of bytes) (Yes says.totals) (Yes totals) found good) says.written)
+answers_yes totals bytes outcome.No input input' out out' same good says =
+    let bad : IsVerdict (lines_of bytes) (No says.line says.broken) = at_bytes input.bytes bytes (λ b. IsVerdict (lines_of b) (No says.line says.broken)) same says.judged in
+    absurd (not_no totals says.line says.broken (one_verdict (lines_of bytes) (Yes totals) (No says.line says.broken) good bad))
+answers_yes totals bytes outcome.ReadFailed input input' out out' same good says = inr (inl (refl, says.cause))
+answers_yes totals bytes outcome.WriteFailed input input' out out' same good says = inr (inr (inl (refl, says.cause)))
+answers_yes totals bytes outcome.NoMemory input input' out out' same good says = inr (inr (inr refl))
+answers_yes totals bytes _ input input' out out' same good says = absurd says
 
 -- how an audit ended says the promise, where its input told its bytes
-pub promise_of : (known : Option (List ℕ)) (status : ℕ) (input input' out out' : Seen) → input.bytes ≡ known → AuditSays status input input' out out'
-    → IfSome known (λ bytes. Promise (lines_of bytes) status input input' out out')
-promise_of None status input input' out out' same says = tt
-promise_of (Some bytes) status input input' out out' same says =
-    let sound : status ≡ 0 → IsSound (lines_of bytes) (totals_of (lines_of bytes))
-    = λ is. yes_is_sound (lines_of bytes) (totals_of (lines_of bytes)) (yes_verdict bytes status input input' out out' same says is) in
+pub promise_of : (known : Option (List ℕ)) (how : Outcome) (input input' out out' : Seen) → input.bytes ≡ known → AuditSays how input input' out out'
+    → IfSome known (λ bytes. Promise (lines_of bytes) (status_of how) input input' out out')
+promise_of None how input input' out out' same says = tt
+promise_of (Some bytes) how input input' out out' same says =
+    let sound : status_of how ≡ 0 → IsSound (lines_of bytes) (totals_of (lines_of bytes))
+    = λ is. yes_is_sound (lines_of bytes) (totals_of (lines_of bytes)) (yes_verdict bytes how input input' out out' same says is) in
     record {
-      yes = λ is. record { whole = (yes_verdict bytes status input input' out out' same says is).whole; openings = (sound is).openings; agree = (sound is).agree };
-      exactly = λ right. answers_yes (totals_of (lines_of bytes)) bytes status input input' out out' same (right_is_good (lines_of bytes) right) says;
+      yes = λ is. record { whole = (yes_verdict bytes how input input' out out' same says is).whole; openings = (sound is).openings; agree = (sound is).agree };
+      exactly = λ right. answers_yes (totals_of (lines_of bytes)) bytes how input input' out out' same (right_is_good (lines_of bytes) right) says;
       bound = sound;
     }

@@ -3,8 +3,11 @@ use Rattle.std.proofs.Common.{◌≡◌, ◌≢◌, ℕ, suc, ◌+◌, ◌*◌, 
 use Rattle.std.specs.Prelude.{◌⊎◌, Option}
 use Rattle.std.specs.List.{join_with_byte, list_all}
 use Rattle.std.proofs.lemmas.Bool.{and_parts, eqb-true}
+use Rattle.std.proofs.lemmas.List.{length-map}
 use Rattle.sg_commit.specs.declared.Opening.{Opening}
+use Rattle.sg_outside.specs.Outcomes.{status_of}
 use Rattle.sg_outside.specs.TextLines.{HasNoFeed, lines_of}
+use Rattle.sg_outside.specs.declared.outcome.Outcome.TheVariants as outcome
 use Rattle.sg_outside.proofs.LineLemmas.{lines_of-concat, lines_of-lines, lines_of-part}
 use Rattle.sg_plan.proofs.PlanLaws.{bounds}
 use Rattle.sg_plan.specs.Ballots.{entries_before, entries_of, r_rows}
@@ -29,17 +32,18 @@ use Rattle.sg_parts.specs.Given.{AreParts, Given, IsAccepted, IsGiven, completio
 use Rattle.sg_parts.specs.declared.parts.RowGiven.{RowGiven}
 use Rattle.sg_parts.specs.declared.parts.RecountFault.{RecountFault}
 use Rattle.sg_parts.specs.declared.parts.RecountFault.TheVariants as fault
-use Rattle.sg_recount.specs.declared.findings.Findings.{Findings}
-use Rattle.sg_reports.proofs.Courts.Ending.{EndsAtEnd, HoldsOfFaults, IsDueStatus, IsOneForNo}
+use Rattle.sg_driver.specs.Judging.{IsOfAnswer}
 use Rattle.sg_reports.proofs.Courts.Lines.{Fed, fed_end}
 use Rattle.sg_reports.proofs.Courts.Putting.{exponents_are}
 use Rattle.sg_reports.specs.court.Heard.{EndsLong, HasOneMore}
-use Rattle.sg_reports.specs.court.Odds.{OddsDue}
-use Rattle.sg_reports.specs.court.Recounts.{IsFaulty, RecountDue, fault_status, findings_text}
-use Rattle.sg_reports.specs.court.inside.Finding.{FindsAll, FindsOddsOf, HasOdds, odds_status, odds_text}
+use Rattle.sg_reports.specs.court.Recounts.{IsFaulty, fault_outcome, fault_text}
+use Rattle.sg_reports.specs.court.inside.Finding.{FindsAll, IsFound, due_of, found_outcome, found_text}
 use Rattle.sg_reports.specs.court.inside.Hearing.{IsYes}
-use Rattle.sg_reports.specs.declared.court.exponents.Exponents.{Exponents}
 use Rattle.sg_reports.specs.declared.court.exponents.Exponents.TheVariants as exponents
+use Rattle.sg_reports.specs.declared.court.found.Found.{Found}
+use Rattle.sg_reports.specs.declared.court.found.Found.TheVariants as found
+use Rattle.sg_reports.specs.declared.court.found.Question.{Question}
+use Rattle.sg_reports.specs.declared.court.found.Question.TheVariants.{Odds, Recount}
 
 -- LISTS
 
@@ -83,10 +87,6 @@ races_long plan race (x ∷ rows) all =
     let spread : plan.instances * (entries_before plan race + entries_of plan race) ≡ plan.instances * entries_before plan race + plan.instances * entries_of plan race = grind arith in
     omega (arith, joined_both x (joined rows), long, rest, ap (λ n. plan.instances * entries_before plan n) next, ap (λ n. plan.instances * entries_before plan n) last, spread)
 
-pub maps_long : {A B : Type 0} (f : A → B) (xs : List A) → length (map f xs) ≡ length xs
-maps_long f [] = refl
-maps_long f (x ∷ xs) = ap suc (maps_long f xs)
-
 -- a completion has a line for each row
 pub rows_few : (plan : Plan) (rows : List (List (List RowGiven))) → has_rows plan rows ≡ true → length (completion_texts rows) ≡ r_rows plan
 rows_few plan rows has =
@@ -95,13 +95,13 @@ rows_few plan rows has =
     let races = eqb-true (length rows) (length plan.races) parts.0 in
     let all : 0 + length rows ≡ length plan.races = omega (arith, races) in
     let none : plan.instances * 0 ≡ 0 = omega arith in
-    maps_long row_text (joined (joined rows)) ∙ omega (arith, counted, none, ap (λ n. plan.instances * entries_before plan n) all)
+    length-map (joined (joined rows)) row_text ∙ omega (arith, counted, none, ap (λ n. plan.instances * entries_before plan n) all)
 
 -- ALL LINES
 
 -- a sheet has few lines
 pub sheet_few : (plan : Plan) (printed : Printed) → fault_of plan ≡ None → length (sheet_lines plan printed) ≤ 660000
-sheet_few plan printed fine = omega (arith, due_few plan fine, maps_long (line_due printed) (sheet_due plan), ap length (sheet_printed plan printed))
+sheet_few plan printed fine = omega (arith, due_few plan fine, length-map (sheet_due plan) (line_due printed), ap length (sheet_printed plan printed))
 
 -- all parts have no more lines than there may be
 pub given_few : (lines : List (List ℕ)) (given : Given) → IsGiven lines given → IsAccepted given.posted → length lines ≤ 2060002
@@ -109,7 +109,7 @@ given_few lines given is accepted =
     let plan = given.posted.plan in
     let fine = good_plan given.posted accepted in
     let posted = record_few given.posted accepted in
-    let sheet : length (sheet_texts plan given.codes) ≤ 660000 = omega (arith, maps_long (line_text plan.version) (sheet_lines plan (printed_of given.codes)), sheet_few plan (printed_of given.codes) fine) in
+    let sheet : length (sheet_texts plan given.codes) ≤ 660000 = omega (arith, length-map (sheet_lines plan (printed_of given.codes)) (line_text plan.version), sheet_few plan (printed_of given.codes) fine) in
     let rows = rows_few plan given.rows is.rows in
     let most = (bounds plan fine).few_r_rows in
     omega (
@@ -177,119 +177,82 @@ parts_are_whole given read is parts (inr long) =
     ∙ (lines_of-lines long.before long.rest long.are_lines ∙ ap (λ (l : List (List ℕ)). long.before ++ l) (lines_of-part long.rest long.unended (omega (arith, long.long)))) in
     given_fed (lines_of read) given is long.before long.rest lines long.unended
 
--- STATUSES
+-- OUTCOMES
 
--- the status for a fault is 1 or 7
-fault_statuses : (lines : List (List ℕ)) (status : ℕ) (text : List ℕ) → IsFaulty lines status text → (status ≡ 1) ⊎ (status ≡ 7)
-fault_statuses lines status text faulty = by_fault faulty.wrong faulty.known faulty.status_is
+-- a fault other than want of memory ends the command as an answer does
+pub fault_answers : (wrong : RecountFault) → wrong ≢ fault.NoMemory → IsOfAnswer (fault_outcome wrong)
+fault_answers fault.NoMemory known = absurd (known refl)
+fault_answers _ known = tt
+
+-- what is due for it is due
+pub fault_due : (question : Question) (lines : List (List ℕ)) (wrong : RecountFault) → HasFault lines wrong → wrong ≢ fault.NoMemory → due_of question lines (fault_outcome wrong) (fault_text wrong)
+fault_due question lines wrong has known = by_fault question wrong known (record { wrong = wrong; has = has; known = known; outcome_is = refl; text_is = refl })
   where
-    by_fault : (wrong : RecountFault) → wrong ≢ fault.NoMemory → status ≡ fault_status wrong → (status ≡ 1) ⊎ (status ≡ 7)
-    by_fault (fault.Record line broken) known e = inl e
-    by_fault (fault.Printing line) known e = inr e
-    by_fault (fault.Stand race instance row) known e = inr e
-    by_fault (fault.Completion line) known e = inr e
-    by_fault (fault.Opening race instance row) known e = inr e
-    by_fault (fault.Posted race instance row) known e = inr e
-    by_fault fault.NoMemory known e = absurd (known refl)
+    by_fault : (asked : Question) (w : RecountFault) → w ≢ fault.NoMemory → IsFaulty lines (fault_outcome w) (fault_text w) → due_of asked lines (fault_outcome w) (fault_text w)
+    by_fault Recount fault.NoMemory other faulty = absurd (other refl)
+    by_fault Recount _ other faulty = faulty
+    by_fault Odds fault.NoMemory other faulty = absurd (other refl)
+    by_fault Odds (fault.Record line broken) other faulty = faulty
+    by_fault Odds _ other faulty = inr faulty
 
-faulty_not_zero : (lines : List (List ℕ)) (text : List ℕ) → IsFaulty lines 0 text → ⊥
-faulty_not_zero lines text faulty = elim (fault_statuses lines 0 text faulty) [ inl one ↦ omega (arith, one) | inr seven ↦ omega (arith, seven) ]
+-- where the lines are those of a front with which no input begins, no work is done
+pub ends : (question : Question) (text read : List ℕ) → due_of question (lines_of read) outcome.Done text → HasOneMore read ⊎ EndsLong read → ⊥
+ends Recount text read finds cut = parts_are_whole finds.given read finds.is_given finds.parts cut
+ends Odds text read finds cut = parts_are_whole finds.given read finds.is_given finds.parts cut
 
-pub recount_ends : EndsAtEnd RecountDue
-recount_ends text read (inl finds) cut = parts_are_whole finds.1.given read finds.1.is_given finds.1.parts cut
-recount_ends text read (inr faulty) cut = faulty_not_zero (lines_of read) text faulty
-
-pub odds_ends : EndsAtEnd OddsDue
-odds_ends text read (inl finds) cut = parts_are_whole finds.1.given read finds.1.is_given finds.1.parts cut
-odds_ends text read (inr (inl lacks)) cut = absurd (omega (arith, lacks.0))
-odds_ends text read (inr (inr faulty)) cut = faulty_not_zero (lines_of read) text faulty
-
--- where the verdict on the record is yes, no fault has status 1
-faulty_not_one : (lines : List (List ℕ)) (text : List ℕ) → IsYes lines → IsFaulty lines 1 text → ⊥
-faulty_not_one lines text good faulty = by_fault faulty.wrong faulty.has faulty.status_is
+-- where the verdict on the record is yes, the answer is not no
+faulty_not_no : (lines : List (List ℕ)) (text : List ℕ) → IsYes lines → IsFaulty lines outcome.No text → ⊥
+faulty_not_no lines text good faulty = by_fault faulty.wrong faulty.has faulty.outcome_is
   where
     no_yes : (line : ℕ) (broken : Kind) → ◌≡◌ {A = Judged} (judged.Yes good.0) (judged.No line broken) → ⊥
     no_yes line broken e = cc
 
-    other : ◌≡◌ {A = ℕ} 1 7 → ⊥
-    other e = omega (arith, e)
-
-    none : ◌≡◌ {A = ℕ} 1 9 → ⊥
-    none e = omega (arith, e)
-
-    by_fault : (wrong : RecountFault) → HasFault lines wrong → ◌≡◌ {A = ℕ} 1 (fault_status wrong) → ⊥
+    by_fault : (wrong : RecountFault) → HasFault lines wrong → outcome.No ≡ fault_outcome wrong → ⊥
     by_fault (fault.Record line broken) has e = no_yes line broken (one_verdict (record_lines lines) (judged.Yes good.0) (judged.No line broken) good.1 has)
-    by_fault (fault.Printing line) has e = other e
-    by_fault (fault.Stand race instance row) has e = other e
-    by_fault (fault.Completion line) has e = other e
-    by_fault (fault.Opening race instance row) has e = other e
-    by_fault (fault.Posted race instance row) has e = other e
-    by_fault fault.NoMemory has e = none e
+    by_fault _ has e = omega (arith, ap status_of e)
 
-pub recount_one : IsOneForNo RecountDue
-recount_one lines text good (inl finds) = absurd (omega (arith, finds.0))
-recount_one lines text good (inr faulty) = faulty_not_one lines text good faulty
-
-pub odds_one : IsOneForNo OddsDue
-odds_one lines text good (inl finds) = absurd (omega (arith, finds.0))
-odds_one lines text good (inr (inl lacks)) = absurd (omega (arith, lacks.0))
-odds_one lines text good (inr (inr faulty)) = faulty_not_one lines text good faulty
-
--- what is due for a fault is due
-pub recount_faults : HoldsOfFaults RecountDue
-recount_faults lines status text faulty = inr faulty
-
-pub odds_faults : HoldsOfFaults OddsDue
-odds_faults lines status text faulty = inr (inr faulty)
+pub not_no : (question : Question) (lines : List (List ℕ)) (text : List ℕ) → IsYes lines → due_of question lines outcome.No text → ⊥
+not_no Recount lines text good faulty = faulty_not_no lines text good faulty
+not_no Odds lines text good faulty = faulty_not_no lines text good faulty
 
 -- WHAT IS FOUND IS DUE
 
-pub findings_due : (lines : List (List ℕ)) (findings : Findings) → FindsAll lines findings → RecountDue lines 0 (findings_text findings)
-findings_due lines findings finds = inl (
-  refl,
-  record {
-    given = finds.given;
-    findings = findings;
-    is_given = finds.is_given;
-    parts = finds.found.parts;
-    are = finds.found.are;
-    bound = finds.found.bound;
-    text_is = refl;
-  },
-)
+pub found_answers : (what : Found) → IsOfAnswer (found_outcome what)
+found_answers (found.Findings findings) = tt
+found_answers (found.Exponents (exponents.All values)) = tt
+found_answers (found.Exponents (exponents.NotFull lacking)) = tt
 
-pub exponents_due : (lines : List (List ℕ)) (odds : Exponents) → FindsOddsOf lines odds → OddsDue lines (odds_status odds) (odds_text odds)
-exponents_due lines odds finds = by_odds odds finds.has
+pub found_due : (question : Question) (lines : List (List ℕ)) (what : Found) → FindsAll lines question what → due_of question lines (found_outcome what) (found_text what)
+found_due question lines what finds = by_found question what finds.is_found
   where
-    by_odds : (odds : Exponents) → HasOdds finds.given odds → OddsDue lines (odds_status odds) (odds_text odds)
-    by_odds (exponents.All values) has = inl (
-      refl,
-      record {
-        given = finds.given;
-        is_given = finds.is_given;
-        parts = has.parts;
-        full = has.full;
-        bound = λ race less. has.bound race less has.full;
-        text_is = exponents_are finds.given (length finds.given.posted.plan.races) values has;
-      },
-    )
-    by_odds (exponents.NotFull lacking) has = inr (inl (
-      refl,
-      record {
-        given = finds.given;
-        is_given = finds.is_given;
-        parts = has.parts;
-        race = lacking.race;
-        instance = lacking.instance;
-        row = lacking.row;
-        within = has.within;
-        before = has.before;
-        first = has.first;
-        text_is = refl;
-      },
-    ))
-
--- its status is one that is due
-pub exponents_loud : (odds : Exponents) → IsDueStatus (odds_status odds)
-exponents_loud (exponents.All values) = inl refl
-exponents_loud (exponents.NotFull lacking) = inr (inr refl)
+    by_found : (asked : Question) (these : Found) → IsFound finds.given asked these → due_of asked lines (found_outcome these) (found_text these)
+    by_found Recount (found.Findings findings) has = record {
+      given = finds.given;
+      findings = findings;
+      is_given = finds.is_given;
+      parts = has.parts;
+      are = has.are;
+      bound = has.bound;
+      text_is = refl;
+    }
+    by_found Odds (found.Exponents (exponents.All values)) has = record {
+      given = finds.given;
+      is_given = finds.is_given;
+      parts = has.parts;
+      full = has.full;
+      bound = λ race less. has.bound race less has.full;
+      text_is = exponents_are finds.given (length finds.given.posted.plan.races) values has;
+    }
+    by_found Odds (found.Exponents (exponents.NotFull lacking)) has = inl (record {
+      given = finds.given;
+      is_given = finds.is_given;
+      parts = has.parts;
+      race = lacking.race;
+      instance = lacking.instance;
+      row = lacking.row;
+      within = has.within;
+      before = has.before;
+      first = has.first;
+      text_is = refl;
+    })
+    by_found _ _ none = absurd none

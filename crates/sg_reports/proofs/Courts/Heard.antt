@@ -6,13 +6,14 @@ use Rattle.std.specs.Io.KnownBytes.{Consumes}
 use Rattle.sg_plan.specs.Limits.{longest_line}
 use Rattle.sg_outside.specs.Cutting.{Cutting, to_come}
 use Rattle.sg_outside.specs.Streams.{Seen}
-use Rattle.sg_outside.specs.TextLines.{AreLines, IsLine, lines_of}
+use Rattle.sg_outside.specs.TextLines.{AreLines, lines_of}
 use Rattle.sg_outside.proofs.LineLemmas.{AreLines-append, lines_of-concat, lines_of-lines, lines_of-part}
 use Rattle.sg_outside.proofs.StreamLemmas.{Consumes-front, Consumes-nil, Consumes-trans}
 use Rattle.sg_check.proofs.OneMore.{fine-empty}
 use Rattle.sg_check.specs.Verdict.{IsGood, IsVerdict}
 use Rattle.sg_check.specs.declared.judged.Judged.TheVariants as judged
 use Rattle.sg_parts.specs.Faults.{record_lines}
+use Rattle.sg_driver.proofs.Cut.{concat-push, line-some}
 use Rattle.sg_driver.specs.Taken.{TookOneMore}
 use Rattle.sg_reports.proofs.Courts.Words.{word_more}
 use Rattle.sg_reports.specs.court.Heard.{IsRead, IsUnsettled, TookUnsettled}
@@ -20,16 +21,6 @@ use Rattle.sg_reports.specs.court.inside.Hearing.{HearsText, IsPosted, IsReadOn,
 use Rattle.sg_reports.specs.court.inside.Taking.{HasTaken, TakesFew, TakesLine, TakesNone, TakesRest}
 
 -- WHAT WAS TAKEN
-
--- one more line joined to others
-pub concat-push : (lines : List (List ℕ)) (line : List ℕ) → concat (lines ++ line ∷ []) ≡ concat lines ++ line
-concat-push [] line = append-nil line
-concat-push (x ∷ xs) line = ap (λ l. x ++ l) (concat-push xs line) ∙ sym (append_assoc x (concat xs) line)
-
--- a line has a byte
-pub line-some : (line : List ℕ) → IsLine line → 1 ≤ length line
-line-some [] is = absurd is
-line-some (x ∷ xs) is = omega arith
 
 -- one more line was
 unfoldable pub taken_more : (count : ℕ) (text text' : List ℕ) (lines lines' : Cutting) (before mid now : Option (List ℕ)) → HasTaken count text lines before mid → count ≤ 2060002

@@ -2,6 +2,7 @@
 use Rattle.std.proofs.Common.{◌≡◌, ℕ, zero, suc, ◌+◌, ◌<◌, ◌≤◌, inl, inr, Bool, true, false, List, [], ◌∷◌, ◌++◌, bytes_eq, codes, length, map, Option, Some, None, refl, sym, subst, ap, ◌∙◌, append_assoc, append-nil, length-append, arith}
 use Rattle.std.specs.List.{join_with_byte}
 use Rattle.std.specs.Option.{option_map_or}
+use Rattle.std.proofs.lemmas.List.{length-map}
 use Rattle.std.proofs.lemmas.Slice.Eq.{bytes_eq-Decides}
 use Rattle.sg_outside.specs.TextLines.{HasNoFeed}
 use Rattle.sg_forms.proofs.LineLaws.{lines_are_short}
@@ -27,7 +28,7 @@ use Rattle.sg_parts.specs.declared.parts.RecountFault.{RecountFault}
 use Rattle.sg_parts.specs.declared.parts.RecountFault.TheVariants as fault
 use Rattle.sg_driver.specs.Judging.{IsNoLine as HasNoEnd}
 use Rattle.sg_driver.proofs.Forms.{no_form}
-use Rattle.sg_reports.proofs.Courts.Given.{given_fed, given_few, head_same, maps_long, sheet_few, tail_same}
+use Rattle.sg_reports.proofs.Courts.Given.{given_fed, given_few, head_same, sheet_few, tail_same}
 use Rattle.sg_reports.proofs.Courts.Lines.{AreFewCodes, AreSmall, IsShort, IsSmall, ballot_short, codes_short, fed_end, sheet_small, short_differs, small_short}
 use Rattle.sg_reports.proofs.Courts.Verdicts.{HasNoForm, many_stay, over_is_no, over_stays}
 use Rattle.sg_reports.proofs.Courts.Words.{all_before, record_false, word_or_none}
@@ -94,7 +95,7 @@ module _ (lines more : List (List ℕ)) (many : length lines ≡ 2060003) where
         arith,
         all,
         length-append (sheet_texts plan lists) rest,
-        maps_long (line_text plan.version) (sheet_lines plan (printed_of lists)),
+        length-map (sheet_lines plan (printed_of lists)) (line_text plan.version),
         sheet_few plan (printed_of lists) fine,
         (bounds plan fine).few_r_rows,
       )

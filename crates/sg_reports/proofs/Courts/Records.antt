@@ -16,8 +16,8 @@ use Rattle.sg_judge.specs.Pass.{Judges, StandsFor, is_open}
 use Rattle.sg_judge.specs.declared.pass.Pass.{Pass}
 use Rattle.sg_parts.specs.Faults.{record_lines}
 use Rattle.sg_parts.specs.Given.{printing_line}
-use Rattle.sg_driver.proofs.Cut.{HasNoLine, end-cut, few-behind, few-of_all, line-cut, open-cut, some_then}
-use Rattle.sg_reports.proofs.Courts.Heard.{concat-push, lines_taken, read_end, read_on, taken_more, took_on, took_one}
+use Rattle.sg_driver.proofs.Cut.{HasNoLine, concat-push, end-cut, few-behind, few-of_all, line-cut, open-cut, some_then}
+use Rattle.sg_reports.proofs.Courts.Heard.{lines_taken, read_end, read_on, taken_more, took_on, took_one}
 use Rattle.sg_reports.proofs.Courts.Longer.{IsNoLine, none_of, part_is_none}
 use Rattle.sg_reports.proofs.Courts.Verdicts.{fine_few}
 use Rattle.sg_reports.proofs.Courts.Words.{all_before, before_here, none_behind, none_empty, none_more, record_false, word_here}

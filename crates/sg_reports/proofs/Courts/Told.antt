@@ -6,15 +6,18 @@ use Rattle.std.specs.Io.KnownBytes.{Consumes}
 use Rattle.sg_outside.proofs.LineLemmas.{lines_of-concat, lines_of-lines, lines_of-long, lines_of-part}
 use Rattle.sg_outside.proofs.StreamLemmas.{Consumes-all}
 use Rattle.sg_outside.specs.TextLines.{lines_of}
+use Rattle.sg_outside.specs.declared.outcome.Outcome.{Outcome}
+use Rattle.sg_outside.specs.declared.outcome.Outcome.TheVariants as outcome
 use Rattle.sg_parts.specs.Faults.{HasFault}
 use Rattle.sg_parts.specs.declared.parts.RecountFault.{RecountFault}
-use Rattle.sg_reports.proofs.Courts.Ending.{HoldsOfAll}
 use Rattle.sg_reports.proofs.Courts.Given.{parts_are_whole}
 use Rattle.sg_reports.proofs.Courts.Longer.{long_stays, many_fault}
 use Rattle.sg_reports.specs.court.Heard.{EndsLong, HasOneMore}
-use Rattle.sg_reports.specs.court.Odds.{OddsDue}
-use Rattle.sg_reports.specs.court.Recounts.{IsFaulty, RecountDue}
+use Rattle.sg_reports.specs.court.Recounts.{IsFaulty}
+use Rattle.sg_reports.specs.court.inside.Finding.{due_of}
 use Rattle.sg_reports.specs.court.inside.Hearing.{IsReadOn}
+use Rattle.sg_reports.specs.declared.court.found.Question.{Question}
+use Rattle.sg_reports.specs.declared.court.found.Question.TheVariants.{Odds, Recount}
 
 -- more was not read
 record IsCut (bytes read : List ℕ) : Type 0 where
@@ -50,32 +53,28 @@ cut_fault read more (inr long) wrong has =
     subst (λ (l : List (List ℕ)). HasFault l wrong) (sym longer)
     (long_stays long.before long.rest first.0 first.1 long.unended long.long wrong (subst (λ (l : List (List ℕ)). HasFault l wrong) lines has))
 
-faulty_told : (bytes read text : List ℕ) (status : ℕ) → IsCut bytes read → IsFaulty (lines_of read) status text → IsFaulty (lines_of bytes) status text
-faulty_told bytes read text status cut faulty = record {
+faulty_told : (bytes read text : List ℕ) (how : Outcome) → IsCut bytes read → IsFaulty (lines_of read) how text → IsFaulty (lines_of bytes) how text
+faulty_told bytes read text how cut faulty = record {
   wrong = faulty.wrong;
   has = subst (λ (b : List ℕ). HasFault (lines_of b) faulty.wrong) (sym cut.is) (cut_fault read cut.more cut.stops faulty.wrong faulty.has);
   known = faulty.known;
-  status_is = faulty.status_is;
+  outcome_is = faulty.outcome_is;
   text_is = faulty.text_is;
 }
 
-pub recount_told : HoldsOfAll RecountDue
-recount_told bytes read text status now is due = elim (all_or_cut bytes read now is) [
-  | inl same ↦ subst (λ (b : List ℕ). RecountDue (lines_of b) status text) (sym same) due
-  | inr cut ↦ by_due cut due
+pub due_told : (question : Question) (bytes read text : List ℕ) (how : Outcome) (now : Option (List ℕ)) → IsReadOn (Some bytes) now read → due_of question (lines_of read) how text
+    → due_of question (lines_of bytes) how text
+due_told question bytes read text how now is due = elim (all_or_cut bytes read now is) [
+  | inl same ↦ subst (λ (b : List ℕ). due_of question (lines_of b) how text) (sym same) due
+  | inr cut ↦ by_due question how cut due
 ]
   where
-    by_due : IsCut bytes read → RecountDue (lines_of read) status text → RecountDue (lines_of bytes) status text
-    by_due cut (inl finds) = absurd (parts_are_whole finds.1.given read finds.1.is_given finds.1.parts cut.stops)
-    by_due cut (inr faulty) = inr (faulty_told bytes read text status cut faulty)
-
-pub odds_told : HoldsOfAll OddsDue
-odds_told bytes read text status now is due = elim (all_or_cut bytes read now is) [
-  | inl same ↦ subst (λ (b : List ℕ). OddsDue (lines_of b) status text) (sym same) due
-  | inr cut ↦ by_due cut due
-]
-  where
-    by_due : IsCut bytes read → OddsDue (lines_of read) status text → OddsDue (lines_of bytes) status text
-    by_due cut (inl finds) = absurd (parts_are_whole finds.1.given read finds.1.is_given finds.1.parts cut.stops)
-    by_due cut (inr (inl lacks)) = absurd (parts_are_whole lacks.1.given read lacks.1.is_given lacks.1.parts cut.stops)
-    by_due cut (inr (inr faulty)) = inr (inr (faulty_told bytes read text status cut faulty))
+    by_due : (asked : Question) (ended : Outcome) → IsCut bytes read → due_of asked (lines_of read) ended text → due_of asked (lines_of bytes) ended text
+    by_due Recount outcome.Done cut finds = absurd (parts_are_whole finds.given read finds.is_given finds.parts cut.stops)
+    by_due Recount outcome.No cut faulty = faulty_told bytes read text outcome.No cut faulty
+    by_due Recount outcome.Refused cut faulty = faulty_told bytes read text outcome.Refused cut faulty
+    by_due Odds outcome.Done cut finds = absurd (parts_are_whole finds.given read finds.is_given finds.parts cut.stops)
+    by_due Odds outcome.No cut faulty = faulty_told bytes read text outcome.No cut faulty
+    by_due Odds outcome.Refused cut (inl lacks) = absurd (parts_are_whole lacks.given read lacks.is_given lacks.parts cut.stops)
+    by_due Odds outcome.Refused cut (inr faulty) = inr (faulty_told bytes read text outcome.Refused cut faulty)
+    by_due _ _ cut none = absurd none

@@ -1,8 +1,10 @@
--- How an audit ends, and with which status.
-use Rattle.std.specs.Prelude.{◌≡◌, ℕ, ◌⊎◌, false, List, Option, IfSome}
+-- How an audit ends.
+use Rattle.std.specs.Prelude.{◌≡◌, ℕ, false, List, Option, IfSome}
 use Rattle.std.specs.Io.KnownBytes.{Appends, IsAtEnd}
 use Rattle.sg_outside.specs.Streams.{Seen}
 use Rattle.sg_outside.specs.TextLines.{lines_of}
+use Rattle.sg_outside.specs.declared.outcome.Outcome.{Outcome}
+use Rattle.sg_outside.specs.declared.outcome.Outcome.TheVariants as outcome
 use Rattle.sg_check.specs.Bounds.{IsSound}
 use Rattle.sg_check.specs.Verdict.{AreFine, IsNo, IsVerdict}
 use Rattle.sg_check.specs.declared.judged.Judged.{Judged}
@@ -10,8 +12,8 @@ use Rattle.sg_check.specs.declared.judged.Judged.TheVariants.{Yes, No}
 use Rattle.sg_check.specs.declared.judged.Kind.{Kind}
 use Rattle.sg_check.specs.declared.judged.Total.{Total}
 use Rattle.sg_driver.specs.Judging.{Judging}
-use Rattle.sg_driver.specs.Says.{Ends}
-use Rattle.sg_driver.specs.Taken.{TookUpTo}
+use Rattle.sg_driver.specs.Says.{IsDue, ReadFails, WantsMemory, WriteFails}
+use Rattle.sg_driver.specs.Taken.{TookLines, TookUnended, TookUpTo}
 use Rattle.sg_judge.specs.Pass.{is_behind_plan}
 use Rattle.sg_report.specs.Report.{report_of}
 
@@ -33,20 +35,20 @@ HasRead (No line broken) before now = TookUpTo line before now
 abbrev pub AreOfPlan : List (List ℕ) → Type 0
 AreOfPlan lines = AreFine lines × (is_behind_plan lines ≡ false)
 
--- the status of a verdict
-abbrev pub status_of : Judged → ℕ
-status_of (Yes totals) = 0
-status_of (No line broken) = 1
+-- how a verdict ends the command
+abbrev pub outcome_of : Judged → Outcome
+outcome_of (Yes totals) = outcome.Done
+outcome_of (No line broken) = outcome.No
 
 -- What is judged is the verdict on the lines. Some of them may settle a no, whatever follows, and fine lines settle nothing.
 -- Memory may be wanted behind fine lines of the plan.
 abbrev pub audit : Judging Judged
-audit = record { IsAnswer = IsVerdict; Refuses = IsNo; Unsettled = AreFine; Wants = AreOfPlan; status = status_of; report = report_of }
+audit = record { IsAnswer = IsVerdict; Refuses = IsNo; Unsettled = AreFine; Wants = AreOfPlan; outcome = outcome_of; report = report_of }
 
--- WHAT EACH STATUS SAYS
+-- WHAT EACH OUTCOME SAYS
 
--- 0: the verdict on the input's bytes is yes, and what it promises holds of the totals in the report; the input was read to
--- its end, and the report was written whole
+-- the work was done: the verdict on the input's bytes is yes, and what it promises holds of the totals in the report; the input
+-- was read to its end, and the report was written whole
 pub record SaysYes (input input' out out' : Seen) : Type 0 where
   pub totals : List Total
   pub judged : Judges input.bytes (Yes totals)
@@ -54,8 +56,8 @@ pub record SaysYes (input input' out out' : Seen) : Type 0 where
   pub read : IsAtEnd input'.bytes
   pub written : Appends out.bytes out'.bytes (report_of (Yes totals))
 
--- 1: the verdict is no, fewer than 16,384 bytes behind the line that it names were taken, and the report was written
--- whole
+-- the answer is no: the verdict is, fewer than 16,384 bytes behind the line that it names were taken, and the report was
+-- written whole
 pub record SaysNo (input input' out out' : Seen) : Type 0 where
   pub line : ℕ
   pub broken : Kind
@@ -63,11 +65,12 @@ pub record SaysNo (input input' out out' : Seen) : Type 0 where
   pub read : TookUpTo line input.bytes input'.bytes
   pub written : Appends out.bytes out'.bytes (report_of (No line broken))
 
--- what is said of a verdict
-abbrev pub SaysVerdict : ℕ → Seen → Seen → Seen → Seen → Type 0
-SaysVerdict status input input' out out' = ((status ≡ 0) × SaysYes input input' out out') ⊎ ((status ≡ 1) × SaysNo input input' out out')
-
--- how an audit ended, by its status: with a verdict; with 3 where a read failed behind fine lines, with 4 where a write failed,
--- and with 9 where memory was wanted behind fine lines of the plan; there is no other
-abbrev pub AuditSays : ℕ → Seen → Seen → Seen → Seen → Type 0
-AuditSays = Ends audit HasRead SaysVerdict
+-- how an audit ended: with a verdict; where a read failed, behind fine lines; where a write failed; or where memory was wanted,
+-- behind fine lines of the plan; there is no other end
+abbrev pub AuditSays : Outcome → Seen → Seen → Seen → Seen → Type 0
+AuditSays outcome.Done input input' out out' = SaysYes input input' out out'
+AuditSays outcome.No input input' out out' = SaysNo input input' out out'
+AuditSays outcome.ReadFailed input input' out out' = ReadFails (TookUnended AreFine) input input' out out'
+AuditSays outcome.WriteFailed input input' out out' = WriteFails (IsDue audit HasRead) input input' out out'
+AuditSays outcome.NoMemory input input' out out' = WantsMemory (TookLines AreOfPlan) input input' out out'
+AuditSays _ input input' out out' = ⊥

@@ -1,5 +1,7 @@
 -- What is due of the same lines for the odds (this project's rules for the odds).
 use Rattle.std.specs.Prelude.{◌≡◌, ℕ, ◌<◌, ◌⊎◌, List, [], ◌∷◌, length, codes}
+use Rattle.sg_outside.specs.declared.outcome.Outcome.{Outcome}
+use Rattle.sg_outside.specs.declared.outcome.Outcome.TheVariants.{Done, No, Refused}
 use Rattle.sg_grammar.specs.Due.{each}
 use Rattle.sg_record.specs.Places.{places_in}
 use Rattle.sg_parts.specs.Given.{AreParts, Given, IsGiven, completion_of}
@@ -45,6 +47,10 @@ pub record LacksRow (lines : List (List ℕ)) (text : List ℕ) : Type 0 where
   pub first : IsFirstLacking given.posted.plan (completion_of given.rows) race instance row
   pub text_is : text ≡ numbers_line (codes "refused full") (race ∷ instance ∷ row ∷ [])
 
--- the status and the text of the odds: 0, and the exponents; or 7, and the first row that is lacking; or those for a fault
-abbrev pub OddsDue : List (List ℕ) → ℕ → List ℕ → Type 0
-OddsDue lines status text = ((status ≡ 0) × FindsOdds lines text) ⊎ ((status ≡ 7) × LacksRow lines text) ⊎ IsFaulty lines status text
+-- the outcome and the text of the odds: the work is done, and the exponents; or it is refused, and the first row that is
+-- lacking; or the line for a fault
+abbrev pub OddsDue : List (List ℕ) → Outcome → List ℕ → Type 0
+OddsDue lines Done text = FindsOdds lines text
+OddsDue lines No text = IsFaulty lines No text
+OddsDue lines Refused text = LacksRow lines text ⊎ IsFaulty lines Refused text
+OddsDue lines _ text = ⊥

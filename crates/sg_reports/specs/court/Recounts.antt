@@ -1,5 +1,7 @@
 -- What is due of the lines of a recount's input (this project's rules for a recount).
-use Rattle.std.specs.Prelude.{◌≡◌, ◌≢◌, ℕ, ◌+◌, ◌⊎◌, List, [], ◌∷◌, ◌++◌, codes}
+use Rattle.std.specs.Prelude.{◌≡◌, ◌≢◌, ℕ, ◌+◌, List, [], ◌∷◌, ◌++◌, codes}
+use Rattle.sg_outside.specs.declared.outcome.Outcome.{Outcome}
+use Rattle.sg_outside.specs.declared.outcome.Outcome.TheVariants as outcome
 use Rattle.sg_parts.specs.Faults.{HasFault}
 use Rattle.sg_parts.specs.Given.{AreParts, Given, IsGiven}
 use Rattle.sg_parts.specs.declared.parts.RecountFault.{RecountFault}
@@ -50,25 +52,27 @@ fault_text (fault.Opening race instance row) = numbers_line (codes "refused open
 fault_text (fault.Posted race instance row) = numbers_line (codes "refused posted") (race ∷ instance ∷ row ∷ [])
 fault_text fault.NoMemory = []
 
--- 1 where the record's verdict is no, and else 7; want of memory prints nothing
-abbrev pub fault_status : RecountFault → ℕ
-fault_status (fault.Record line broken) = 1
-fault_status (fault.Printing line) = 7
-fault_status (fault.Stand race instance row) = 7
-fault_status (fault.Completion line) = 7
-fault_status (fault.Opening race instance row) = 7
-fault_status (fault.Posted race instance row) = 7
-fault_status fault.NoMemory = 9
+-- a fault of the record is its verdict of no; any other but want of memory is refused
+abbrev pub fault_outcome : RecountFault → Outcome
+fault_outcome (fault.Record line broken) = outcome.No
+fault_outcome (fault.Printing line) = outcome.Refused
+fault_outcome (fault.Stand race instance row) = outcome.Refused
+fault_outcome (fault.Completion line) = outcome.Refused
+fault_outcome (fault.Opening race instance row) = outcome.Refused
+fault_outcome (fault.Posted race instance row) = outcome.Refused
+fault_outcome fault.NoMemory = outcome.NoMemory
 
--- the lines have a fault, other than want of memory, and the status and the text are those for it
-pub record IsFaulty (lines : List (List ℕ)) (status : ℕ) (text : List ℕ) : Type 0 where
+-- the lines have a fault, other than want of memory, and the outcome and the text are those for it
+pub record IsFaulty (lines : List (List ℕ)) (how : Outcome) (text : List ℕ) : Type 0 where
   pub wrong : RecountFault
   pub has : HasFault lines wrong
   pub known : wrong ≢ fault.NoMemory
-  pub status_is : status ≡ fault_status wrong
+  pub outcome_is : how ≡ fault_outcome wrong
   pub text_is : text ≡ fault_text wrong
 
--- the status and the text of a recount: 0, and what it finds; or 1 where the record's verdict is no, or 7 for another fault,
--- and the line for that
-abbrev pub RecountDue : List (List ℕ) → ℕ → List ℕ → Type 0
-RecountDue lines status text = ((status ≡ 0) × Finds lines text) ⊎ IsFaulty lines status text
+-- the outcome and the text of a recount: the work is done, and what it finds; or the line for a fault
+abbrev pub RecountDue : List (List ℕ) → Outcome → List ℕ → Type 0
+RecountDue lines outcome.Done text = Finds lines text
+RecountDue lines outcome.No text = IsFaulty lines outcome.No text
+RecountDue lines outcome.Refused text = IsFaulty lines outcome.Refused text
+RecountDue lines _ text = ⊥

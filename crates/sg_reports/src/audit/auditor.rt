@@ -1,11 +1,10 @@
 //! A pass as a judge of the lines that it is fed.
-ghost use Rattle.std.specs.Prelude.{◌≡◌};
-ghost use Rattle.sg_reports.specs.audit.inside.Standing.{standing_of};
 
+use crate::standing::standing;
 use sg_check::Judged;
 use sg_driver::{Judge, Standing};
-use sg_judge::{Pass, Step};
-use sg_outside::{Failed, Sink};
+use sg_judge::Pass;
+use sg_outside::{Failed, Outcome, Sink};
 use sg_plan::NoMemory;
 use sg_report::write_report;
 use std::alloc::Global;
@@ -55,25 +54,14 @@ impl Judge for Auditor {
         pass.end_at_no_line()
     }
 
-    fn status(answer: &Judged) -> u8 {
+    fn outcome(answer: &Judged) -> Outcome {
         match answer {
-            Judged::Yes(_) => 0,
-            Judged::No { .. } => 1,
+            Judged::Yes(_) => Outcome::Done,
+            Judged::No { .. } => Outcome::No,
         }
     }
 
     fn write_report<O: Sink>(answer: &Judged, out: &mut O) -> Result<(), Failed> {
         write_report(out, answer)
-    }
-}
-
-/// What a pass says of the lines, in a judge's words.
-fn standing(step: Step) -> Standing
-    ensures { result ≡ standing_of step }
-{
-    match step {
-        Step::More => Standing::Open,
-        Step::Ready => Standing::Open,
-        Step::Over => Standing::Settled,
     }
 }

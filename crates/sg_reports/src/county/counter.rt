@@ -1,12 +1,10 @@
 //! A tally as a judge of the lines that it is fed.
-ghost use Rattle.std.specs.Prelude.{◌≡◌};
-ghost use Rattle.sg_reports.specs.county.inside.Standing.{standing_of};
 
 use crate::county::report::write_report;
+use crate::standing::standing;
 use sg_county::{CountyVerdict, Tally};
 use sg_driver::{Judge, Standing};
-use sg_judge::Step;
-use sg_outside::{Failed, Sink};
+use sg_outside::{Failed, Outcome, Sink};
 use sg_plan::NoMemory;
 use std::alloc::Global;
 
@@ -52,28 +50,17 @@ impl Judge for Counter {
         tally.end_at_no_line()
     }
 
-    fn status(answer: &CountyVerdict) -> u8 {
+    fn outcome(answer: &CountyVerdict) -> Outcome {
         match answer {
-            CountyVerdict::Yes(_) => 0,
-            CountyVerdict::No { .. } => 1,
-            CountyVerdict::Differs(_) => 1,
-            CountyVerdict::Repeats { .. } => 1,
-            CountyVerdict::Parts => 7,
+            CountyVerdict::Yes(_) => Outcome::Done,
+            CountyVerdict::No { .. } => Outcome::No,
+            CountyVerdict::Differs(_) => Outcome::No,
+            CountyVerdict::Repeats { .. } => Outcome::No,
+            CountyVerdict::Parts => Outcome::Refused,
         }
     }
 
     fn write_report<O: Sink>(answer: &CountyVerdict, out: &mut O) -> Result<(), Failed> {
         write_report(out, answer)
-    }
-}
-
-/// What a tally says of the lines, in a judge's words.
-fn standing(step: Step) -> Standing
-    ensures { result ≡ standing_of step }
-{
-    match step {
-        Step::More => Standing::Open,
-        Step::Ready => Standing::Open,
-        Step::Over => Standing::Settled,
     }
 }

@@ -1,14 +1,13 @@
 //! The report of the answer on a county, one put for each line.
-ghost use Rattle.std.specs.Prelude.{◌≡◌, ◌+◌, ◌≤◌, ◌∷◌, ◌++◌, [], length, take, codes, decimal};
+ghost use Rattle.std.specs.Prelude.{◌≡◌, ◌≤◌, length, take};
 ghost use Rattle.sg_outside.specs.Faults.{HasCause};
 ghost use Rattle.sg_outside.specs.Streams.{PutAppends};
 ghost use Rattle.sg_reports.specs.county.Report.{differs_text, no_text, repeats_text, report_of};
 
 use sg_check::Kind;
 use sg_county::CountyVerdict;
-use sg_lines::write_decimal;
 use sg_outside::{Failed, Sink};
-use sg_report::{word_for, write_yes};
+use sg_report::{add_bytes, add_decimal, word_for, write_yes};
 
 /// Room for a line of a report, in bytes: the longest has 33.
 const ROOM: usize = 64;
@@ -66,13 +65,13 @@ fn no_line(line: &mut [u8], part: u32, number: u32, kind: Kind) -> usize
     ensures bound { result ≤ 64 }
     ensures text { take result line.new ≡ no_text part number kind }
 {
-    let at = add(line, 0, b"no ");
+    let at = add_bytes(line, 0, b"no ");
     let at = add_decimal(line, at, part);
-    let at = add(line, at, b" ");
+    let at = add_bytes(line, at, b" ");
     let at = add_decimal(line, at, number);
-    let at = add(line, at, b" ");
-    let at = add(line, at, word_for(kind));
-    add(line, at, b"\n")
+    let at = add_bytes(line, at, b" ");
+    let at = add_bytes(line, at, word_for(kind));
+    add_bytes(line, at, b"\n")
 }
 
 /// Puts `differs PART` into the front of `line`, and answers its length.
@@ -81,9 +80,9 @@ fn differs_line(line: &mut [u8], part: u32) -> usize
     ensures bound { result ≤ 64 }
     ensures text { take result line.new ≡ differs_text part }
 {
-    let at = add(line, 0, b"differs ");
+    let at = add_bytes(line, 0, b"differs ");
     let at = add_decimal(line, at, part);
-    add(line, at, b"\n")
+    add_bytes(line, at, b"\n")
 }
 
 /// Puts `repeats PART OTHER` into the front of `line`, and answers its length.
@@ -92,30 +91,9 @@ fn repeats_line(line: &mut [u8], part: u32, other: u32) -> usize
     ensures bound { result ≤ 64 }
     ensures text { take result line.new ≡ repeats_text part other }
 {
-    let at = add(line, 0, b"repeats ");
+    let at = add_bytes(line, 0, b"repeats ");
     let at = add_decimal(line, at, part);
-    let at = add(line, at, b" ");
+    let at = add_bytes(line, at, b" ");
     let at = add_decimal(line, at, other);
-    add(line, at, b"\n")
-}
-
-/// Puts the bytes behind the first `at`, and answers how many stand then.
-fn add(line: &mut [u8], at: usize, bytes: &[u8]) -> usize
-    requires { at + length bytes.now ≤ length line.old }
-    ensures count { result ≡ at + length bytes.now }
-    ensures text { take result line.new ≡ take at line.old ++ bytes.now }
-{
-    let end = at + bytes.len();
-    line[at..end].copy_from_slice(bytes);
-    end
-}
-
-/// Puts a number in decimal digits behind the first `at`, and answers how many stand then.
-fn add_decimal(line: &mut [u8], at: usize, value: u32) -> usize
-    requires { at + 10 ≤ length line.old }
-    ensures bound { result ≤ at + 10 }
-    ensures text { take result line.new ≡ take at line.old ++ decimal value }
-{
-    let count = write_decimal(value, &mut line[at..]);
-    at + count
+    add_bytes(line, at, b"\n")
 }

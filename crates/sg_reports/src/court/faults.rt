@@ -1,12 +1,12 @@
-//! What is printed for a fault, as one put, and the status for it.
+//! What is printed for a fault, as one put, and how it ends the command.
 ghost use Rattle.std.specs.Prelude.{◌≡◌, ◌≤◌, [], ◌∷◌, length};
 ghost use Rattle.sg_outside.specs.Faults.{HasCause};
 ghost use Rattle.sg_outside.specs.Streams.{PutAppends};
-ghost use Rattle.sg_reports.specs.court.Recounts.{fault_status, fault_text};
+ghost use Rattle.sg_reports.specs.court.Recounts.{fault_outcome, fault_text};
 ghost use Rattle.sg_reports.specs.court.Texts.{numbers_line};
 
 use crate::court::texts::write_line;
-use sg_outside::{Failed, Sink};
+use sg_outside::{Failed, Outcome, Sink};
 use sg_recount::RecountFault;
 use sg_report::write_no;
 
@@ -64,17 +64,17 @@ pub(crate) fn write_fault<O: Sink>(out: &mut O, fault: RecountFault) -> Result<(
     }
 }
 
-/// The status for a fault.
-pub(crate) fn fault_status(fault: RecountFault) -> u8
-    ensures { result ≡ fault_status fault }
+/// How a fault ends the command.
+pub(crate) fn fault_outcome(fault: RecountFault) -> Outcome
+    ensures { result ≡ fault_outcome fault }
 {
     match fault {
-        RecountFault::Record { .. } => 1,
-        RecountFault::Printing(_) => 7,
-        RecountFault::Stand { .. } => 7,
-        RecountFault::Completion(_) => 7,
-        RecountFault::Opening { .. } => 7,
-        RecountFault::Posted { .. } => 7,
-        RecountFault::NoMemory => 9,
+        RecountFault::Record { .. } => Outcome::No,
+        RecountFault::Printing(_) => Outcome::Refused,
+        RecountFault::Stand { .. } => Outcome::Refused,
+        RecountFault::Completion(_) => Outcome::Refused,
+        RecountFault::Opening { .. } => Outcome::Refused,
+        RecountFault::Posted { .. } => Outcome::Refused,
+        RecountFault::NoMemory => Outcome::NoMemory,
     }
 }

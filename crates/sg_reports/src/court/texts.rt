@@ -7,20 +7,10 @@ ghost use Rattle.sg_reports.specs.court.Texts.{altered_text, instance_text, inst
 use itoa::Buffer;
 use sg_outside::{Failed, Sink};
 use sg_plan::Items;
+use sg_report::add_bytes;
 
 /// Room for a line, in bytes: the longest has a word of 18 bytes, or four numbers of at most 20 digits.
 const ROOM: usize = 128;
-
-/// Puts the bytes behind the first `at`, and answers how many stand then.
-fn add(line: &mut [u8], at: usize, bytes: &[u8]) -> usize
-    requires { at + length bytes.now ≤ length line.old }
-    ensures count { result ≡ at + length bytes.now }
-    ensures text { take result line.new ≡ take at line.old ++ bytes.now }
-{
-    let end = at + bytes.len();
-    line[at..end].copy_from_slice(bytes);
-    end
-}
 
 /// Puts a space and a number behind the first `at`, and answers how many bytes stand then.
 fn add_number(line: &mut [u8], at: usize, number: usize) -> usize
@@ -29,8 +19,8 @@ fn add_number(line: &mut [u8], at: usize, number: usize) -> usize
     ensures text { take result line.new ≡ take at line.old ++ (32 ∷ decimal number) }
 {
     let mut digits = Buffer::new();
-    let behind = add(line, at, b" ");
-    add(line, behind, digits.format(number).as_bytes())
+    let behind = add_bytes(line, at, b" ");
+    add_bytes(line, behind, digits.format(number).as_bytes())
 }
 
 /// Puts each number behind a space, behind the first `at`, and answers how many bytes stand then.
@@ -54,9 +44,9 @@ pub(crate) fn write_line<O: Sink>(out: &mut O, word: &[u8], numbers: &[usize]) -
     ensures cause { HasCause (O.faults out.old) (O.faults out.new) result }
 {
     let mut line = [0; ROOM];
-    let at = add(&mut line, 0, word);
+    let at = add_bytes(&mut line, 0, word);
     let behind = add_numbers(&mut line, at, numbers);
-    let end = add(&mut line, behind, b"\n");
+    let end = add_bytes(&mut line, behind, b"\n");
     out.put(&line[..end])?;
     Ok(())
 }

@@ -1,20 +1,19 @@
 -- What was written of an office, or where there is none.
 use Rattle.sg_outside.specs.Streams.{seen}
 use Rattle.sg_clerk.specs.Shown.{posted_of}
-use Rattle.sg_clerk.proofs.Showing.{closed_ends, closed_shows, office_shows}
+use Rattle.sg_clerk.proofs.Showing.{closed_shows, office_shows}
 use Rattle.sg_clerk.proofs.posted.record.Goals as goal
 
-pub returns-in-Ok-clause-ends : goal.returns-in-Ok-clause-ends
-returns-in-Ok-clause-ends g c =
+pub returns-in-Ok-clause-says : goal.returns-in-Ok-clause-says
+returns-in-Ok-clause-says g c =
     office_shows posted_of c.write_story-shown.result c.in-Ok.office (g.K.Keeper.tells c.args.keeper.now) (g.K.Keeper.rows c.args.keeper.now)
-    (g.K.Keeper.faults c.args.keeper.now) (g.K.Keeper.faults c.open_kept.new.keeper)
+    (g.K.Keeper.faults c.args.keeper.now) (g.K.Keeper.faults c.open_office.new.keeper)
     (seen (g.O.Sink.written c.args.out.now) (g.O.Sink.faults c.args.out.now)) (seen (g.O.Sink.written c.write_story-shown.new.out) (g.O.Sink.faults c.write_story-shown.new.out))
-    c.in-Ok.ensures.opens c.write_story-shown.ensures
+    c.in-Ok.ensures.opens (rw c.in-Ok.ensures.quiet at c.write_story-shown.ensures)
 
-pub returns-in-Err-clause-ends : goal.returns-in-Err-clause-ends
-returns-in-Err-clause-ends g c =
-    let out = seen (g.O.Sink.written c.args.out.now) (g.O.Sink.faults c.args.out.now) in
-    let out' = seen (g.O.Sink.written c.show_closed.new.out) (g.O.Sink.faults c.show_closed.new.out) in
-    closed_shows posted_of c.show_closed.result (g.K.Keeper.tells c.args.keeper.now) (g.K.Keeper.rows c.args.keeper.now) (g.K.Keeper.faults c.args.keeper.now) (g.K.Keeper.faults c.open_kept.new.keeper) out out'
-    (closed_ends c.in-Err.why c.show_closed.result (g.K.Keeper.tells c.args.keeper.now) (g.K.Keeper.rows c.args.keeper.now) (g.K.Keeper.faults c.args.keeper.now) (g.K.Keeper.faults c.open_kept.new.keeper) out out'
-    c.in-Err.ensures.opens c.show_closed.ensures)
+pub returns-in-Err-clause-says : goal.returns-in-Err-clause-says
+returns-in-Err-clause-says g c =
+    closed_shows posted_of c.in-Err.how (g.K.Keeper.tells c.args.keeper.now) (g.K.Keeper.rows c.args.keeper.now)
+    (g.K.Keeper.faults c.args.keeper.now) (g.K.Keeper.faults c.open_office.new.keeper)
+    (seen (g.O.Sink.written c.args.out.now) (g.O.Sink.faults c.args.out.now)) (seen (g.O.Sink.written c.open_office.new.out) (g.O.Sink.faults c.open_office.new.out))
+    c.in-Err.ensures.opens

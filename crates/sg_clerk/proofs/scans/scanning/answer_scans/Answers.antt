@@ -1,18 +1,16 @@
 -- The office that was opened answered the file, or it was written why there is none.
 use Rattle.std.proofs.Common.{inl, inr, refl}
-use Rattle.sg_clerk.proofs.Talking.{office_talks, stays_closed}
+use Rattle.sg_clerk.proofs.Talking.{office_talks}
 use Rattle.sg_clerk.specs.scans.DoesScans.{ScanTalk, stores_of}
 use Rattle.sg_clerk.proofs.scans.scanning.answer_scans.Goals as goal
 
 pub returns-in-Ok-clause-says : goal.returns-in-Ok-clause-says
 returns-in-Ok-clause-says g c =
     let office = c.in-Ok.ensures in
-    rw c.ending_status.ensures
-    (inl (office_talks ScanTalk stores_of _ c.do_scans-ending.result c.in-Ok.office _ (g.K.Keeper.tells c.open_kept.new.keeper) _ (g.K.Keeper.rows c.open_kept.new.keeper) _
-    _ (g.K.Keeper.faults c.open_kept.new.keeper) _ office.starts office.opens office.told office.same office.later c.do_scans-ending.ensures.does))
+    let does = rw office.quiet at c.do_scans-ending.ensures.does in
+    rw c.outcome.ensures
+    (inl (office_talks ScanTalk stores_of _ c.do_scans-ending.result c.in-Ok.office _ (g.K.Keeper.tells c.open_office.new.keeper) _ (g.K.Keeper.rows c.open_office.new.keeper) _
+    _ (g.K.Keeper.faults c.open_office.new.keeper) _ office.starts office.opens office.told office.same office.later does))
 
 pub returns-in-Err-clause-says : goal.returns-in-Err-clause-says
-returns-in-Err-clause-says g c =
-    let closed = c.in-Err.ensures in
-    rw c.shown_status.ensures
-    (inr (stays_closed _ c.in-Err.why c.show_closed.result _ _ _ _ _ _ _ (refl, refl) closed.same closed.opens c.show_closed.ensures))
+returns-in-Err-clause-says g c = inr (record { unasked = (refl, refl); same = c.in-Err.ensures.same; says = c.in-Err.ensures.opens })

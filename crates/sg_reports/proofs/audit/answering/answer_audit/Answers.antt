@@ -1,4 +1,4 @@
--- What the status says, and what that promises.
+-- How it ends, and what that promises.
 use Rattle.std.proofs.Common.{refl}
 use Rattle.sg_outside.specs.Streams.{seen}
 use Rattle.sg_reports.proofs.Auditing.Promises.{promise_of}

@@ -1,4 +1,4 @@
--- What the status says.
+-- How it ends.
 use Rattle.sg_outside.specs.Streams.{seen}
 use Rattle.sg_reports.proofs.Counties.Saying.{county_said}
 use Rattle.sg_reports.proofs.county.counting.count_county.Goals as goal

@@ -1,6 +1,6 @@
 -- The lines of the races so far were written.
 use Rattle.std.proofs.Common.{◌≤◌, drop}
-use Rattle.sg_reports.proofs.Courts.Writing.{HasPut}
+use Rattle.sg_report.proofs.Pieces.{HasPut}
 use Rattle.sg_reports.specs.court.inside.Finding.{values_text}
 use Rattle.sg_reports.proofs.court.exponents.write_exponents.Given as goal
 

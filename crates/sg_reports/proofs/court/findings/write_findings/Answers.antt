@@ -1,6 +1,6 @@
 -- The sums come behind the altered rows.
 use Rattle.sg_outside.proofs.StreamLemmas.{AppendsFront-more}
-use Rattle.sg_reports.proofs.Courts.Writing.{put_behind}
+use Rattle.sg_report.proofs.Pieces.{put_behind}
 use Rattle.sg_reports.specs.court.Recounts.{sums_text}
 use Rattle.sg_reports.specs.court.Texts.{altered_text}
 use Rattle.sg_reports.proofs.court.findings.write_findings.Goals as goal

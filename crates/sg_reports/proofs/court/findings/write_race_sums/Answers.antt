@@ -3,7 +3,7 @@ use Rattle.std.proofs.Common.{ℕ, List, [], ◌∷◌, ◌+◌, arith, codes, d
 use Rattle.std.specs.Io.KnownBytes.{Appends}
 use Rattle.sg_outside.specs.Streams.{AppendsFront}
 use Rattle.sg_recount.specs.declared.findings.Sum.{Sum}
-use Rattle.sg_reports.proofs.Courts.Writing.{HasPut, put_front, put_more}
+use Rattle.sg_report.proofs.Pieces.{HasPut, put_front, put_more}
 use Rattle.sg_reports.specs.court.Recounts.{race_sums_text}
 use Rattle.sg_reports.specs.court.Texts.{numbers_line}
 use Rattle.sg_reports.proofs.court.findings.write_race_sums.Goals as goal

@@ -1,6 +1,6 @@
 -- The lines of the candidates so far were written.
 use Rattle.std.proofs.Common.{◌≤◌, drop}
-use Rattle.sg_reports.proofs.Courts.Writing.{HasPut}
+use Rattle.sg_report.proofs.Pieces.{HasPut}
 use Rattle.sg_reports.specs.court.Recounts.{race_sums_text}
 use Rattle.sg_reports.proofs.court.findings.write_race_sums.Given as goal
 

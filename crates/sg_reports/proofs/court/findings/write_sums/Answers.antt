@@ -1,7 +1,7 @@
 -- The lines of one more race were written, or a front of them.
 use Rattle.std.proofs.Common.{List, ◌+◌, arith, drop, subst}
 use Rattle.sg_recount.specs.declared.findings.Sum.{Sum}
-use Rattle.sg_reports.proofs.Courts.Writing.{HasPut, put_front, put_more}
+use Rattle.sg_report.proofs.Pieces.{HasPut, put_front, put_more}
 use Rattle.sg_reports.specs.court.Recounts.{race_sums_text, sums_text}
 use Rattle.sg_reports.proofs.court.findings.write_sums.Goals as goal
 

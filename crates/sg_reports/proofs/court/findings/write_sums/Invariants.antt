@@ -1,6 +1,6 @@
 -- The lines of the races so far were written.
 use Rattle.std.proofs.Common.{◌≤◌, drop}
-use Rattle.sg_reports.proofs.Courts.Writing.{HasPut}
+use Rattle.sg_report.proofs.Pieces.{HasPut}
 use Rattle.sg_reports.specs.court.Recounts.{sums_text}
 use Rattle.sg_reports.proofs.court.findings.write_sums.Given as goal
 

@@ -3,7 +3,7 @@ use Rattle.std.proofs.Common.{◌≡◌, ℕ, List, [], ◌∷◌, ◌∙◌, ap
 use Rattle.std.specs.Io.KnownBytes.{Appends}
 use Rattle.sg_outside.specs.Streams.{AppendsFront}
 use Rattle.sg_outside.proofs.StreamLemmas.{AppendsFront-more}
-use Rattle.sg_reports.proofs.Courts.Writing.{put_behind}
+use Rattle.sg_report.proofs.Pieces.{put_behind}
 use Rattle.sg_reports.specs.court.Texts.{numbers_line, rows_text}
 use Rattle.sg_reports.proofs.court.texts.write_instance.Goals as goal
 

@@ -1,6 +1,6 @@
 -- The lines of one more instance were written, or a front of them.
 use Rattle.std.proofs.Common.{ℕ, List, ◌+◌, arith, drop, subst}
-use Rattle.sg_reports.proofs.Courts.Writing.{HasPut, put_front, put_more}
+use Rattle.sg_report.proofs.Pieces.{HasPut, put_front, put_more}
 use Rattle.sg_reports.specs.court.Texts.{instance_text, instances_text}
 use Rattle.sg_reports.proofs.court.texts.write_instances.Goals as goal
 

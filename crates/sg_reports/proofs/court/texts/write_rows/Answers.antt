@@ -2,7 +2,7 @@
 use Rattle.std.proofs.Common.{ℕ, List, [], ◌∷◌, ◌+◌, arith, codes, drop, subst}
 use Rattle.std.specs.Io.KnownBytes.{Appends}
 use Rattle.sg_outside.specs.Streams.{AppendsFront}
-use Rattle.sg_reports.proofs.Courts.Writing.{HasPut, put_front, put_more}
+use Rattle.sg_report.proofs.Pieces.{HasPut, put_front, put_more}
 use Rattle.sg_reports.specs.court.Texts.{numbers_line, rows_text}
 use Rattle.sg_reports.proofs.court.texts.write_rows.Goals as goal
 

@@ -1,19 +1,15 @@
--- How a text is written piece by piece.
-use Rattle.std.proofs.Common.{◌≡◌, ℕ, List, [], ◌++◌, refl, sym, subst, ◌∙◌, append_assoc, append-nil}
+-- How a text is put piece by piece.
+use Rattle.std.proofs.Common.{◌≡◌, ℕ, List, ◌++◌, subst, ◌∙◌, append_assoc}
 use Rattle.std.specs.Prelude.{Option, Result, Ok, Err}
 use Rattle.std.specs.Io.KnownBytes.{Appends}
 use Rattle.sg_outside.specs.Streams.{AppendsFront, PutAppends}
-use Rattle.sg_outside.proofs.StreamLemmas.{Appends-nil, Appends-trans, AppendsFront-more, AppendsFront-trans}
+use Rattle.sg_outside.proofs.StreamLemmas.{Appends-trans, AppendsFront-more, AppendsFront-trans}
 
--- all of the text but what is left was written
+-- all of the text but what is left was put
 pub record HasPut (before now : Option (List ℕ)) (left all : List ℕ) : Type 0 where
   pub front : List ℕ
   pub rest : front ++ left ≡ all
   pub appended : Appends before now front
-
--- nothing was yet
-pub put_none : (now : Option (List ℕ)) (all : List ℕ) → HasPut now now all all
-put_none now all = record { front = []; rest = refl; appended = Appends-nil now }
 
 -- one more piece was
 pub put_more : (before now next : Option (List ℕ)) (piece left all : List ℕ) → HasPut before now (piece ++ left) all → Appends now next piece → HasPut before next left all
@@ -22,10 +18,6 @@ put_more before now next piece left all has more = record {
   rest = append_assoc has.front piece left ∙ has.rest;
   appended = Appends-trans before now next has.front piece has.appended more;
 }
-
--- all pieces were
-pub put_all : (before now : Option (List ℕ)) (all : List ℕ) → HasPut before now [] all → Appends before now all
-put_all before now all has = subst (λ (text : List ℕ). Appends before now text) (sym (append-nil has.front) ∙ has.rest) has.appended
 
 -- a front of one more piece was
 pub put_front : (before now next : Option (List ℕ)) (piece left all : List ℕ) → HasPut before now (piece ++ left) all → AppendsFront now next piece → AppendsFront before next all

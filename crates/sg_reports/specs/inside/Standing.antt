@@ -1,4 +1,4 @@
--- What a tally says of the lines, in a judge's words.
+-- What a pass or a tally says of the lines, in a judge's words.
 use Rattle.sg_driver.specs.declared.judge.Standing.{Standing}
 use Rattle.sg_driver.specs.declared.judge.Standing.TheVariants.{Open, Settled}
 use Rattle.sg_judge.specs.declared.pass.Step.{Step}

@@ -1,2 +1,0 @@
--- How the code goes on. Only clauses of private functions and proofs cite this.
-pub mod Standing
