@@ -1,6 +1,6 @@
 //! Files that are as long as they may be, and others that are longer by one.
-use sg_clerk::scans::answer_scans;
 use sg_clerk::init;
+use sg_clerk::scans::answer_scans;
 use sg_keeper::{MemoryKeeper, Rows};
 use sg_outside::{Bytes, Outcome, Page};
 use sg_plan::{Items, NoMemory, Word};
