@@ -8,7 +8,7 @@ cd "$(dirname "$0")/.." || exit 1
 made=bench/made
 mkdir -p "$made"
 . bench/program.sh
-program=$(built sg_main audit < examples/first/first.record) || exit 1
+program=$(built sg_auditor audit < examples/first/first.record) || exit 1
 
 given=$made/given-200000
 [ -f "$given" ] || python3 bench/record.py 20000 2 --instances 5 --draw 0badcafe --given > "$given" || exit 1

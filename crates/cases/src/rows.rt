@@ -1,5 +1,6 @@
 //! Kept rows to begin with.
 pub(crate) mod reading;
+pub(crate) mod writing;
 
 ghost use Rattle.std.specs.Prelude.{◌≡◌};
 ghost use Rattle.sg_keeper.specs.Rows.{no_rows as nothing_kept};

@@ -33,7 +33,7 @@ use Rattle.sg_check.specs.Facts.{is_marked as posted_marked, marks_entry}
 use Rattle.sg_post.proofs.OwnCodes.{marks-have}
 use Rattle.sg_post.proofs.StoryFits.{fits-later, fits_ballot}
 use Rattle.sg_post.specs.Fits.{fates_fit}
-use Rattle.sg_post.specs.Marks.{is_entry_of, is_marked, told_marks}
+use Rattle.sg_post.specs.Marks.{is_entry_of, is_entry_marked, told_marks}
 use Rattle.sg_post.specs.Posted.{audited_codes, audited_race_codes, cast_codes, code_in_row, code_line_of, fate_blocks, marked_codes, posted_record, race_codes_of, told_blocks}
 use Rattle.sg_post.specs.declared.story.Claimed.{Claimed}
 use Rattle.sg_post.specs.declared.story.Told.{Told}
@@ -42,7 +42,7 @@ use Rattle.sg_facts.proofs.Rising.{IsPart, all-behind, ballots-rise, behind_ball
 use Rattle.sg_facts.proofs.Sections.{papers-of}
 use Rattle.sg_accepted.proofs.Any.{any-count, any-filter, any-flat, any-map, any-number, none-below}
 use Rattle.sg_accepted.proofs.Sums.{sum-at, sum-filter, sum-flat, sum-map, sum-number, sum-of, sum-same, sum-zero, tally}
-use Rattle.sg_accepted.specs.Unaltered.{fate_of}
+use Rattle.sg_accepted.specs.Unaltered.{told_fate}
 
 -- THE CODES OF A BALLOT
 
@@ -238,7 +238,7 @@ module _ (plan : Plan) (h : ℕ → Fate → ℕ) (ballot : ℕ) (never : (other
         sum-later told.ballot fates (omega (arith, less, past)) parts.1,
       )
 
-  pub sum-told : (last : ℕ) (fates : List Told) → fates_fit plan last fates ≡ true → sum_by (λ told. h told.ballot told.fate) fates ≡ h ballot (fate_of fates ballot)
+  pub sum-told : (last : ℕ) (fates : List Told) → fates_fit plan last fates ≡ true → sum_by (λ told. h told.ballot told.fate) fates ≡ h ballot (told_fate fates ballot)
   sum-told last [] fit = sym unused
   sum-told last (told ∷ fates) fit =
       let parts = and_parts (nat_lt last told.ballot && fate_fits plan told.ballot told.fate) (fates_fit plan told.ballot fates) fit in
@@ -256,10 +256,10 @@ module _ (plan : Plan) (h : ℕ → Fate → ℕ) (ballot : ℕ) (never : (other
 
 -- the same of tests
 pub any-told : (plan : Plan) (test : ℕ → Fate → Bool) (ballot : ℕ) → ((other : ℕ) (what : Fate) → other ≢ ballot → test other what ≡ false) → test ballot fate.Unused ≡ false
-    → (fates : List Told) → fates_fit plan 0 fates ≡ true → list_any (λ told. test told.ballot told.fate) fates ≡ test ballot (fate_of fates ballot)
+    → (fates : List Told) → fates_fit plan 0 fates ≡ true → list_any (λ told. test told.ballot told.fate) fates ≡ test ballot (told_fate fates ballot)
 any-told plan test ballot never unused fates fit =
     any-count (λ (told : Told). test told.ballot told.fate) fates
-    ∙ (ap (nat_lt 0) (sum-told plan (λ b what. tally (test b what)) ballot (λ other what differ. ap tally (never other what differ)) (ap tally unused) 0 fates fit) ∙ some (test ballot (fate_of fates ballot)))
+    ∙ (ap (nat_lt 0) (sum-told plan (λ b what. tally (test b what)) ballot (λ other what differ. ap tally (never other what differ)) (ap tally unused) 0 fates fit) ∙ some (test ballot (told_fate fates ballot)))
   where
     some : (b : Bool) → nat_lt 0 (tally b) ≡ b
     some true = refl
@@ -321,8 +321,8 @@ fates-marked plan seed race entry last (told ∷ fates) some fit =
 
 -- the record marks what the fates mark
 pub codes-marked : (plan : Plan) (seed : List ℕ) (fates : List Told) (draw : Draw) (claims : List Claimed) → fault_of plan ≡ None → fates_fit plan 0 fates ≡ true → (race entry : ℕ) → race < length plan.races
-    → posted_marked plan race entry (places_in (posted_record plan seed fates draw claims)) ≡ is_marked plan seed fates race entry
-unfolding is_marked
+    → posted_marked plan race entry (places_in (posted_record plan seed fates draw claims)) ≡ is_entry_marked plan seed fates race entry
+unfolding is_entry_marked
 codes-marked plan seed fates draw claims fine fit race entry within =
     any-codes plan seed fates draw claims race (marks_entry plan race entry) within only ∙ fates-marked plan seed race entry 0 fates (omega (arith, (bounds plan fine).two_candidates race within)) fit
   where

@@ -28,7 +28,7 @@ use Rattle.sg_grammar.specs.declared.state.Block.TheVariants as block
 use Rattle.sg_record.specs.Places.{code_place, commit_places, dispute_places, draw_place, opening_places, places_in, result_places}
 use Rattle.sg_record.specs.declared.record.Record.{Record}
 use Rattle.sg_check.proofs.Fronts.{any-before}
-use Rattle.sg_check.specs.Facts.{Claim, last_claim, marks_code, shows_disputed}
+use Rattle.sg_check.specs.Facts.{DisputedCode, last_claim, marks_code, shows_disputed}
 use Rattle.sg_check.specs.Kinds.{bad_dispute, is_right, wrong_answer}
 use Rattle.sg_post.proofs.FormedCodes.{has-within}
 use Rattle.sg_post.proofs.MarkedCodes.{marked-counted, posts_code, right-same}
@@ -43,7 +43,7 @@ use Rattle.sg_accepted.proofs.Codes.{any-codes, any-told, audited-each, cast_cod
 use Rattle.sg_accepted.proofs.Late.{Good, good-append, good-never, good-numbers, good-one}
 use Rattle.sg_accepted.proofs.Rule.{code-value}
 use Rattle.sg_accepted.proofs.Unaltered.{ClaimRight, IsTold}
-use Rattle.sg_accepted.specs.Unaltered.{fate_of}
+use Rattle.sg_accepted.specs.Unaltered.{told_fate}
 
 -- THE CODES OF A BALLOT
 
@@ -89,9 +89,9 @@ told-code plan seed ballot race code fate.Voided = refl
 -- the last claim is the one behind which no other stands
 last-behind : (xs : List Placed) (ballot race code : ℕ) (word : ClaimWord) (ys : List Placed) → last_claim ys ≡ None
     → last_claim (xs ++ Disputed ballot race code word ∷ ys) ≡ Some (record { code = code; answer = word; behind = ys })
-last-behind [] ballot race code word ys none = ap (λ (o : Option Claim). option_map_or Some o (Some (record { code = code; answer = word; behind = ys }))) none
+last-behind [] ballot race code word ys none = ap (λ (o : Option DisputedCode). option_map_or Some o (Some (record { code = code; answer = word; behind = ys }))) none
 last-behind (Disputed b r c w ∷ xs) ballot race code word ys none =
-    ap (λ (o : Option Claim). option_map_or Some o (Some (record { code = c; answer = w; behind = xs ++ Disputed ballot race code word ∷ ys }))) (last-behind xs ballot race code word ys none)
+    ap (λ (o : Option DisputedCode). option_map_or Some o (Some (record { code = c; answer = w; behind = xs ++ Disputed ballot race code word ∷ ys }))) (last-behind xs ballot race code word ys none)
 last-behind (line ∷ xs) ballot race code word ys none = last-behind xs ballot race code word ys none
 
 codes-claim_nothing : (ballot : ℕ) (codes : List CodeLine) → last_claim (map (code_place block.Dispute ballot) codes) ≡ None
@@ -131,7 +131,7 @@ module _ (plan : Plan) (seed : List ℕ) (fates : List Told) (draw : Draw) (clai
 
   -- whether a ballot's block has a code is told by the ballot's fate
   abbrev MarksTold : List Placed → Type 0
-  MarksTold lines = (ballot race code : ℕ) → race < length plan.races → list_any (marks_code ballot race code) lines ≡ posts_code plan seed ballot race code (fate_of fates ballot)
+  MarksTold lines = (ballot race code : ℕ) → race < length plan.races → list_any (marks_code ballot race code) lines ≡ posts_code plan seed ballot race code (told_fate fates ballot)
 
   -- lines of disputes change nothing of it
   without : (before more : List Placed) → EachOf (IsPart 7) more → (ballot race code : ℕ) → list_any (marks_code ballot race code) (before ++ more) ≡ list_any (marks_code ballot race code) before
@@ -144,7 +144,7 @@ module _ (plan : Plan) (seed : List ℕ) (fates : List Told) (draw : Draw) (clai
       ∙ (any-told plan (λ of what. list_any (marks_code ballot race code) (told_codes plan seed race of what)) ballot
       (λ other what differ. of-none (marks_code ballot race code) (told_codes plan seed race other what)
       (codes-each (λ line. marks_code ballot race code line ≡ false) plan seed race other (λ column. refl) (λ column. rw (ne_eqb other ballot differ) refl) what)) refl fates told.fit
-      ∙ told-code plan seed ballot race code (fate_of fates ballot))
+      ∙ told-code plan seed ballot race code (told_fate fates ballot))
     where
       only : (line : Placed) → shows_in race line ≡ false → marks_code ballot race code line ≡ false
       only (CodeAt block.Cast of in_race column shown) is = and_left (of == ballot && in_race == race) (shown.code == code) (and_right (of == ballot) (in_race == race) is)
@@ -173,7 +173,7 @@ module _ (plan : Plan) (seed : List ℕ) (fates : List Told) (draw : Draw) (clai
               let none : last_claim earlier ≡ None = ap last_claim (sym (map_twice (code_place block.Dispute b) (code_line_of plan seed b r) (numbers_below column))) ∙ codes-claim_nothing b (map (code_line_of plan seed b r) (numbers_below column)) in
               let claim : last_claim front ≡ Some (record { code = claimed.code; answer = claimed.word; behind = earlier }) =
               ap last_claim (append_assoc before (first ∷ []) earlier) ∙ last-behind before b r claimed.code claimed.word earlier none in
-              let marked : list_any (marks_code b r claimed.code) front ≡ posts_code plan seed b r claimed.code (fate_of fates b) =
+              let marked : list_any (marks_code b r claimed.code) front ≡ posts_code plan seed b r claimed.code (told_fate fates b) =
               without (before ++ first ∷ []) earlier (of-all (IsPart 7) code_at (numbers_below column) (λ c. refl)) b r claimed.code
               ∙ (without before (first ∷ []) (refl, tt) b r claimed.code ∙ facts b r claimed.code (has-within plan b r told.fine right.has)) in
               let shown : (list_any (shows_disputed claimed.code) earlier || shows column) ≡ list_any (λ other. other == claimed.code) (codes_of_row plan seed r (ballot_row plan r b)) =
@@ -182,9 +182,9 @@ module _ (plan : Plan) (seed : List ℕ) (fates : List Told) (draw : Draw) (clai
               ∙ (sym (list_any-append shows (numbers_below column) (column ∷ [])) ∙ (ap (list_any shows) (sym (numbers_below-push column))
               ∙ (ap (λ (n : ℕ). list_any shows (numbers_below n)) whole ∙ shown-codes plan seed b r claimed.code told.fine (has-within plan b r told.fine right.has) right.has)))) in
               let answered : is_right claimed.word (list_any (marks_code b r claimed.code) front) (list_any (shows_disputed claimed.code) earlier || shows column) ≡ true =
-              rw (marked, shown, right.word ∙ right-same plan seed b r claimed.code (fate_of fates b))
-              (answer-right (posts_code plan seed b r claimed.code (fate_of fates b)) (list_any (λ other. other == claimed.code) (codes_of_row plan seed r (ballot_row plan r b)))) in
-              and_right (column + 1 == candidates_of plan r) _ (ap (λ (o : Option Claim). option_map_or (wrong_answer front b r (code_line_of plan seed b r column).code) o false) claim ∙ ap not answered)
+              rw (marked, shown, right.word ∙ right-same plan seed b r claimed.code (told_fate fates b))
+              (answer-right (posts_code plan seed b r claimed.code (told_fate fates b)) (list_any (λ other. other == claimed.code) (codes_of_row plan seed r (ballot_row plan r b)))) in
+              and_right (column + 1 == candidates_of plan r) _ (ap (λ (o : Option DisputedCode). option_map_or (wrong_answer front b r (code_line_of plan seed b r column).code) o false) claim ∙ ap not answered)
         ]
 
     claim-good : Good (bad_dispute plan) before (dispute_places (dispute_of plan seed claimed))

@@ -14,10 +14,10 @@ use Rattle.sg_grammar.specs.Placed.{Placed}
 use Rattle.sg_grammar.specs.Placed.Placed.{RowAt}
 use Rattle.sg_record.specs.Places.{places_in}
 use Rattle.sg_check.specs.Completions.{IsHalfOf}
-use Rattle.sg_check.specs.Facts.{is_flagged, is_marked as posted_marked, is_set as posted_set, left_of, right_of}
+use Rattle.sg_check.specs.Facts.{is_flagged, is_marked as posted_marked, is_set as posted_set, opened_left, opened_right}
 use Rattle.sg_check.specs.Kinds.{bad_flag, differ, wrong_left_flag, wrong_right_flag}
 use Rattle.sg_post.specs.Fits.{claim_fits, fates_fit}
-use Rattle.sg_post.specs.Marks.{flag_of, is_marked, is_set}
+use Rattle.sg_post.specs.Marks.{flag_of, is_entry_marked, is_place_set}
 use Rattle.sg_post.specs.Posted.{posted_record}
 use Rattle.sg_post.specs.declared.story.Claimed.{Claimed}
 use Rattle.sg_post.specs.declared.story.Told.{Told}
@@ -29,13 +29,13 @@ use Rattle.sg_accepted.proofs.Posted.{SaysRight, all-right, flag_is, marked_is, 
 
 -- the place of an entry is set exactly where the entry is marked
 pub set-marked : (plan : Plan) (seed : List ℕ) (fates : List Told) (race entry : ℕ) → entry < entries_of plan race
-    → is_set plan seed fates race (path_of plan seed race entry) ≡ is_marked plan seed fates race entry
-unfolding is_set
+    → is_place_set plan seed fates race (path_of plan seed race entry) ≡ is_entry_marked plan seed fates race entry
+unfolding is_place_set
 set-marked plan seed fates race entry within =
     let paths = pointer_laws.paths plan seed race in
-    any-number (λ e. path_of plan seed race e == path_of plan seed race entry && is_marked plan seed fates race e) (entries_of plan race) entry within
-    (λ k below other. ap (λ (b : Bool). b && is_marked plan seed fates race k) (ne_eqb (path_of plan seed race k) (path_of plan seed race entry) (λ same. other (paths.one k entry below within same))))
-    ∙ ap (λ (b : Bool). b && is_marked plan seed fates race entry) (eq-eqb (path_of plan seed race entry) (path_of plan seed race entry) refl)
+    any-number (λ e. path_of plan seed race e == path_of plan seed race entry && is_entry_marked plan seed fates race e) (entries_of plan race) entry within
+    (λ k below other. ap (λ (b : Bool). b && is_entry_marked plan seed fates race k) (ne_eqb (path_of plan seed race k) (path_of plan seed race entry) (λ same. other (paths.one k entry below within same))))
+    ∙ ap (λ (b : Bool). b && is_entry_marked plan seed fates race entry) (eq-eqb (path_of plan seed race entry) (path_of plan seed race entry) refl)
 
 pub same-differ : (a b : Bool) → a ≡ b → differ a b ≡ false
 same-differ true b e = ap not (sym e)
@@ -53,7 +53,7 @@ module _ (plan : Plan) (seed : List ℕ) (fates : List Told) (draw : Draw) (clai
     below = (pointer_laws.lefts plan seed race instance).below number within.2
 
     -- the flag before the row tells whether its entry is marked
-    flagged : is_flagged race instance number before ≡ is_marked plan seed fates race entry
+    flagged : is_flagged race instance number before ≡ is_entry_marked plan seed fates race entry
     unfolding flag_of
     flagged = flagged-kept lines before (RowAt race instance number opening) front (omega arith) race instance number ∙ flag_is plan seed fates draw claims race instance number within
 
@@ -78,7 +78,7 @@ module _ (plan : Plan) (seed : List ℕ) (fates : List Told) (draw : Draw) (clai
         ∙ (set_is plan seed fates draw claims race path within.0 ((pointer_laws.paths plan seed race).below entry below) ∙ set-marked plan seed fates race entry below)))))
 
     row-fine : (opened : RowOpening) → OpensRow plan seed race instance number opened
-        → (wrong_left_flag plan before race (is_flagged race instance number before) (left_of opened) || wrong_right_flag plan before race (is_flagged race instance number before) (right_of opened)) ≡ false
+        → (wrong_left_flag plan before race (is_flagged race instance number before) (opened_left opened) || wrong_right_flag plan before race (is_flagged race instance number before) (opened_right opened)) ≡ false
     row-fine (row.Left o) is = rw is (or_from _ false left_fine refl)
     row-fine (row.Right o) is = rw is right_fine
     row-fine (row.Both o p) is = rw (is.0, is.1) (or_from _ _ left_fine right_fine)

@@ -27,10 +27,10 @@ use Rattle.sg_grammar.specs.declared.state.Block.{Block}
 use Rattle.sg_grammar.specs.declared.state.Block.TheVariants as block
 use Rattle.sg_record.specs.Places.{places_in}
 use Rattle.sg_check.specs.Completions.{half_commitment}
-use Rattle.sg_check.specs.Facts.{code_commitment, left_of, right_of}
+use Rattle.sg_check.specs.Facts.{code_commitment, opened_left, opened_right}
 use Rattle.sg_check.specs.Kinds.{bad_opening, bad_pointer_opening, opens_digest}
 use Rattle.sg_post.specs.Fits.{claim_fits, fates_fit}
-use Rattle.sg_post.specs.Marks.{is_audited}
+use Rattle.sg_post.specs.Marks.{is_entry_audited}
 use Rattle.sg_post.specs.Posted.{both_sides, code_commit_of, code_in_row, committed, one_side, opened_row, posted_record, row_commit_of}
 use Rattle.sg_post.specs.declared.story.Claimed.{Claimed}
 use Rattle.sg_post.specs.declared.story.Told.{Told}
@@ -48,7 +48,7 @@ OpensRow plan seed race instance number (row.Both left right) = (left ≡ left_o
 pub opened-opens : (plan : Plan) (seed : List ℕ) (fates : List Told) (draw : Draw) (race instance number : ℕ) → OpensRow plan seed race instance number (opened_row plan seed fates draw race instance number)
 unfolding opened_row
 opened-opens plan seed fates drawn.Full race instance number = (refl, refl)
-opened-opens plan seed fates (drawn.Public bytes) race instance number = at_audit (is_audited plan fates race (row_left plan seed race instance number)) (coin_of (coin_seed bytes) race instance number)
+opened-opens plan seed fates (drawn.Public bytes) race instance number = at_audit (is_entry_audited plan fates race (row_left plan seed race instance number)) (coin_of (coin_seed bytes) race instance number)
   where
     at_audit : (b : Bool) (s : Side) → OpensRow plan seed race instance number (cond b (both_sides plan seed race instance number) (one_side plan seed race instance number s))
     at_audit true s = (refl, refl)
@@ -64,7 +64,7 @@ opens-committed digest kind race instance place opening is =
 
 row-opens : (plan : Plan) (seed : List ℕ) (race instance number : ℕ) (opening : RowOpening) (left right : Option Digest)
     → left ≡ Some (row_commit_of plan seed race instance number).left → right ≡ Some (row_commit_of plan seed race instance number).right → OpensRow plan seed race instance number opening
-    → (bad_pointer_opening left commit.L race instance number (left_of opening) || bad_pointer_opening right commit.R race instance number (right_of opening)) ≡ false
+    → (bad_pointer_opening left commit.L race instance number (opened_left opening) || bad_pointer_opening right commit.R race instance number (opened_right opening)) ≡ false
 unfolding row_commit_of
 row-opens plan seed race instance number (row.Left o) left right l r is =
     rw (is, opens-committed left commit.L race instance number (left_opening_of plan seed race instance number) l) refl

@@ -15,7 +15,7 @@ use Rattle.sg_record.specs.Places.{places_in}
 use Rattle.sg_record.specs.declared.record.Record.{Record}
 use Rattle.sg_check.proofs.BitsFound.{not_le}
 use Rattle.sg_check.specs.Completions.{IsHalfOf}
-use Rattle.sg_check.specs.Facts.{left_of, opens_left, opens_right, points_to, right_of}
+use Rattle.sg_check.specs.Facts.{opened_left, opens_left, opens_right, points_to, opened_right}
 use Rattle.sg_check.specs.Kinds.{bad_left_pointer, bad_pointer, bad_right_pointer}
 use Rattle.sg_post.specs.Posted.{opened_row, posted_record}
 use Rattle.sg_post.specs.declared.story.Claimed.{Claimed}
@@ -29,12 +29,12 @@ use Rattle.sg_accepted.proofs.Posted.{SaysRight}
 use Rattle.sg_accepted.proofs.Rows.{any-earlier, in_instance, opened}
 
 -- a row with another left pointer does not open this one, nor one with another right pointer
-left-other : (plan : Plan) (seed : List ℕ) (race instance number v : ℕ) (opening : RowOpening) → OpensRow plan seed race instance number opening → row_left plan seed race instance number ≢ v → points_to v (left_of opening) ≡ false
+left-other : (plan : Plan) (seed : List ℕ) (race instance number v : ℕ) (opening : RowOpening) → OpensRow plan seed race instance number opening → row_left plan seed race instance number ≢ v → points_to v (opened_left opening) ≡ false
 left-other plan seed race instance number v (row.Left o) is other = rw is (ne_eqb (left_opening_of plan seed race instance number).value v (λ e. other (sym (opening_laws.left plan seed race instance number) ∙ e)))
 left-other plan seed race instance number v (row.Right o) is other = refl
 left-other plan seed race instance number v (row.Both o p) is other = rw is.0 (ne_eqb (left_opening_of plan seed race instance number).value v (λ e. other (sym (opening_laws.left plan seed race instance number) ∙ e)))
 
-right-other : (plan : Plan) (seed : List ℕ) (race instance number v : ℕ) (opening : RowOpening) → OpensRow plan seed race instance number opening → row_right plan seed race instance number ≢ v → points_to v (right_of opening) ≡ false
+right-other : (plan : Plan) (seed : List ℕ) (race instance number v : ℕ) (opening : RowOpening) → OpensRow plan seed race instance number opening → row_right plan seed race instance number ≢ v → points_to v (opened_right opening) ≡ false
 right-other plan seed race instance number v (row.Left o) is other = refl
 right-other plan seed race instance number v (row.Right o) is other = rw is (ne_eqb (right_opening_of plan seed race instance number).value v (λ e. other (sym (opening_laws.right plan seed race instance number) ∙ e)))
 right-other plan seed race instance number v (row.Both o p) is other = rw is.1 (ne_eqb (right_opening_of plan seed race instance number).value v (λ e. other (sym (opening_laws.right plan seed race instance number) ∙ e)))

@@ -36,7 +36,7 @@ use Rattle.sg_post.proofs.MarkedCodes.{cast_overs}
 use Rattle.sg_post.proofs.OwnCodes.{HoldsOfOwn, audited_codes-of, cast_codes-of, race_codes-of}
 use Rattle.sg_post.proofs.StoryFits.{fits-later, fits_ballot}
 use Rattle.sg_post.specs.Fits.{claim_fits, fates_fit}
-use Rattle.sg_post.specs.Marks.{flag_of, is_marked, is_set, total_of}
+use Rattle.sg_post.specs.Marks.{flag_of, is_entry_marked, is_place_set, total_of}
 use Rattle.sg_post.specs.Posted.{by_row, code_commit_of, code_in_row, code_line_of, dispute_of, fate_blocks, opened_row, posted_record, race_codes_of, row_commit_of, told_blocks}
 use Rattle.sg_post.specs.declared.story.Claimed.{Claimed}
 use Rattle.sg_post.specs.declared.story.Told.{Told}
@@ -200,9 +200,9 @@ module _ (plan : Plan) (seed : List ℕ) (fates : List Told) (draw : Draw) (clai
   flag_is race instance number within =
       listed.flag race instance number (flag_of plan seed fates race instance number) within.0 (row_get plan (flag_of plan seed fates) race instance number within)
 
-  pub set_is : (race place : ℕ) → race < length plan.races → place < entries_of plan race → posted_set race place lines ≡ is_set plan seed fates race place
+  pub set_is : (race place : ℕ) → race < length plan.races → place < entries_of plan race → posted_set race place lines ≡ is_place_set plan seed fates race place
   set_is race place in_race within =
-      listed.place race place (is_set plan seed fates race place) in_race (item_get (length plan.races) (entries_of plan) (is_set plan seed fates) race place in_race within)
+      listed.place race place (is_place_set plan seed fates race place) in_race (item_get (length plan.races) (entries_of plan) (is_place_set plan seed fates) race place in_race within)
 
-  pub marked_is : fault_of plan ≡ None → fates_fit plan 0 fates ≡ true → (race entry : ℕ) → race < length plan.races → posted_marked plan race entry lines ≡ is_marked plan seed fates race entry
+  pub marked_is : fault_of plan ≡ None → fates_fit plan 0 fates ≡ true → (race entry : ℕ) → race < length plan.races → posted_marked plan race entry lines ≡ is_entry_marked plan seed fates race entry
   marked_is fine fit race entry in_race = codes-marked plan seed fates draw claims fine fit race entry in_race

@@ -24,7 +24,7 @@ use Rattle.sg_streams.specs.Numbers.{numbers_below}
 use Rattle.sg_tables.proofs.TableLaws.{code_laws, entry_laws, opening_laws, pointer_laws}
 use Rattle.sg_tables.specs.Posts.{marked_columns}
 use Rattle.sg_tables.specs.Tables.{code_beside, code_of_entry, codes_of_row, left_of as row_left, left_opening_of, paper_of, right_opening_of, shown_by}
-use Rattle.sg_forms.specs.Reading.{public_bytes as bytes_of_digits}
+use Rattle.sg_forms.specs.Reading.{bytes_of_digits}
 use Rattle.sg_forms.specs.declared.line.CodeLine.{CodeLine}
 use Rattle.sg_forms.specs.declared.line.RowOpening.{RowOpening}
 use Rattle.sg_grammar.specs.Lines.{is_audit as block_audit}
@@ -39,7 +39,7 @@ use Rattle.sg_record.specs.declared.record.Record.{Record}
 use Rattle.sg_check.specs.Completions.{IsHalfOf}
 use Rattle.sg_check.specs.Facts.{audited_code, audited_entries, audits_entry, audits_race, both_rows, draws_digits, first_given, is_audited as posted_audited, is_both, opens_both, paper_code, public_bytes, shows_paper}
 use Rattle.sg_check.specs.Kinds.{bad_print, is_there, wrong_audit, wrong_number, wrong_paper}
-use Rattle.sg_post.specs.Marks.{is_audit, is_audited, is_entry_of, told_audits}
+use Rattle.sg_post.specs.Marks.{is_audit_fate, is_entry_audited, is_entry_of, told_audits}
 use Rattle.sg_post.specs.Posted.{audited_codes, both_sides, code_in_row, code_line_of, fate_blocks, one_side, opened_row, posted_record, told_blocks}
 use Rattle.sg_post.specs.declared.story.Claimed.{Claimed}
 use Rattle.sg_post.specs.declared.story.Told.{Told}
@@ -107,7 +107,7 @@ paper-gives plan seed fates race row candidate line fine within below is = refl
 
 module _ (plan : Plan) (seed : List ℕ) (race : ℕ) (some : 0 < candidates_of plan race) where
   -- the entry, where the ballot was audited and it is one of its own
-  told-audits : (entry ballot : ℕ) (what : Fate) → list_any (audit_test plan race entry) (told_codes plan seed race ballot what) ≡ (is_entry_of plan race entry ballot && is_audit what)
+  told-audits : (entry ballot : ℕ) (what : Fate) → list_any (audit_test plan race entry) (told_codes plan seed race ballot what) ≡ (is_entry_of plan race entry ballot && is_audit_fate what)
   told-audits entry ballot (fate.Audited paper) = at_has (ballot_has plan ballot race)
     where
       at_has : (b : Bool) → list_any (audit_test plan race entry) (cond b (map (audited_code_at plan seed race ballot) (numbers_below (candidates_of plan race))) []) ≡ ((b && ballot_row plan race ballot == entry / candidates_of plan race) && true)
@@ -129,7 +129,7 @@ module _ (plan : Plan) (seed : List ℕ) (race : ℕ) (some : 0 < candidates_of 
   none-audited ballot = sum-zero (λ entry. tally (is_entry_of plan race entry ballot && false)) (numbers_below (entries_of plan race)) (λ entry. ap tally (and-false (is_entry_of plan race entry ballot)))
 
   -- and as many as it has
-  told-count : (ballot : ℕ) (what : Fate) → count_by (audits_race race) (told_codes plan seed race ballot what) ≡ count_by (λ entry. is_entry_of plan race entry ballot && is_audit what) (numbers_below (entries_of plan race))
+  told-count : (ballot : ℕ) (what : Fate) → count_by (audits_race race) (told_codes plan seed race ballot what) ≡ count_by (λ entry. is_entry_of plan race entry ballot && is_audit_fate what) (numbers_below (entries_of plan race))
   unfolding numbers_below
   told-count ballot (fate.Audited paper) = at_has (ballot_has plan ballot race) refl
     where
@@ -165,7 +165,7 @@ module _ (plan : Plan) (seed : List ℕ) (race : ℕ) (some : 0 < candidates_of 
         | inr behind ↦ or_right (r == race && ballot_row plan r ballot == row) _ (papers-any ballot row f races is behind)
       ]
 
-  told-paper : (entry ballot : ℕ) (what : Fate) → IsTrueFate plan seed ballot what → is_entry_of plan race entry ballot ≡ true → is_audit what ≡ true
+  told-paper : (entry ballot : ℕ) (what : Fate) → IsTrueFate plan seed ballot what → is_entry_of plan race entry ballot ≡ true → is_audit_fate what ≡ true
       → list_any (paper_test plan race (entry / candidates_of plan race)) (flat_map (block_places plan) (map (λ (w : BlockFate). let one : BallotBlock = record { ballot = ballot; fate = w } in one) (fate_blocks plan seed ballot what))) ≡ true
   unfolding paper_of
   told-paper entry ballot (fate.Audited paper) is own audit =
@@ -192,7 +192,7 @@ module _ (plan : Plan) (seed : List ℕ) (race : ℕ) (some : 0 < candidates_of 
       ∙ (list_any-append test here behind
       ∙ elim (or_cases (told_audits plan race entry told) (list_any (told_audits plan race entry) fates) e) [
         | inl own ↦
-            let parts = and_parts (is_entry_of plan race entry told.ballot) (is_audit told.fate) own in
+            let parts = and_parts (is_entry_of plan race entry told.ballot) (is_audit_fate told.fate) own in
             or_left (list_any test here) (list_any test behind) (told-paper entry told.ballot told.fate all.0 parts.0 parts.1)
         | inr later ↦ or_right (list_any test here) (list_any test behind) (papers-there entry fates all.1 later)
       ])
@@ -217,9 +217,9 @@ no-audit race line late = refl
 
 -- with public bytes, a row is opened on both sides exactly where its entry is audited
 both-audited : (plan : Plan) (seed : List ℕ) (fates : List Told) (bytes : List ℕ) (race instance n : ℕ)
-    → is_both (opened_row plan seed fates (drawn.Public bytes) race instance n) ≡ is_audited plan fates race (row_left plan seed race instance n)
+    → is_both (opened_row plan seed fates (drawn.Public bytes) race instance n) ≡ is_entry_audited plan fates race (row_left plan seed race instance n)
 unfolding opened_row
-both-audited plan seed fates bytes race instance n = at_audit (is_audited plan fates race (row_left plan seed race instance n)) (coin_of (coin_seed bytes) race instance n)
+both-audited plan seed fates bytes race instance n = at_audit (is_entry_audited plan fates race (row_left plan seed race instance n)) (coin_of (coin_seed bytes) race instance n)
   where
     at_audit : (b : Bool) (s : Side) → is_both (cond b (both_sides plan seed race instance n) (one_side plan seed race instance n s)) ≡ b
     at_audit true s = refl
@@ -246,8 +246,8 @@ module _ (plan : Plan) (seed : List ℕ) (fates : List Told) (draw : Draw) (clai
   -- THE RECORD
 
   -- the codes of all audited entries are shown, and of no other
-  audited-is : (race entry : ℕ) → race < length plan.races → audited_code plan race entry lines ≡ cond (is_audited plan fates race entry) (Some (code_of_entry plan seed race entry)) None
-  unfolding is_audited
+  audited-is : (race entry : ℕ) → race < length plan.races → audited_code plan race entry lines ≡ cond (is_entry_audited plan fates race entry) (Some (code_of_entry plan seed race entry)) None
+  unfolding is_entry_audited
   audited-is race entry within =
       let v : ℕ = code_of_entry plan seed race entry in
       given-value (audits_entry plan race entry) (audit_test plan race entry) v lines
@@ -263,9 +263,9 @@ module _ (plan : Plan) (seed : List ℕ) (fates : List Told) (draw : Draw) (clai
       only line is = refl
 
   -- and what their papers have
-  paper-is : (race entry candidate : ℕ) → race < length plan.races → candidate < candidates_of plan race → is_audited plan fates race entry ≡ true
+  paper-is : (race entry candidate : ℕ) → race < length plan.races → candidate < candidates_of plan race → is_entry_audited plan fates race entry ≡ true
       → paper_code plan race (entry / candidates_of plan race) candidate lines ≡ Some (code_beside plan seed race (entry / candidates_of plan race) candidate)
-  unfolding is_audited places_in
+  unfolding is_entry_audited places_in
   paper-is race entry candidate within below audited =
       let row : ℕ = entry / candidates_of plan race in
       let test : Placed → Bool = paper_test plan race row in
@@ -279,8 +279,8 @@ module _ (plan : Plan) (seed : List ℕ) (fates : List Told) (draw : Draw) (clai
       ∙ ap (λ (b : Bool). cond b (Some v) None) there
 
   -- as many are shown as there are
-  number-is : (race : ℕ) → race < length plan.races → audited_entries race lines ≡ count_by (is_audited plan fates race) (numbers_below (entries_of plan race))
-  unfolding is_audited
+  number-is : (race : ℕ) → race < length plan.races → audited_entries race lines ≡ count_by (is_entry_audited plan fates race) (numbers_below (entries_of plan race))
+  unfolding is_entry_audited
   number-is race within =
       let g : Placed → ℕ = λ line. tally (audits_race race line) in
       let entries : List ℕ = numbers_below (entries_of plan race) in
@@ -288,7 +288,7 @@ module _ (plan : Plan) (seed : List ℕ) (fates : List Told) (draw : Draw) (clai
       ∙ (sum-flat g (λ (one : Told). told_codes plan seed race one.ballot one.fate) fates
       ∙ (sum-same (λ (one : Told). count_by (audits_race race) (told_codes plan seed race one.ballot one.fate)) (λ (one : Told). count_by (λ entry. told_audits plan race entry one) entries) fates
       (λ one. told-count plan seed race (some_candidate race within) one.ballot one.fate)
-      ∙ sym (count-told plan race (told_audits plan race) (λ entry one e. (and_parts (is_entry_of plan race entry one.ballot) (is_audit one.fate) e).0) 0 fates told.fit)))
+      ∙ sym (count-told plan race (told_audits plan race) (λ entry one e. (and_parts (is_entry_of plan race entry one.ballot) (is_audit_fate one.fate) e).0) 0 fates told.fit)))
     where
       only : (line : Placed) → shows_in race line ≡ false → tally (audits_race race line) ≡ 0
       only (CodeAt block.Cast ballot of column code) is = refl
@@ -305,13 +305,13 @@ module _ (plan : Plan) (seed : List ℕ) (fates : List Told) (draw : Draw) (clai
     abbrev entry : ℕ
     entry = row_left plan seed race instance number
 
-    audited-before : (e : ℕ) → audited_code plan race e before ≡ cond (is_audited plan fates race e) (Some (code_of_entry plan seed race e)) None
+    audited-before : (e : ℕ) → audited_code plan race e before ≡ cond (is_entry_audited plan fates race e) (Some (code_of_entry plan seed race e)) None
     audited-before e = given-kept lines before line front (audits_entry plan race e) (no-entry plan race e) ∙ audited-is race e within.0
 
-    entry-audited : posted_audited plan race (left_opening_of plan seed race instance number).value before ≡ is_audited plan fates race entry
+    entry-audited : posted_audited plan race (left_opening_of plan seed race instance number).value before ≡ is_entry_audited plan fates race entry
     entry-audited =
         ap (λ (e : ℕ). posted_audited plan race e before) (opening_laws.left plan seed race instance number)
-        ∙ (ap (λ (o : Option ℕ). is_some o) (audited-before entry) ∙ is_some-cond (is_audited plan fates race entry) (code_of_entry plan seed race entry))
+        ∙ (ap (λ (o : Option ℕ). is_some o) (audited-before entry) ∙ is_some-cond (is_entry_audited plan fates race entry) (code_of_entry plan seed race entry))
 
     -- a row that is opened on both sides leads to what the paper has
     paper-fine : wrong_paper plan before race (both_sides plan seed race instance number) ≡ false
@@ -323,9 +323,9 @@ module _ (plan : Plan) (seed : List ℕ) (fates : List Told) (draw : Draw) (clai
         let is_left : left.value ≡ entry = opening_laws.left plan seed race instance number in
         let is_shown : right.value % k ≡ shown_by plan seed race entry = ap (λ (v : ℕ). v % k) (opening_laws.right plan seed race instance number ∙ pointer_laws.composed plan seed race instance number) ∙ led.column in
         and_right (nat_lt left.value (entries_of plan race) && nat_lt right.value (entries_of plan race)) _
-        (rw (is_left, is_shown) (ap (λ (o : Option ℕ). option_map_or (λ code. not (is_there (paper_code plan race (entry / k) (shown_by plan seed race entry) before) code)) o false) (audited-before entry) ∙ at_audit (is_audited plan fates race entry) refl led.shows))
+        (rw (is_left, is_shown) (ap (λ (o : Option ℕ). option_map_or (λ code. not (is_there (paper_code plan race (entry / k) (shown_by plan seed race entry) before) code)) o false) (audited-before entry) ∙ at_audit (is_entry_audited plan fates race entry) refl led.shows))
       where
-        at_audit : (b : Bool) → is_audited plan fates race entry ≡ b → shown_by plan seed race entry < candidates_of plan race
+        at_audit : (b : Bool) → is_entry_audited plan fates race entry ≡ b → shown_by plan seed race entry < candidates_of plan race
             → option_map_or (λ (code : ℕ). not (is_there (paper_code plan race (entry / candidates_of plan race) (shown_by plan seed race entry) before) code)) (cond b (Some (code_of_entry plan seed race entry)) None) false ≡ false
         at_audit false audited below = refl
         at_audit true audited below =
@@ -336,14 +336,14 @@ module _ (plan : Plan) (seed : List ℕ) (fates : List Told) (draw : Draw) (clai
             ap (λ (o : Option ℕ). not (is_there o code)) there ∙ ap not (eq-eqb code code refl)
 
     -- one side, or both, as the draw says
-    sides-fine : (b : Bool) (s : Side) → is_audited plan fates race entry ≡ b → (wrong_audit plan before race (cond b (both_sides plan seed race instance number) (one_side plan seed race instance number s)) ≡ false)
+    sides-fine : (b : Bool) (s : Side) → is_entry_audited plan fates race entry ≡ b → (wrong_audit plan before race (cond b (both_sides plan seed race instance number) (one_side plan seed race instance number s)) ≡ false)
         × (wrong_paper plan before race (cond b (both_sides plan seed race instance number) (one_side plan seed race instance number s)) ≡ false)
     sides-fine true s audited = (and_right (nat_lt (left_opening_of plan seed race instance number).value (entries_of plan race)) _ (ap not (entry-audited ∙ audited)), paper-fine)
     sides-fine false side.Left audited = (and_right (nat_lt (left_opening_of plan seed race instance number).value (entries_of plan race)) _ (entry-audited ∙ audited), refl)
     sides-fine false side.Right audited = (refl, refl)
 
     -- with the last row of an instance, as many are opened on both sides as there are audited entries
-    number-fine : (o : RowOpening) → o ≡ opened_row plan seed fates draw race instance number → ((n : ℕ) → is_both (opened_row plan seed fates draw race instance n) ≡ is_audited plan fates race (row_left plan seed race instance n))
+    number-fine : (o : RowOpening) → o ≡ opened_row plan seed fates draw race instance number → ((n : ℕ) → is_both (opened_row plan seed fates draw race instance n) ≡ is_entry_audited plan fates race (row_left plan seed race instance n))
         → wrong_number plan before race instance number o ≡ false
     number-fine o own both =
         let n : ℕ = entries_of plan race in
@@ -356,7 +356,7 @@ module _ (plan : Plan) (seed : List ℕ) (fates : List Told) (draw : Draw) (clai
               ∙ sum-same (λ k. tally ((race == race && instance == instance) && is_opened k)) (λ k. tally (is_opened k)) (numbers_below number) (λ k. rw (eq-eqb race race refl, eq-eqb instance instance refl) refl) in
               let all : count_by is_opened (numbers_below (number + 1)) ≡ count_by is_opened (numbers_below number) + tally (is_both o) = ap (count_by is_opened) (numbers_below-push number)
               ∙ (sum_by_push (λ k. tally (is_opened k)) (numbers_below number) number ∙ ap (λ (x : RowOpening). count_by is_opened (numbers_below number) + tally (is_both x)) (sym own)) in
-              let audited = sum-same (λ k. tally (is_opened k)) (λ k. tally (is_audited plan fates race (row_left plan seed race instance k))) (numbers_below n) (λ k. ap tally (both k)) in
+              let audited = sum-same (λ k. tally (is_opened k)) (λ k. tally (is_entry_audited plan fates race (row_left plan seed race instance k))) (numbers_below n) (λ k. ap tally (both k)) in
               and_right (number + 1 == n) _
               (ap not (eq-eqb (both_rows race instance before + tally (is_both o)) (audited_entries race before)
               (omega (
@@ -365,7 +365,7 @@ module _ (plan : Plan) (seed : List ℕ) (fates : List Told) (draw : Draw) (clai
                 all,
                 ap (λ (m : ℕ). count_by is_opened (numbers_below m)) last,
                 audited,
-                count-lefts plan seed race instance (is_audited plan fates race),
+                count-lefts plan seed race instance (is_entry_audited plan fates race),
                 number-is race within.0,
                 ap (sum_by audits) front.is,
                 sum_by-append audits before (line ∷ front.rest),
@@ -384,7 +384,7 @@ module _ (plan : Plan) (seed : List ℕ) (fates : List Told) (draw : Draw) (clai
         or_from _ (wrong_paper plan before race (both_sides plan seed race instance number)) (and_left (is_some (public_bytes before)) _ (ap (λ (o : Option (List ℕ)). is_some (option_map bytes_of_digits o)) none)) paper-fine
     row-fine (drawn.Public bytes) is =
         let row : RowOpening = opened_row plan seed fates (drawn.Public bytes) race instance number in
-        let fine = sides-fine (is_audited plan fates race entry) (coin_of (coin_seed bytes) race instance number) refl in
+        let fine = sides-fine (is_entry_audited plan fates race entry) (coin_of (coin_seed bytes) race instance number) refl in
         or_from _ (wrong_paper plan before race row)
         (and_right (is_some (public_bytes before)) _ (or_from (wrong_audit plan before race row) _ fine.0
         (number-fine row (ap (λ (d : Draw). opened_row plan seed fates d race instance number) (sym is)) (λ n. ap (λ (d : Draw). is_both (opened_row plan seed fates d race instance n)) is ∙ both-audited plan seed fates bytes race instance n)))) fine.1

@@ -48,7 +48,7 @@ use Rattle.sg_accepted.proofs.Late.{Good}
 use Rattle.sg_accepted.proofs.Posted.{HasBlock, SaysRight, all-right, claims-of, fits-each, of-both, of-parts, told-lines}
 use Rattle.sg_accepted.proofs.Sums.{count-one, sum-filter, sum-flat, sum-map, sum-of, sum-same, sum-zero, tally}
 use Rattle.sg_accepted.proofs.Unaltered.{IsTold, holds-all}
-use Rattle.sg_accepted.specs.Unaltered.{IsTrueFate, fate_of}
+use Rattle.sg_accepted.specs.Unaltered.{IsTrueFate, told_fate}
 
 -- CODES OF ONE BALLOT
 
@@ -227,7 +227,7 @@ marks-within plan seed ballot race fate.Spoiled fit = omega arith
 marks-within plan seed ballot race fate.Voided fit = omega arith
 
 -- the fate that is told of a ballot fits it
-told-fits : (plan : Plan) (last : ℕ) (fates : List Told) (ballot : ℕ) → fates_fit plan last fates ≡ true → fits_ballot plan ballot (fate_of fates ballot)
+told-fits : (plan : Plan) (last : ℕ) (fates : List Told) (ballot : ℕ) → fates_fit plan last fates ≡ true → fits_ballot plan ballot (told_fate fates ballot)
 told-fits plan last [] ballot fit = refl
 told-fits plan last (told ∷ fates) ballot fit =
     let parts = and_parts (nat_lt last told.ballot && fate_fits plan told.ballot told.fate) (fates_fit plan told.ballot fates) fit in
@@ -239,7 +239,7 @@ told-fits plan last (told ∷ fates) ballot fit =
 
 -- each that is told is that of its ballot
 abbrev IsToldAt : ℕ → List Told → Told → Type 0
-IsToldAt last fates told = (last < told.ballot) × (fate_of fates told.ballot ≡ told.fate)
+IsToldAt last fates told = (last < told.ballot) × (told_fate fates told.ballot ≡ told.fate)
 
 told-is : (plan : Plan) (last : ℕ) (fates : List Told) → fates_fit plan last fates ≡ true → EachOf (IsToldAt last fates) fates
 told-is plan last [] fit = tt
@@ -256,7 +256,7 @@ told-is plan last (told ∷ fates) fit =
 
 -- a paper is its ballot row's, and where a race is over no mark of the ballot there is posted
 abbrev pub BlockRight : Plan → List ℕ → List Told → Placed → Type 0
-BlockRight plan seed fates (OverAt ballot race) = (race < length plan.races) × (marks_posted plan seed ballot race (fate_of fates ballot) ≡ 0)
+BlockRight plan seed fates (OverAt ballot race) = (race < length plan.races) × (marks_posted plan seed ballot race (told_fate fates ballot) ≡ 0)
 BlockRight plan seed fates (PaperAt ballot race list) = (race < length plan.races) × (list ≡ codes_of_row plan seed race (ballot_row plan race ballot))
 BlockRight plan seed fates line = Unit {0}
 
@@ -293,7 +293,7 @@ module _ (plan : Plan) (seed : List ℕ) (fates : List Told) (draw : Draw) (clai
   unfolding paper_of
   true-paper ballot paper is = rw is (papers-right ballot (races_of_ballot plan ballot) (races-within plan ballot told.fine))
 
-  overs-right : (ballot : ℕ) (marks : List Mark) → fate_of fates ballot ≡ fate.Cast marks → EachOf (λ (race : ℕ). BlockRight plan seed fates (OverAt ballot race)) (cast_overs plan marks)
+  overs-right : (ballot : ℕ) (marks : List Mark) → told_fate fates ballot ≡ fate.Cast marks → EachOf (λ (race : ℕ). BlockRight plan seed fates (OverAt ballot race)) (cast_overs plan marks)
   unfolding numbers_below
   overs-right ballot marks is =
       of-passing (λ (race : ℕ). BlockRight plan seed fates (OverAt ballot race)) (is_over plan marks) 0 (length plan.races)
@@ -316,7 +316,7 @@ module _ (plan : Plan) (seed : List ℕ) (fates : List Told) (draw : Draw) (clai
   -- THE KIND
 
   -- in each race a ballot's marks are those of its fate
-  marks-are : (ballot race : ℕ) → race < length plan.races → count_by (marks_ballot ballot race) lines ≡ marks_posted plan seed ballot race (fate_of fates ballot)
+  marks-are : (ballot race : ℕ) → race < length plan.races → count_by (marks_ballot ballot race) lines ≡ marks_posted plan seed ballot race (told_fate fates ballot)
   marks-are ballot race within =
       let g : Placed → ℕ = λ line. tally (marks_ballot ballot race line) in
       sum-codes plan seed race within g only fates draw claims
@@ -333,7 +333,7 @@ module _ (plan : Plan) (seed : List ℕ) (fates : List Told) (draw : Draw) (clai
 
   -- what is marked before a line is no more
   marks-split : (before : List Placed) (line : Placed) → IsFront lines before line → (ballot race : ℕ) → race < length plan.races
-      → count_by (marks_ballot ballot race) before + tally (marks_ballot ballot race line) ≤ marks_posted plan seed ballot race (fate_of fates ballot)
+      → count_by (marks_ballot ballot race) before + tally (marks_ballot ballot race line) ≤ marks_posted plan seed ballot race (told_fate fates ballot)
   marks-split before line front ballot race within =
       let g : Placed → ℕ = λ l. tally (marks_ballot ballot race l) in
       omega (arith, marks-are ballot race within, ap (sum_by g) front.is, sum_by-append g before (line ∷ front.rest), sum_by-cons g line front.rest)
@@ -355,7 +355,7 @@ module _ (plan : Plan) (seed : List ℕ) (fates : List Told) (draw : Draw) (clai
   rule-good : (before : List Placed) (line : Placed) → IsFront lines before line → IsRight line → bad_rule plan before line ≡ false
   rule-good before (CodeAt block.Cast ballot race column code) front right =
       let split = marks-split before (CodeAt block.Cast ballot race column code) front ballot race right.0.0 in
-      let limit = marks-within plan seed ballot race (fate_of fates ballot) (told-fits plan 0 fates ballot told.fit) in
+      let limit = marks-within plan seed ballot race (told_fate fates ballot) (told-fits plan 0 fates ballot told.fit) in
       let marked : tally (marks_ballot ballot race (CodeAt block.Cast ballot race column code)) ≡ tally true = ap tally (and_from (ballot == ballot) (race == race) (eq-eqb ballot ballot refl) (eq-eqb race race refl)) in
       or_from (nat_le (votes_of plan race) (count_by (marks_ballot ballot race) before)) _ (lt-leb (votes_of plan race) (count_by (marks_ballot ballot race) before) (omega (arith, split, limit, marked)))
       (code-good before block.Cast ballot race column code front right)

@@ -14,7 +14,7 @@ use Rattle.sg_streams.specs.CoinSides.{coin_of, coin_seed}
 use Rattle.sg_tables.specs.Tables.{left_of as row_left}
 use Rattle.sg_forms.proofs.Drawn.{spelled_are_public}
 use Rattle.sg_forms.proofs.WordKinds.{bytes_everywhere}
-use Rattle.sg_forms.specs.Reading.{public_bytes as bytes_of_digits}
+use Rattle.sg_forms.specs.Reading.{bytes_of_digits}
 use Rattle.sg_forms.specs.declared.line.RowOpening.{RowOpening}
 use Rattle.sg_grammar.specs.Placed.{Placed}
 use Rattle.sg_grammar.specs.Placed.Placed.{RowAt}
@@ -22,7 +22,7 @@ use Rattle.sg_check.specs.Facts.{draws_digits, draws_full, first_given, is_both,
 use Rattle.sg_check.specs.Kinds.{bad_side, is_off_coin, is_on_side}
 use Rattle.sg_record.specs.Typed.{AreDrawn}
 use Rattle.sg_post.specs.Fits.{claim_fits, fates_fit}
-use Rattle.sg_post.specs.Marks.{is_audited}
+use Rattle.sg_post.specs.Marks.{is_entry_audited}
 use Rattle.sg_post.specs.Posted.{both_sides, one_side, opened_row, posted_record}
 use Rattle.sg_post.specs.declared.story.Claimed.{Claimed}
 use Rattle.sg_post.specs.declared.story.Told.{Told}
@@ -52,7 +52,7 @@ row-sided plan seed fates (drawn.Public bytes) before race instance number are f
     let some : public_bytes before ≡ Some bytes = ap (option_map bytes_of_digits) digits ∙ ap (λ (l : List ℕ). Some l) (spelled_are_public (encode_lower bytes) bytes (bytes_everywhere bytes are) refl) in
     ap (λ (b : Bool). (b && not (is_both opening)) || option_map_or (is_off_coin race instance number opening) (public_bytes before) false) full
     ∙ (ap (λ (o : Option (List ℕ)). option_map_or (is_off_coin race instance number opening) o false) some
-    ∙ ap not (on_side plan seed race instance number (coin_of (coin_seed bytes) race instance number) (is_audited plan fates race (row_left plan seed race instance number))))
+    ∙ ap not (on_side plan seed race instance number (coin_of (coin_seed bytes) race instance number) (is_entry_audited plan fates race (row_left plan seed race instance number))))
 
 module _ (plan : Plan) (seed : List ℕ) (fates : List Told) (draw : Draw) (claims : List Claimed) (are : AreDrawn draw) where
   abbrev lines : List Placed

@@ -17,7 +17,7 @@ use Rattle.sg_check.proofs.Votes.{is_vote, places_in as in_plan, votes-count, vo
 use Rattle.sg_check.specs.Facts.{votes_for}
 use Rattle.sg_check.specs.Kinds.{bad_total}
 use Rattle.sg_post.specs.Fits.{claim_fits, fates_fit}
-use Rattle.sg_post.specs.Marks.{is_set, total_of}
+use Rattle.sg_post.specs.Marks.{is_place_set, total_of}
 use Rattle.sg_post.specs.Posted.{posted_record}
 use Rattle.sg_post.specs.declared.story.Claimed.{Claimed}
 use Rattle.sg_post.specs.declared.story.Told.{Told}
@@ -35,11 +35,11 @@ module _ (plan : Plan) (seed : List ℕ) (fates : List Told) (draw : Draw) (clai
     votes-are : (race candidate : ℕ) → race < length plan.races → votes_for plan race candidate lines ≡ total_of plan seed fates race candidate
     unfolding total_of
     votes-are race candidate within =
-        let test : ℕ → Bool = λ place. place % candidates_of plan race == candidate && is_set plan seed fates race place in
+        let test : ℕ → Bool = λ place. place % candidates_of plan race == candidate && is_place_set plan seed fates race place in
         votes-count plan race candidate lines apart (in_plan plan lines are_in)
         ∙ (count-same (is_vote plan race candidate lines) test (entries_of plan race)
         (λ place below. ap (λ (b : Bool). b && place % candidates_of plan race == candidate) (set_is plan seed fates draw claims race place within below)
-        ∙ and_comm (is_set plan seed fates race place) (place % candidates_of plan race == candidate))
+        ∙ and_comm (is_place_set plan seed fates race place) (place % candidates_of plan race == candidate))
         ∙ sym (below_counts test (entries_of plan race)))
 
     -- no places of its race stand behind a total

@@ -12,7 +12,7 @@ use Rattle.sg_streams.specs.Numbers.{numbers_below}
 use Rattle.sg_tables.proofs.TableLaws.{entry_laws, pointer_laws}
 use Rattle.sg_tables.specs.Tables.{entry_showing, path_of, shown_by}
 use Rattle.sg_post.specs.Fits.{fates_fit}
-use Rattle.sg_post.specs.Marks.{is_entry_of, is_marked, is_set, told_marks, total_of}
+use Rattle.sg_post.specs.Marks.{is_entry_of, is_entry_marked, is_place_set, told_marks, total_of}
 use Rattle.sg_post.specs.declared.story.Told.{Told}
 use Rattle.sg_accepted.proofs.Any.{any-never}
 use Rattle.sg_accepted.proofs.Counted.{count-told}
@@ -30,13 +30,13 @@ pub totals_count_marks : TotalsCountMarks
 unfolding total_of
 totals_count_marks plan seed fates race candidate =
     let path : ℕ → ℕ = path_of plan seed race in
-    let counts : ℕ → Bool = λ place. place % candidates_of plan race == candidate && is_set plan seed fates race place in
+    let counts : ℕ → Bool = λ place. place % candidates_of plan race == candidate && is_place_set plan seed fates race place in
     let paths = pointer_laws.paths plan seed race in
     let moved : count_by counts (numbers_below (entries_of plan race)) ≡ count_by counts (map path (numbers_below (entries_of plan race)))
     = sym (sum_by-IsPermutation (λ (place : ℕ). tally (counts place)) (numbers_below (entries_of plan race)) (map path (numbers_below (entries_of plan race))) paths.listed) in
     moved
     ∙ (sum-map (λ place. tally (counts place)) path (numbers_below (entries_of plan race))
-    ∙ count-same (λ entry. counts (path entry)) (λ entry. path entry % candidates_of plan race == candidate && is_marked plan seed fates race entry) (entries_of plan race)
+    ∙ count-same (λ entry. counts (path entry)) (λ entry. path entry % candidates_of plan race == candidate && is_entry_marked plan seed fates race entry) (entries_of plan race)
     (λ entry below. ap (λ (b : Bool). path entry % candidates_of plan race == candidate && b) (set-marked plan seed fates race entry below)))
 
 -- AND THE BALLOTS
@@ -117,6 +117,6 @@ module _ (plan : Plan) (seed : List ℕ) (race candidate : ℕ) (within : candid
       with_each false test xs = sym (any-never (λ (x : Told). false) xs (λ x. refl))
 
 pub totals_are_votes : TotalsAreVotes
-unfolding is_marked
+unfolding is_entry_marked
 totals_are_votes plan seed fates race candidate fit within =
     totals_count_marks plan seed fates race candidate ∙ votes-all plan seed race candidate within fates fit

@@ -12,7 +12,7 @@ use Rattle.sg_check.specs.declared.judged.Judged.{Judged}
 use Rattle.sg_check.specs.declared.judged.Judged.TheVariants as judged
 use Rattle.sg_check.specs.declared.judged.Total.{Total}
 use Rattle.sg_post.specs.Fits.{fates_fit}
-use Rattle.sg_post.specs.Marks.{is_marked, total_of}
+use Rattle.sg_post.specs.Marks.{is_entry_marked, total_of}
 use Rattle.sg_post.specs.Posted.{posted_text}
 use Rattle.sg_post.specs.declared.story.Story.{Story}
 use Rattle.sg_post.specs.declared.story.Told.{Told}
@@ -41,7 +41,7 @@ UnalteredIsNeverNo = (plan : Plan) (seed : List ℕ) (story : Story) (found : Ju
 abbrev pub TotalsCountMarks : Type 0
 TotalsCountMarks = (plan : Plan) (seed : List ℕ) (fates : List Told) (race candidate : ℕ)
     → total_of plan seed fates race candidate
-    ≡ count_by (λ entry. path_of plan seed race entry % candidates_of plan race == candidate && is_marked plan seed fates race entry) (numbers_below (entries_of plan race))
+    ≡ count_by (λ entry. path_of plan seed race entry % candidates_of plan race == candidate && is_entry_marked plan seed fates race entry) (numbers_below (entries_of plan race))
 
 -- the ballot has the race, and its marks count for the candidate
 abbrev pub votes_so : Plan → ℕ → ℕ → Told → Bool

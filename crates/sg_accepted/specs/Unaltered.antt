@@ -15,9 +15,9 @@ use Rattle.sg_post.specs.declared.story.Story.{Story}
 use Rattle.sg_post.specs.declared.story.Told.{Told}
 
 -- the fate that is told of a ballot: the first, and that it is unused where there is none
-abbrev pub fate_of : List Told → ℕ → Fate
-fate_of [] ballot = fate.Unused
-fate_of (told ∷ fates) ballot = (if told.ballot == ballot then told.fate else fate_of fates ballot)
+abbrev pub told_fate : List Told → ℕ → Fate
+told_fate [] ballot = fate.Unused
+told_fate (told ∷ fates) ballot = (if told.ballot == ballot then told.fate else told_fate fates ballot)
 
 -- a paper that was read is that of the ballot
 abbrev pub IsTrueFate : Plan → List ℕ → ℕ → Fate → Type 0
@@ -35,7 +35,7 @@ IsDrawn (stage.Drawn draw) = AreDrawn draw
 
 -- the claim has the right answer
 abbrev pub IsRightClaim : Plan → List ℕ → List Told → Claimed → Type 0
-IsRightClaim plan seed fates claimed = claimed.word ≡ right_word plan seed claimed.race (ballot_row plan claimed.race claimed.ballot) (fate_of fates claimed.ballot) claimed.code
+IsRightClaim plan seed fates claimed = claimed.word ≡ right_word plan seed claimed.race (ballot_row plan claimed.race claimed.ballot) (told_fate fates claimed.ballot) claimed.code
 
 -- the story fits its plan, sides are drawn, and papers that were read and answers to claims are right
 pub record IsUnaltered (plan : Plan) (seed : List ℕ) (story : Story) : Type 0 where

@@ -35,7 +35,7 @@ use Rattle.sg_check.proofs.Counting.{count-none}
 use Rattle.sg_check.proofs.Rows.{none_behind_row}
 use Rattle.sg_check.specs.Bounds.{AreTotalsEqual, DifferByAtMost}
 use Rattle.sg_check.specs.Completions.{Completion, OpensNoneTwice, altered_rows, is_altered, opened_on, posted_half, posts_half}
-use Rattle.sg_check.specs.Printings.{AreCodesDifferent, Printing, StandsWith, posted_codes}
+use Rattle.sg_check.specs.Printings.{AreCodesDifferent, Printing, StandsWith, posted_count}
 
 -- a value that one of the lines gives is found
 pub given_there : {B : Type 0} (given : Placed → Option B) (front rest : List Placed) (x : Placed) → is_none (given x) ≡ false → is_none (first_given given (front ++ x ∷ rest)) ≡ false
@@ -140,7 +140,7 @@ module _ (lines : List (List ℕ)) (totals : List Total) (walked : Walked) (acce
   bound : (printing : Printing) (completion : Completion) → AreCodesDifferent walked.next.plan printing → StandsWith walked.next.plan (placed_of walked.posted) printing
       → OpensNoneTwice (placed_of walked.posted) completion → (total : Total) (instance : ℕ) → Contains totals total
       → DifferByAtMost (altered_rows walked.next.plan (placed_of walked.posted) completion printing total.race instance) total.count
-      (posted_codes walked.next.plan (placed_of walked.posted) printing total.race total.candidate)
+      (posted_count walked.next.plan (placed_of walked.posted) printing total.race total.candidate)
   bound printing completion differ stands none_twice total instance has =
       let all = placed_of walked.posted in
       let plan = walked.next.plan in

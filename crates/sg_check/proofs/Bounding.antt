@@ -17,14 +17,14 @@ use Rattle.sg_grammar.specs.Parting.{Apart, IsLineIn, clash}
 use Rattle.sg_grammar.specs.Placed.{Placed}
 use Rattle.sg_grammar.specs.Placed.Placed.{CodeAt, RowAt, TotalAt}
 use Rattle.sg_grammar.specs.declared.state.Block.{Block}
-use Rattle.sg_check.specs.Facts.{is_marked, is_set, left_of, right_of, votes_for}
+use Rattle.sg_check.specs.Facts.{is_marked, is_set, opened_left, opened_right, votes_for}
 use Rattle.sg_check.specs.Laws.{ArePointersOnce, AreTotalsCounted, DoFlagsAgree}
 use Rattle.sg_check.proofs.Counting.{IsOneToOne, count-same, counts_within}
 use Rattle.sg_check.proofs.Rows.{GoodHalf, first_given-some, good_half, one_half, one_row, posted_row}
 use Rattle.sg_check.proofs.Votes.{is_vote, places_in, votes-count, votes_before}
 use Rattle.sg_check.specs.Bounds.{DifferByAtMost}
 use Rattle.sg_check.specs.Completions.{Completion, OpensNoneTwice, altered_rows, is_altered, is_half_altered, is_row_misprinted, is_unopened, posted_half}
-use Rattle.sg_check.specs.Printings.{AreCodesDifferent, Printing, StandsWith, count_below, is_posted_for, marked_code, posted_codes, posts_code}
+use Rattle.sg_check.specs.Printings.{AreCodesDifferent, Printing, StandsWith, count_below, is_posted_for, marked_code, posted_count, posts_code}
 
 -- CODES OF MARKED ENTRIES
 
@@ -74,7 +74,7 @@ posts plan lines race entry shown e =
             }
     at_line line among gives = cc
 
-both_of : (opening : RowOpening) (left right : Opening) → left_of opening ≡ Some left → right_of opening ≡ Some right → opening ≡ opened.Both left right
+both_of : (opening : RowOpening) (left right : Opening) → opened_left opening ≡ Some left → opened_right opening ≡ Some right → opening ≡ opened.Both left right
 both_of (opened.Left o) left right e d = cc
 both_of (opened.Right o) left right e d = cc
 both_of (opened.Both l r) left right e d = rw (same_Some l left e, same_Some r right d) refl
@@ -123,7 +123,7 @@ module _ (plan : Plan) (lines : List Placed) (apart : Apart clash lines) (once :
       let on_left = posted_row lines side.Left race instance row left e in
       let on_right = posted_row lines side.Right race instance row right d in
       let same = one_row lines race instance row on_left.0 on_right.0 apart on_left.1 on_right.1 in
-      let both = both_of on_left.0 left right on_left.2 (ap right_of same ∙ on_right.2) in
+      let both = both_of on_left.0 left right on_left.2 (ap opened_right same ∙ on_right.2) in
       let post = posts plan lines race left.value shown code in
       stands race instance row left right post.block post.ballot post.column post.code (subst (λ (o : RowOpening). IsAmong lines (RowAt race instance row o)) both on_left.1) post.among post.entry_is
       ∙ post.code_is
@@ -211,7 +211,7 @@ module _ (plan : Plan) (lines : List Placed) (apart : Apart clash lines) (once :
       twice true = refl
       twice false = refl
 
-  pub votes_bound : DifferByAtMost (altered_rows plan lines completion printing race instance) (count_below (is_vote plan race candidate lines) (entries_of plan race)) (posted_codes plan lines printing race candidate)
+  pub votes_bound : DifferByAtMost (altered_rows plan lines completion printing race instance) (count_below (is_vote plan race candidate lines) (entries_of plan race)) (posted_count plan lines printing race candidate)
   votes_bound =
       let more = counts_within (entries_of plan race) good (is_posted_for plan lines printing race candidate) (is_vote plan race candidate lines) (to side.Left) (to side.Right) (one_to_one side.Left) (one_to_one side.Right) rows_alike in
       let less = counts_within (entries_of plan race) good (is_vote plan race candidate lines) (is_posted_for plan lines printing race candidate) (to side.Right) (to side.Left) (one_to_one side.Right) (one_to_one side.Left) (λ row below g. sym (rows_alike row below g)) in
@@ -219,11 +219,11 @@ module _ (plan : Plan) (lines : List Placed) (apart : Apart clash lines) (once :
 
   -- the total among the lines
   pub total_bound : (count : ℕ) → AreTotalsCounted plan lines → ((line : Placed) → IsAmong lines line → IsLineIn plan line) → IsAmong lines (TotalAt race candidate count)
-      → DifferByAtMost (altered_rows plan lines completion printing race instance) count (posted_codes plan lines printing race candidate)
+      → DifferByAtMost (altered_rows plan lines completion printing race instance) count (posted_count plan lines printing race candidate)
   total_bound count counted within (front, rest, is) =
       let all = subst (λ (l : List Placed). Apart clash l) is apart in
       let before = votes_before plan race candidate front rest count all in
       let same : votes_for plan race candidate lines ≡ votes_for plan race candidate front = ap (votes_for plan race candidate) is ∙ before in
       let votes = votes-count plan race candidate lines apart (places_in plan lines within) in
       let total : count ≡ count_below (is_vote plan race candidate lines) (entries_of plan race) = counted front rest race candidate count is ∙ (sym same ∙ votes) in
-      subst (λ (c : ℕ). DifferByAtMost (altered_rows plan lines completion printing race instance) c (posted_codes plan lines printing race candidate)) (sym total) votes_bound
+      subst (λ (c : ℕ). DifferByAtMost (altered_rows plan lines completion printing race instance) c (posted_count plan lines printing race candidate)) (sym total) votes_bound

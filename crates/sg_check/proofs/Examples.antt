@@ -9,7 +9,7 @@ use Rattle.sg_grammar.specs.Placed.{Placed}
 use Rattle.sg_grammar.specs.Placed.Placed.{CodeAt, FlagsAt, PlacesAt, RowAt}
 use Rattle.sg_grammar.specs.declared.state.Block.TheVariants as block
 use Rattle.sg_check.specs.Completions.{Completion, altered_rows, is_altered, posted_half}
-use Rattle.sg_check.specs.Printings.{Printing, posted_codes}
+use Rattle.sg_check.specs.Printings.{Printing, posted_count}
 
 abbrev small : Plan
 small = record {
@@ -60,7 +60,7 @@ module _ (key : Key) where
   bare on race instance row = posted_half lines on race instance row
 
   -- the marked entry's code is posted for candidate 0
-  posted_example : posted_codes small lines paper 0 0 ≡ 1
+  posted_example : posted_count small lines paper 0 0 ≡ 1
   posted_example = refl
 
   -- no row of the honest completion is altered
@@ -105,7 +105,7 @@ module _ (key : Key) where
   misprinted_rows_example : altered_rows small lines honest turned 0 0 ≡ 1
   misprinted_rows_example = refl
 
-  misprinted_codes_example : posted_codes small lines turned 0 0 ≡ 0
+  misprinted_codes_example : posted_count small lines turned 0 0 ≡ 0
   misprinted_codes_example = refl
 
   -- with the posted halves alone each half-opened row is altered

@@ -8,7 +8,7 @@ use Rattle.sg_grammar.specs.Walk.{Posted, Walked, start, walk}
 use Rattle.sg_check.proofs.Finding.{find-or, find-same}
 use Rattle.sg_check.proofs.Late.{late-push}
 use Rattle.sg_check.specs.Judging.{bad_in, first_late, later_kinds}
-use Rattle.sg_check.specs.Kinds.{bad_seal, bytes_of, first_bad, is_bad, kinds}
+use Rattle.sg_check.specs.Kinds.{bad_seal, posted_bytes, first_bad, is_bad, kinds}
 use Rattle.sg_check.specs.Verdict.{breaks_walked, late, least_broken}
 use Rattle.sg_check.specs.declared.judged.Kind.{Kind}
 use Rattle.sg_check.specs.declared.judged.Kind.TheVariants as kind
@@ -41,9 +41,9 @@ first_late-push plan lines line e =
     ∙ find-or (λ k. late (is_bad k plan) [] lines) (λ k. is_bad k plan lines line) later_kinds e
 
 -- a bad seal breaks kind seal
-pub bad_in-seal : (plan : Plan) (before : List Posted) (line : Posted) → bad_seal (bytes_of before) line.line ≡ true → bad_in plan before line ≡ Some kind.Seal
+pub bad_in-seal : (plan : Plan) (before : List Posted) (line : Posted) → bad_seal (posted_bytes before) line.line ≡ true → bad_in plan before line ≡ Some kind.Seal
 bad_in-seal plan before line e = ap (λ (b : Bool). cond b (Some kind.Seal) (first_bad plan (placed_of before) line.line)) e
 
 -- a good seal, and a line that is none, break the first kind in which the line in its place is bad
-pub bad_in-placed : (plan : Plan) (before : List Posted) (line : Posted) → bad_seal (bytes_of before) line.line ≡ false → bad_in plan before line ≡ first_bad plan (placed_of before) line.line
+pub bad_in-placed : (plan : Plan) (before : List Posted) (line : Posted) → bad_seal (posted_bytes before) line.line ≡ false → bad_in plan before line ≡ first_bad plan (placed_of before) line.line
 bad_in-placed plan before line e = ap (λ (b : Bool). cond b (Some kind.Seal) (first_bad plan (placed_of before) line.line)) e

@@ -8,7 +8,7 @@ use Rattle.sg_grammar.specs.Placed.{Placed}
 use Rattle.sg_grammar.specs.Walk.{Walked, is_whole, start, walk}
 use Rattle.sg_check.specs.Completions.{Completion, IsCompletion, OpensNoneTwice, altered_rows}
 use Rattle.sg_check.specs.Facts.{is_full_draw}
-use Rattle.sg_check.specs.Printings.{AreCodesDifferent, IsPrinting, Printing, StandsWith, posted_codes}
+use Rattle.sg_check.specs.Printings.{AreCodesDifferent, IsPrinting, Printing, StandsWith, posted_count}
 use Rattle.sg_check.specs.Verdict.{breaks}
 use Rattle.sg_check.specs.declared.judged.Judged.{Judged}
 use Rattle.sg_check.specs.declared.judged.Judged.TheVariants as judged
@@ -29,7 +29,7 @@ AreTotalsBound plan lines totals =
     (printing : Printing) (completion : Completion)
     → AreCodesDifferent plan printing → StandsWith plan lines printing → OpensNoneTwice lines completion
     → (total : Total) (instance : ℕ) → Contains totals total → instance < plan.instances
-    → DifferByAtMost (altered_rows plan lines completion printing total.race instance) total.count (posted_codes plan lines printing total.race total.candidate)
+    → DifferByAtMost (altered_rows plan lines completion printing total.race instance) total.count (posted_count plan lines printing total.race total.candidate)
 
 -- there is a printing that stands with the record
 pub record HasPrinting (plan : Plan) (lines : List Placed) : Type 0 where
@@ -56,7 +56,7 @@ AreAllTotalled plan totals = (race candidate : ℕ) → race < length plan.races
 abbrev pub AreTotalsEqual : Plan → List Placed → List Total → Type 0
 AreTotalsEqual plan lines totals =
     (printing : Printing) → AreCodesDifferent plan printing → StandsWith plan lines printing
-    → (total : Total) → Contains totals total → total.count ≡ posted_codes plan lines printing total.race total.candidate
+    → (total : Total) → Contains totals total → total.count ≡ posted_count plan lines printing total.race total.candidate
 
 -- what a yes with these totals promises of the lines
 pub record IsSound (lines : List (List ℕ)) (totals : List Total) : Type 0 where

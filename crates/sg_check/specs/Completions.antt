@@ -14,7 +14,7 @@ use Rattle.sg_plan.specs.declared.plan.Side.{Side}
 use Rattle.sg_plan.specs.declared.plan.Side.TheVariants as side
 use Rattle.sg_grammar.specs.Placed.{Placed}
 use Rattle.sg_grammar.specs.Placed.Placed.{RowAt}
-use Rattle.sg_check.specs.Facts.{first_given, is_flagged, is_marked, is_set, left_commitment, left_of, points_to, right_commitment, right_of}
+use Rattle.sg_check.specs.Facts.{first_given, is_flagged, is_marked, is_set, left_commitment, opened_left, points_to, right_commitment, opened_right}
 use Rattle.sg_check.specs.Kinds.{differ, opens_digest}
 use Rattle.sg_check.specs.Printings.{Printing, count_below, marked_code}
 
@@ -22,8 +22,8 @@ use Rattle.sg_check.specs.Printings.{Printing, count_below, marked_code}
 
 -- the opening of a half on its row's line
 abbrev pub opened_on : Side → RowOpening → Option Opening
-opened_on side.Left opening = left_of opening
-opened_on side.Right opening = right_of opening
+opened_on side.Left opening = opened_left opening
+opened_on side.Right opening = opened_right opening
 
 -- the line posts this half
 abbrev pub posts_half : Side → ℕ → ℕ → ℕ → Placed → Option Opening

@@ -7,7 +7,7 @@ use Rattle.sg_commit.specs.declared.CommitKind.TheVariants as commit
 use Rattle.sg_commit.specs.declared.Digest.{Digest}
 use Rattle.sg_commit.specs.declared.Key.{Key}
 use Rattle.sg_commit.specs.declared.Opening.{Opening}
-use Rattle.sg_forms.specs.Reading.{public_bytes as bytes_of_digits}
+use Rattle.sg_forms.specs.Reading.{bytes_of_digits}
 use Rattle.sg_forms.specs.declared.line.RowOpening.TheVariants as opened
 use Rattle.sg_plan.specs.declared.plan.ClaimWord.{ClaimWord}
 use Rattle.sg_plan.specs.declared.plan.ClaimWord.TheVariants as answer

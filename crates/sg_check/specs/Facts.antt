@@ -5,7 +5,7 @@ use Rattle.std.specs.List.{list_any}
 use Rattle.std.specs.Option.{option_map, option_map_or}
 use Rattle.sg_commit.specs.declared.Digest.{Digest}
 use Rattle.sg_commit.specs.declared.Opening.{Opening}
-use Rattle.sg_forms.specs.Reading.{public_bytes as bytes_of_digits}
+use Rattle.sg_forms.specs.Reading.{bytes_of_digits}
 use Rattle.sg_forms.specs.declared.line.RowOpening.{RowOpening}
 use Rattle.sg_forms.specs.declared.line.RowOpening.TheVariants as row
 use Rattle.sg_plan.specs.Ballots.{ballot_row, candidates_of, entry_at}
@@ -142,15 +142,15 @@ votes_for plan race candidate lines = sum_by (votes_on plan race candidate) line
 -- ROWS
 
 -- the pointer that is opened on a side
-abbrev pub left_of : RowOpening → Option Opening
-left_of (row.Left opening) = Some opening
-left_of (row.Right opening) = None
-left_of (row.Both left right) = Some left
+abbrev pub opened_left : RowOpening → Option Opening
+opened_left (row.Left opening) = Some opening
+opened_left (row.Right opening) = None
+opened_left (row.Both left right) = Some left
 
-abbrev pub right_of : RowOpening → Option Opening
-right_of (row.Left opening) = None
-right_of (row.Right opening) = Some opening
-right_of (row.Both left right) = Some right
+abbrev pub opened_right : RowOpening → Option Opening
+opened_right (row.Left opening) = None
+opened_right (row.Right opening) = Some opening
+opened_right (row.Both left right) = Some right
 
 -- the opening is of this pointer
 abbrev pub points_to : ℕ → Option Opening → Bool
@@ -158,12 +158,12 @@ points_to pointer opening = option_map_or (λ o. o.value == pointer) opening fal
 
 -- the line is a row of the instance that opens this left pointer
 abbrev pub opens_left : ℕ → ℕ → ℕ → Placed → Bool
-opens_left race instance pointer (RowAt of within number opening) = (of == race && within == instance) && points_to pointer (left_of opening)
+opens_left race instance pointer (RowAt of within number opening) = (of == race && within == instance) && points_to pointer (opened_left opening)
 opens_left race instance pointer line = false
 
 -- the line is a row of the instance that opens this right pointer
 abbrev pub opens_right : ℕ → ℕ → ℕ → Placed → Bool
-opens_right race instance pointer (RowAt of within number opening) = (of == race && within == instance) && points_to pointer (right_of opening)
+opens_right race instance pointer (RowAt of within number opening) = (of == race && within == instance) && points_to pointer (opened_right opening)
 opens_right race instance pointer line = false
 
 abbrev pub is_both : RowOpening → Bool
@@ -202,13 +202,13 @@ public_bytes lines = option_map bytes_of_digits (first_given draws_digits lines)
 -- DISPUTES
 
 -- a claim that is under dispute: the code that is claimed, the office's answer, and the lines behind that one
-pub record Claim : Type 0 where
+pub record DisputedCode : Type 0 where
   pub code : ℕ
   pub answer : ClaimWord
   pub behind : List Placed
 
 -- the last of the claims
-abbrev pub last_claim : List Placed → Option Claim
+abbrev pub last_claim : List Placed → Option DisputedCode
 last_claim [] = None
 last_claim (Disputed ballot race code word ∷ lines) = option_map_or Some (last_claim lines) (Some (record { code = code; answer = word; behind = lines }))
 last_claim (line ∷ lines) = last_claim lines

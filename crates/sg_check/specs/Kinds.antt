@@ -23,14 +23,14 @@ use Rattle.sg_grammar.specs.Lines.{is_cast, is_dispute, placed_of}
 use Rattle.sg_grammar.specs.Placed.{Placed}
 use Rattle.sg_grammar.specs.Placed.Placed.{CodeAt, OverAt, PaperAt, SealAt, TotalAt, RowAt}
 use Rattle.sg_grammar.specs.Walk.{Posted}
-use Rattle.sg_check.specs.Facts.{Claim, code_commitment, left_commitment, right_commitment, is_marked, marks_ballot, marks_code, audited_code, audited_entries, is_audited, paper_code, is_flagged, is_set, votes_for, left_of, right_of, opens_left, opens_right, is_both, both_rows, is_full_draw, public_bytes, last_claim, shows_disputed}
+use Rattle.sg_check.specs.Facts.{DisputedCode, code_commitment, left_commitment, right_commitment, is_marked, marks_ballot, marks_code, audited_code, audited_entries, is_audited, paper_code, is_flagged, is_set, votes_for, opened_left, opened_right, opens_left, opens_right, is_both, both_rows, is_full_draw, public_bytes, last_claim, shows_disputed}
 use Rattle.sg_check.specs.declared.judged.Kind.{Kind}
 use Rattle.sg_check.specs.declared.judged.Kind.TheVariants as kind
 
 -- the bytes of the lines, one after another
-abbrev pub bytes_of : List Posted → List ℕ
-bytes_of [] = []
-bytes_of (line ∷ lines) = line.bytes ++ bytes_of lines
+abbrev pub posted_bytes : List Posted → List ℕ
+posted_bytes [] = []
+posted_bytes (line ∷ lines) = line.bytes ++ posted_bytes lines
 
 -- one is true, and the other is not
 abbrev pub differ : Bool → Bool → Bool
@@ -59,7 +59,7 @@ bad_pointer_opening digest kind race instance number opening = option_map_or (λ
 
 abbrev pub bad_opening : Plan → List Placed → Placed → Bool
 bad_opening plan before (CodeAt block ballot race column code) = not (opens_digest (code_commitment race (entry_at plan race ballot column) before) commit.Q race 0 (entry_at plan race ballot column) (code_opening code))
-bad_opening plan before (RowAt race instance number opening) = bad_pointer_opening (left_commitment race instance number before) commit.L race instance number (left_of opening) || bad_pointer_opening (right_commitment race instance number before) commit.R race instance number (right_of opening)
+bad_opening plan before (RowAt race instance number opening) = bad_pointer_opening (left_commitment race instance number before) commit.L race instance number (opened_left opening) || bad_pointer_opening (right_commitment race instance number before) commit.R race instance number (opened_right opening)
 bad_opening plan before line = false
 
 -- SIDE: where all is drawn, both sides of a row are opened; where public bytes are, both sides or the coin's
@@ -90,7 +90,7 @@ abbrev pub bad_right_pointer : Plan → List Placed → ℕ → ℕ → Option O
 bad_right_pointer plan before race instance opening = option_map_or (λ o. nat_le (entries_of plan race) o.value || list_any (opens_right race instance o.value) before) opening false
 
 abbrev pub bad_pointer : Plan → List Placed → Placed → Bool
-bad_pointer plan before (RowAt race instance number opening) = bad_left_pointer plan before race instance (left_of opening) || bad_right_pointer plan before race instance (right_of opening)
+bad_pointer plan before (RowAt race instance number opening) = bad_left_pointer plan before race instance (opened_left opening) || bad_right_pointer plan before race instance (opened_right opening)
 bad_pointer plan before line = false
 
 -- FLAG: a row is flagged exactly where its left pointer's entry is marked, and exactly where its right pointer's
@@ -103,7 +103,7 @@ abbrev pub wrong_right_flag : Plan → List Placed → ℕ → Bool → Option O
 wrong_right_flag plan before race flag opening = option_map_or (λ o. nat_lt o.value (entries_of plan race) && differ flag (is_set race o.value before)) opening false
 
 abbrev pub bad_flag : Plan → List Placed → Placed → Bool
-bad_flag plan before (RowAt race instance number opening) = wrong_left_flag plan before race (is_flagged race instance number before) (left_of opening) || wrong_right_flag plan before race (is_flagged race instance number before) (right_of opening)
+bad_flag plan before (RowAt race instance number opening) = wrong_left_flag plan before race (is_flagged race instance number before) (opened_left opening) || wrong_right_flag plan before race (is_flagged race instance number before) (opened_right opening)
 bad_flag plan before line = false
 
 -- PATH: in all instances an entry has one place, and different entries of a ballot lead to different candidates
@@ -198,7 +198,7 @@ is_right answer.Unposted marked shown = not marked && shown
 is_right answer.Absent marked shown = not marked && not shown
 
 -- the answer is wrong, where this code is the last that the block shows
-abbrev pub wrong_answer : List Placed → ℕ → ℕ → ℕ → Claim → Bool
+abbrev pub wrong_answer : List Placed → ℕ → ℕ → ℕ → DisputedCode → Bool
 wrong_answer before ballot race last claim = not (is_right claim.answer (list_any (marks_code ballot race claim.code) before) (list_any (shows_disputed claim.code) claim.behind || last == claim.code))
 
 abbrev pub bad_dispute : Plan → List Placed → Placed → Bool
@@ -223,7 +223,7 @@ bad_placed kind.Dispute plan before line = bad_dispute plan before line
 
 -- the same of lines with their bytes
 abbrev pub is_bad : Kind → Plan → List Posted → Posted → Bool
-is_bad kind.Seal plan before line = bad_seal (bytes_of before) line.line
+is_bad kind.Seal plan before line = bad_seal (posted_bytes before) line.line
 is_bad k plan before line = bad_placed k plan (placed_of before) line.line
 
 -- all kinds, in their order

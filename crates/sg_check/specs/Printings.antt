@@ -62,5 +62,5 @@ is_posted_for plan lines printing race candidate entry =
     option_map_or (λ code. printing race (entry / candidates_of plan race) candidate == code) (marked_code plan race entry lines) false
 
 -- the count of posted codes: how many of the race's marked entries have a code that is printed beside the candidate
-abbrev pub posted_codes : Plan → List Placed → Printing → ℕ → ℕ → ℕ
-posted_codes plan lines printing race candidate = count_below (is_posted_for plan lines printing race candidate) (entries_of plan race)
+abbrev pub posted_count : Plan → List Placed → Printing → ℕ → ℕ → ℕ
+posted_count plan lines printing race candidate = count_below (is_posted_for plan lines printing race candidate) (entries_of plan race)

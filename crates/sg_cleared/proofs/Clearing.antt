@@ -1,5 +1,5 @@
 -- What is due of the lines that an office hands to a court: no altered row, even sums, and exponents of 0.
-use Rattle.std.proofs.Common.{◌≡◌, ℕ, ◌-◌, ◌<◌, Bool, true, cond, inl, inr, List, [], ◌∷◌, codes, length, None, refl, sym, subst, ap, ◌∙◌}
+use Rattle.std.proofs.Common.{◌≡◌, ℕ, ◌<◌, Bool, true, cond, inl, inr, List, [], ◌∷◌, codes, length, None, refl, sym, subst, ap, ◌∙◌}
 use Rattle.std.proofs.lemmas.Bool.{true≢false}
 use Rattle.std.specs.List.{list_all}
 use Rattle.sg_outside.specs.declared.outcome.Outcome.{Outcome}

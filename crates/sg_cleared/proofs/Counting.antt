@@ -17,9 +17,9 @@ use Rattle.sg_grammar.specs.Placed.{Placed}
 use Rattle.sg_record.specs.Places.{places_in}
 use Rattle.sg_check.proofs.Bounding.{marked_is as code_there}
 use Rattle.sg_check.proofs.Counting.{count-same}
-use Rattle.sg_check.specs.Printings.{Printing, count_below, is_posted_for, marked_code, posted_codes}
+use Rattle.sg_check.specs.Printings.{Printing, count_below, is_posted_for, marked_code, posted_count}
 use Rattle.sg_post.specs.Fits.{claim_fits, fates_fit}
-use Rattle.sg_post.specs.Marks.{is_marked, total_of}
+use Rattle.sg_post.specs.Marks.{is_entry_marked, total_of}
 use Rattle.sg_post.specs.Posted.{posted_record}
 use Rattle.sg_post.specs.declared.story.Claimed.{Claimed}
 use Rattle.sg_post.specs.declared.story.Told.{Told}
@@ -43,7 +43,7 @@ moved_counts test f count moves =
 
 -- a marked entry that leads to a place of the candidate
 abbrev pub leads_to : Plan → List ℕ → List Told → ℕ → ℕ → ℕ → Bool
-leads_to plan seed fates race candidate entry = path_of plan seed race entry % candidates_of plan race == candidate && is_marked plan seed fates race entry
+leads_to plan seed fates race candidate entry = path_of plan seed race entry % candidates_of plan race == candidate && is_entry_marked plan seed fates race entry
 
 pub total_counts : (plan : Plan) (seed : List ℕ) (fates : List Told) (race candidate : ℕ) → total_of plan seed fates race candidate ≡ count_below (leads_to plan seed fates race candidate) (entries_of plan race)
 total_counts plan seed fates race candidate = totals_count_marks plan seed fates race candidate ∙ below_counts (leads_to plan seed fates race candidate) (entries_of plan race)
@@ -71,17 +71,17 @@ module _ (plan : Plan) (seed : List ℕ) (fates : List Told) (draw : Draw) (clai
       at : ℕ
       at = entry / candidates_of plan race
 
-      mark : is_some (marked_code plan race entry lines) ≡ is_marked plan seed fates race entry
+      mark : is_some (marked_code plan race entry lines) ≡ is_entry_marked plan seed fates race entry
       mark = code_there plan race entry lines ∙ marked_is plan seed fates draw claims fine fit race entry in_race
 
       by_code : (o : Option ℕ) → marked_code plan race entry lines ≡ o
-          → option_map_or (λ code. printing race at candidate == code) (marked_code plan race entry lines) false ≡ (path_of plan seed race entry % candidates_of plan race == candidate && is_marked plan seed fates race entry)
+          → option_map_or (λ code. printing race at candidate == code) (marked_code plan race entry lines) false ≡ (path_of plan seed race entry % candidates_of plan race == candidate && is_entry_marked plan seed fates race entry)
       by_code None e =
-          let unmarked : is_marked plan seed fates race entry ≡ false = sym mark ∙ ap is_some e in
+          let unmarked : is_entry_marked plan seed fates race entry ≡ false = sym mark ∙ ap is_some e in
           ap (λ (o : Option ℕ). option_map_or (λ code. printing race at candidate == code) o false) e
           ∙ sym (ap (λ (b : Bool). path_of plan seed race entry % candidates_of plan race == candidate && b) unmarked ∙ and-false (path_of plan seed race entry % candidates_of plan race == candidate))
       by_code (Some shown) e =
-          let marked : is_marked plan seed fates race entry ≡ true = sym mark ∙ ap is_some e in
+          let marked : is_entry_marked plan seed fates race entry ≡ true = sym mark ∙ ap is_some e in
           let leads = entry_leads plan seed race entry below in
           let code : shown ≡ code_beside plan seed race at (shown_by plan seed race entry) = mark_is plan seed fates draw claims fine fit claimed race entry shown e ∙ code_laws.beside plan seed race entry in
           let printed : printing race at candidate ≡ code_beside plan seed race at candidate = prints race at candidate in_race (entry_row plan race entry below) low in
@@ -93,7 +93,7 @@ module _ (plan : Plan) (seed : List ℕ) (fates : List Told) (draw : Draw) (clai
           ∙ sym (ap (λ (b : Bool). path_of plan seed race entry % candidates_of plan race == candidate && b) marked ∙ and-true (path_of plan seed race entry % candidates_of plan race == candidate))))))
 
   -- the count of posted codes is the total
-  pub count_is : (race candidate : ℕ) → race < length plan.races → candidate < candidates_of plan race → posted_codes plan lines printing race candidate ≡ total_of plan seed fates race candidate
+  pub count_is : (race candidate : ℕ) → race < length plan.races → candidate < candidates_of plan race → posted_count plan lines printing race candidate ≡ total_of plan seed fates race candidate
   count_is race candidate in_race low =
       count-same (is_posted_for plan lines printing race candidate) (leads_to plan seed fates race candidate) (entries_of plan race) (λ entry below. counts_alike race candidate entry in_race low below)
       ∙ sym (total_counts plan seed fates race candidate)

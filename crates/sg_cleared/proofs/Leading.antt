@@ -21,7 +21,7 @@ use Rattle.sg_check.specs.Completions.{Completion, IsHalfOf, any_below}
 use Rattle.sg_check.specs.Facts.{is_marked as posted_marked, points_to}
 use Rattle.sg_facts.specs.Totals.{total_of as posted_total}
 use Rattle.sg_post.specs.Fits.{claim_fits, fates_fit}
-use Rattle.sg_post.specs.Marks.{is_marked, total_of}
+use Rattle.sg_post.specs.Marks.{is_entry_marked, total_of}
 use Rattle.sg_post.specs.Posted.{posted_record}
 use Rattle.sg_post.specs.declared.story.Claimed.{Claimed}
 use Rattle.sg_post.specs.declared.story.Told.{Told}
@@ -72,7 +72,7 @@ module _ (plan : Plan) (seed : List ℕ) (fates : List Told) (draw : Draw) (clai
       ap (λ e. posted_marked plan race e lines && (half_of completion side.Right race instance number).value % candidates_of plan race == candidate) left
       ∙ (ap (λ s. posted_marked plan race entry lines && s % candidates_of plan race == candidate) right
       ∙ (ap (λ (b : Bool). b && path_of plan seed race entry % candidates_of plan race == candidate) (marked_is plan seed fates draw claims fine fit race entry within.0)
-      ∙ and_comm (is_marked plan seed fates race entry) (path_of plan seed race entry % candidates_of plan race == candidate)))
+      ∙ and_comm (is_entry_marked plan seed fates race entry) (path_of plan seed race entry % candidates_of plan race == candidate)))
 
   -- as many as the total says
   pub led_is : (race instance candidate : ℕ) → race < length plan.races → instance < plan.instances → led plan lines completion race instance candidate ≡ total_of plan seed fates race candidate

@@ -5,6 +5,7 @@ pub mod Counting
 pub mod Handed
 pub mod Leading
 pub mod Posted
+pub mod Rows
 pub mod Shapes
 pub mod SheetTexts
 pub mod Splitting

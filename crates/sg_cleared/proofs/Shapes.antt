@@ -9,10 +9,9 @@ use Rattle.sg_plan.specs.Ballots.{entries_of}
 use Rattle.sg_plan.specs.declared.plan.Plan.{Plan}
 use Rattle.sg_record.specs.Formed.{each_passes, has_rows}
 use Rattle.sg_post.proofs.Each.{EachOf, of-append}
-use Rattle.sg_parts.proofs.RowLines.{all_long}
-use Rattle.sg_parts.proofs.Wholes.{joined_both}
+use Rattle.sg_parts.proofs.Cuts.{all_long, joined_both}
 use Rattle.sg_parts.specs.Given.{joined}
-use Rattle.sg_reports.proofs.Courts.Given.{head_same, tail_same}
+use Rattle.sg_cleared.proofs.Rows.{head_same, tail_same}
 
 -- ONE AFTER ANOTHER
 

@@ -28,8 +28,7 @@ use Rattle.sg_sheet.specs.declared.due.Due.{Due}
 use Rattle.sg_sheet.specs.declared.due.Due.TheVariants as line
 use Rattle.sg_post.proofs.Each.{EachOf, of-append}
 use Rattle.sg_cleared.proofs.Shapes.{fronts_are_same}
-use Rattle.sg_reports.proofs.Courts.Given.{head_same, tail_same}
-use Rattle.sg_reports.proofs.Courts.Lines.{AreBelow, styles_below}
+use Rattle.sg_cleared.proofs.Rows.{AreBelow, head_same, styles_below, tail_same}
 
 -- BYTES WITHOUT A LINE FEED
 

@@ -51,7 +51,7 @@ use Rattle.sg_parts.specs.Given.{AreOpenings, ArePrinted, Given, IsGiven, IsHalf
 use Rattle.sg_parts.specs.declared.parts.RecountFault.{RecountFault}
 use Rattle.sg_parts.specs.declared.parts.RecountFault.TheVariants as fault
 use Rattle.sg_parts.specs.declared.parts.RowGiven.{RowGiven}
-use Rattle.sg_reports.proofs.Courts.Given.{rows_few, tail_same}
+use Rattle.sg_cleared.proofs.Rows.{rows_few, tail_same}
 use Rattle.sg_cleared.proofs.Handed.{IsOffice, both_given, codes_are, handed_lines, office_has, office_rows, office_rows_given, opening_in, rows_are, rows_office, sheet, tables_of_version}
 use Rattle.sg_cleared.proofs.Posted.{both_are, code_is, half_opens, half_posted}
 use Rattle.sg_cleared.proofs.Shapes.{each_at, each_joined, images_same, rows_same}

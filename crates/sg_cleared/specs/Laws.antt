@@ -24,7 +24,8 @@ use Rattle.sg_parts.specs.Given.{printing_line}
 use Rattle.sg_recount.specs.declared.findings.Findings.{Findings}
 use Rattle.sg_recount.specs.declared.findings.Sum.{Sum}
 use Rattle.sg_driver.specs.Says.{ReadFails}
-use Rattle.sg_reports.specs.court.Heard.{TookUnsettled}
+use Rattle.sg_driver.specs.Taken.{TookUnended}
+use Rattle.sg_reports.specs.court.Heard.{IsUnsettled}
 use Rattle.sg_reports.specs.court.Odds.{OddsDue}
 use Rattle.sg_reports.specs.court.Recounts.{RecountDue, findings_text}
 use Rattle.sg_reports.specs.court.Says.{OddsSays, RecountSays}
@@ -73,7 +74,7 @@ pub record IsDueAlone (Due : List (List ℕ) → Outcome → List ℕ → Type 0
 -- was: there is no other end
 abbrev pub Clears : List ℕ → Outcome → Seen → Seen → Seen → Seen → Type 0
 Clears clear Done input input' out out' = Appends out.bytes out'.bytes clear
-Clears clear ReadFailed input input' out out' = ReadFails TookUnsettled input input' out out'
+Clears clear ReadFailed input input' out out' = ReadFails (TookUnended IsUnsettled) input input' out out'
 Clears clear WriteFailed input input' out out' = Rose out.faults out'.faults × AppendsFront out.bytes out'.bytes clear
 Clears clear NoMemory input input' out out' = out' ≡ out
 Clears clear _ input input' out out' = ⊥

@@ -5,7 +5,7 @@ use Rattle.sg_grammar.specs.Lines.{placed_of}
 use Rattle.sg_check.specs.declared.judged.Total.{Total}
 use Rattle.sg_check.specs.Bounds.{DifferByAtMost}
 use Rattle.sg_check.specs.Completions.{Completion, OpensNoneTwice, altered_rows}
-use Rattle.sg_check.specs.Printings.{AreCodesDifferent, Printing, StandsWith, posted_codes}
+use Rattle.sg_check.specs.Printings.{AreCodesDifferent, Printing, StandsWith, posted_count}
 use Rattle.sg_county.specs.County.{IsCounty, parts_of}
 use Rattle.sg_county.specs.declared.verdict.CountyVerdict.TheVariants.{Yes}
 
@@ -34,7 +34,7 @@ abbrev pub altered_in : ℕ → Seen → ℕ
 altered_in race seen = altered_rows seen.walked.next.plan (placed_of seen.walked.posted) seen.completion seen.printing race seen.instance
 
 abbrev pub posted_in : ℕ → ℕ → Seen → ℕ
-posted_in race candidate seen = posted_codes seen.walked.next.plan (placed_of seen.walked.posted) seen.printing race candidate
+posted_in race candidate seen = posted_count seen.walked.next.plan (placed_of seen.walked.posted) seen.printing race candidate
 
 -- each sum differs from the sum of the parts' counts by at most the sum of the altered rows of its race
 abbrev pub AreSumsBound : List Total → List Seen → Type 0

@@ -1,5 +1,5 @@
 -- Where a judge that was fed lines stops, by the last answer of the cutter.
-use Rattle.std.proofs.Common.{◌≡◌, ℕ, ◌+◌, ◌<◌, ◌≤◌, inl, inr, List, [], ◌∷◌, ◌++◌, length, sym, subst, ap, ◌∙◌, append_assoc, append-nil, length-append, arith}
+use Rattle.std.proofs.Common.{◌≡◌, ℕ, ◌+◌, ◌*◌, ◌<◌, ◌≤◌, inl, inr, List, [], ◌∷◌, ◌++◌, length, refl, sym, subst, ap, ◌∙◌, append_assoc, append-nil, length-append, arith}
 use Rattle.std.specs.Prelude.{◌⊎◌, Option, Some}
 use Rattle.std.specs.List.{concat}
 use Rattle.std.specs.Io.KnownBytes.{Consumes, IsAtEnd}
@@ -15,10 +15,14 @@ use Rattle.sg_driver.specs.declared.hearing.Stop.{Stop}
 use Rattle.sg_driver.specs.declared.hearing.Stop.TheVariants as stop
 use Rattle.sg_driver.proofs.Cut.{concat-push, end-cut, few-behind, few-of_all, line-cut, line-some, open-cut, some_then}
 
+-- one more short line
+short-push : (done : List (List ℕ)) (line : List ℕ) → length (concat done) ≤ length done * 16384 → length line ≤ 16384 → length (concat (done ++ line ∷ [])) ≤ length (done ++ line ∷ []) * 16384
+short-push done line short few = omega (arith, short, few, ap length (concat-push done line), length-append (concat done) line, length-append done (line ∷ []))
+
 -- a refusal took little
 refused-read : {Answer : Type 0} (judging : Judging Answer) (answer : Answer) (before now : Option (List ℕ)) → judging.Refuses answer
     → TookOneMore judging.Unsettled before now → HasRead judging answer before now
-refused-read judging answer before now refuses took = record { refused = λ _. took; ended = λ other. absurd (other refuses) }
+refused-read judging answer before now refuses took = record { took = took; ended = λ other. absurd (other refuses) }
 
 module _ {Answer : Type 0} (judging : Judging Answer) (Stands : List (List ℕ) → Type 0) (old new : Cutting) (first before now : Seen) (fed : IsFed judging Stands old first before) where
   -- lines were taken, the text of the answer, and what is held behind it
@@ -35,6 +39,7 @@ module _ {Answer : Type 0} (judging : Judging Answer) (Stands : List (List ℕ) 
     rest = text ++ new.ahead;
     lines = fed.are_lines;
     are = are;
+    short = fed.short;
     few = omega (arith, few, length-append text new.ahead);
     taken = subst (λ (bytes : List ℕ). Consumes first.bytes now.bytes bytes) (append_assoc (concat fed.done) text new.ahead) (taken-in_all text cut);
   }
@@ -48,6 +53,7 @@ module _ {Answer : Type 0} (judging : Judging Answer) (Stands : List (List ℕ) 
     stands = stands;
     unsettled = unsettled;
     are_lines = AreLines-append fed.done (new.text ∷ []) fed.are_lines (line.is_line, tt);
+    short = short-push fed.done new.text fed.short (omega (arith, line.few, line.limit, fed.limit));
     taken = subst (λ (bytes : List ℕ). Consumes first.bytes (to_come new now.bytes) bytes) (sym (concat-push fed.done new.text))
         (Consumes-trans first.bytes (to_come old before.bytes) (to_come new now.bytes) (concat fed.done) new.text fed.taken line.cut);
     goes_on = line.goes_on;
@@ -65,10 +71,13 @@ module _ {Answer : Type 0} (judging : Judging Answer) (Stands : List (List ℕ) 
       record {
         done = fed.done ++ new.text ∷ [];
         settled = settled;
-        heard = λ answer is refuses. (
-          some_then first.bytes cut
-              (λ bytes has. subst (λ (lines : List (List ℕ)). judging.IsAnswer lines answer) (append_assoc fed.done (new.text ∷ []) has.0 ∙ sym has.1) (is has.0)),
-          refused-read judging answer first.bytes now.bytes refuses
+        heard = λ answer is refuses. record {
+          lines = (fed.done ++ new.text ∷ []) ++ [];
+          are = is [];
+          answers =
+              some_then first.bytes cut
+              (λ bytes has. subst (λ (lines : List (List ℕ)). judging.IsAnswer lines answer) (append_assoc fed.done (new.text ∷ []) has.0 ∙ sym has.1) (is has.0));
+          read = refused-read judging answer first.bytes now.bytes refuses
               (record {
                 took = took-lines judging.Unsettled new.text fed.unsettled line.cut few;
                 up_to = record {
@@ -76,8 +85,8 @@ module _ {Answer : Type 0} (judging : Judging Answer) (Stands : List (List ℕ) 
                   taken = taken-in_all new.text line.cut;
                   few = some_then first.bytes cut (λ bytes has. few-behind bytes fed.done new.text new.text new.ahead has (omega arith) (omega (arith, few, some)));
                 };
-              }),
-        );
+              });
+        };
       }
 
   -- memory was wanted at it
@@ -104,9 +113,12 @@ module _ {Answer : Type 0} (judging : Judging Answer) (Stands : List (List ℕ) 
       record {
         done = fed.done;
         stands = fed.stands;
-        heard = λ answer is refuses. (
-          some_then first.bytes cut (λ bytes has. subst (λ (lines : List (List ℕ)). judging.IsAnswer lines answer) (sym has.has.1) (is has.has.0 has.line has.is_none)),
-          refused-read judging answer first.bytes now.bytes refuses
+        wanted = λ wants. took-lines judging.Wants new.text wants none.cut few;
+        heard = λ answer is refuses. record {
+          lines = fed.done ++ new.text ∷ [];
+          are = is [] new.text (record { front = new.text; more = []; whole = sym (append-nil new.text); unended = none.unended; ends = inl refl });
+          answers = some_then first.bytes cut (λ bytes has. subst (λ (lines : List (List ℕ)). judging.IsAnswer lines answer) (sym has.has.1) (is has.has.0 has.line has.is_none));
+          read = refused-read judging answer first.bytes now.bytes refuses
               (record {
                 took = took-lines judging.Unsettled new.text fed.unsettled none.cut few;
                 up_to = record {
@@ -114,8 +126,8 @@ module _ {Answer : Type 0} (judging : Judging Answer) (Stands : List (List ℕ) 
                   taken = taken-in_all new.text none.cut;
                   few = some_then first.bytes cut (λ bytes has. few-behind bytes fed.done has.line new.text new.ahead has.has has.front (omega (arith, few, ends.0)));
                 };
-              }),
-        );
+              });
+        };
       }
 
   stop-end : CutsEnd old new before now → AtEnd judging Stands first now
@@ -125,10 +137,13 @@ module _ {Answer : Type 0} (judging : Judging Answer) (Stands : List (List ℕ) 
       record {
         done = fed.done;
         stands = fed.stands;
-        heard = λ answer is. (
-          some_then first.bytes cut (λ bytes has. subst (λ (lines : List (List ℕ)). judging.IsAnswer lines answer) (sym has) is),
-          record {
-            refused = λ _. record {
+        wanted = λ wants. took-lines judging.Wants [] wants end.cut (omega (arith, ap length end.no_more));
+        heard = λ answer is. record {
+          lines = fed.done;
+          are = is;
+          answers = some_then first.bytes cut (λ bytes has. subst (λ (lines : List (List ℕ)). judging.IsAnswer lines answer) (sym has) is);
+          read = record {
+            took = record {
               took = took-lines judging.Unsettled [] fed.unsettled end.cut (omega (arith, ap length end.no_more));
               up_to = record {
                 front = (concat fed.done ++ []) ++ new.ahead;
@@ -137,8 +152,8 @@ module _ {Answer : Type 0} (judging : Judging Answer) (Stands : List (List ℕ) 
               };
             };
             ended = λ _. end.ended;
-          },
-        );
+          };
+        };
       }
 
   stop-fault : CutsFault old new before now → TookUnended judging.Unsettled first.bytes now.bytes
@@ -147,6 +162,7 @@ module _ {Answer : Type 0} (judging : Judging Answer) (Stands : List (List ℕ) 
     rest = new.ahead;
     lines = fed.are_lines;
     are = fed.unsettled;
+    short = fed.short;
     unended = fault.unended;
     few = omega (arith, fault.few, fault.limit, fed.limit);
     taken = subst (λ (bytes : List ℕ). Consumes first.bytes now.bytes bytes) (ap (λ l. l ++ new.ahead) (append-nil (concat fed.done))) (taken-in_all [] fault.cut);

@@ -1,12 +1,12 @@
 -- How such a command ends.
 use Rattle.std.proofs.Common.{◌≡◌, inl, inr, refl, sym, subst, ap, ◌∙◌, arith}
-use Rattle.std.specs.Prelude.{◌⊎◌, ℕ, List}
+use Rattle.std.specs.Prelude.{◌⊎◌, ℕ, List, Option}
 use Rattle.sg_outside.specs.Outcomes.{status_of}
 use Rattle.sg_outside.specs.Streams.{Seen}
 use Rattle.sg_outside.specs.declared.outcome.Outcome.{Outcome}
-use Rattle.sg_outside.specs.declared.outcome.Outcome.TheVariants.{Done, No, ReadFailed, Refused, NoMemory}
+use Rattle.sg_outside.specs.declared.outcome.Outcome.TheVariants.{Done, No, ReadFailed, Refused, WriteFailed, NoMemory}
 use Rattle.sg_driver.specs.Judging.{IsOfAnswer, Judging}
-use Rattle.sg_driver.specs.Says.{Ends, HasRead, IsDue, Owing, Says, Shows, Taking, WriteFails, Writes}
+use Rattle.sg_driver.specs.Says.{Ends, IsDue, Owing, Says, Shows, Taking, WriteFails, Writes}
 use Rattle.sg_driver.specs.Taken.{TookLines, TookUnended}
 use Rattle.sg_driver.specs.inside.Stopping.{IsHeard}
 
@@ -38,5 +38,28 @@ module _ (Due : Owing) (Fails Wants : Taking) (input input' out out' : Seen) whe
 pub says_told : {A : Type 0} (judging : Judging A) (answer : A) (outcome : Outcome) (input input' out out' : Seen) → IsOfAnswer (judging.outcome answer) → IsHeard judging answer input input'
     → Writes (judging.outcome answer) (judging.report answer) outcome out out' → Says judging outcome input input' out out'
 says_told judging answer outcome input input' out out' is heard writes =
-    writes_end (IsDue judging (HasRead judging)) (TookUnended judging.Unsettled) (TookLines judging.Wants) input input' out out' (judging.outcome answer) (judging.report answer) outcome
-    (record { answer = answer; outcome_is = refl; text_is = refl; answers = heard.0; read = heard.1 }) is writes
+    writes_end (IsDue judging) (TookUnended judging.Unsettled) (TookLines judging.Wants) input input' out out' (judging.outcome answer) (judging.report answer) outcome
+    (record { answer = answer; outcome_is = refl; text_is = refl; lines = heard.lines; are = heard.are; answers = heard.answers; read = heard.read }) is writes
+
+-- what follows from what is due is due
+pub ends_due : (Due Due' : Owing) (Fails Wants : Taking) → ((outcome : Outcome) (text : List ℕ) (before now : Option (List ℕ)) → Due outcome text before now → Due' outcome text before now)
+    → (outcome : Outcome) (input input' out out' : Seen) → Ends Due Fails Wants outcome input input' out out' → Ends Due' Fails Wants outcome input input' out out'
+ends_due Due Due' Fails Wants then outcome input input' out out' says = by_outcome outcome says
+  where
+    shown : (o : Outcome) → Shows Due o input input' out out' → Shows Due' o input input' out out'
+    shown o said = record { text = said.text; due = then o said.text input.bytes input'.bytes said.due; written = said.written }
+
+    by_outcome : (o : Outcome) → Ends Due Fails Wants o input input' out out' → Ends Due' Fails Wants o input input' out out'
+    by_outcome Done said = shown Done said
+    by_outcome No said = shown No said
+    by_outcome Refused said = shown Refused said
+    by_outcome ReadFailed said = said
+    by_outcome WriteFailed said = record {
+      cause = said.cause;
+      outcome = said.outcome;
+      text = said.text;
+      due = then said.outcome said.text input.bytes input'.bytes said.due;
+      written = said.written;
+    }
+    by_outcome NoMemory said = said
+    by_outcome _ said = absurd said

@@ -60,24 +60,27 @@ Ends Due Fails Wants _ input input' out out' = ⊥
 abbrev pub Answers : {Answer : Type 0} → Judging Answer → Option (List ℕ) → Answer → Type 0
 Answers judging known answer = IfSome known (λ bytes. judging.IsAnswer (lines_of bytes) answer)
 
--- how far the input is read for an answer: at most one line, or as many bytes, behind lines that settle nothing, for one that
--- refuses; and to its end for any other
+-- how far the input is read for an answer: at most one line, or as many bytes, behind lines that settle nothing; and to its end,
+-- for one that refuses nothing
 pub record HasRead {Answer : Type 0} (judging : Judging Answer) (answer : Answer) (before now : Option (List ℕ)) : Type 0 where
-  pub refused : judging.Refuses answer → TookOneMore judging.Unsettled before now
+  pub took : TookOneMore judging.Unsettled before now
   pub ended : (judging.Refuses answer → ⊥) → IsAtEnd now
 
--- the outcome of an answer, and its report: it is the answer on the input's bytes, which were read as far as it says
-pub record IsDue {Answer : Type 0} (judging : Judging Answer) (Read : Answer → Taking) (outcome : Outcome) (text : List ℕ) (before now : Option (List ℕ)) : Type 0 where
+-- the outcome of an answer, and its report: it is the answer on some lines, and on those of the input's bytes where they are told;
+-- and the input was read as far as it says
+pub record IsDue {Answer : Type 0} (judging : Judging Answer) (outcome : Outcome) (text : List ℕ) (before now : Option (List ℕ)) : Type 0 where
   pub answer : Answer
   pub outcome_is : outcome ≡ judging.outcome answer
   pub text_is : text ≡ judging.report answer
+  pub lines : List (List ℕ)
+  pub are : judging.IsAnswer lines answer
   pub answers : Answers judging before answer
-  pub read : Read answer before now
+  pub read : HasRead judging answer before now
 
 -- so a command ends that judges lines: a read fails behind lines that settle nothing, and memory is wanted behind such lines as
 -- it may be
 abbrev pub Says : {Answer : Type 0} → Judging Answer → Outcome → Seen → Seen → Seen → Seen → Type 0
-Says judging = Ends (IsDue judging (HasRead judging)) (TookUnended judging.Unsettled) (TookLines judging.Wants)
+Says judging = Ends (IsDue judging) (TookUnended judging.Unsettled) (TookLines judging.Wants)
 
 -- A TEXT
 

@@ -1,25 +1,29 @@
 -- How much of an input's bytes was taken, by what their lines are.
-use Rattle.std.specs.Prelude.{ℕ, ◌+◌, ◌<◌, ◌≤◌, List, ◌++◌, length, take, Option, IfSome}
+use Rattle.std.specs.Prelude.{ℕ, ◌+◌, ◌*◌, ◌<◌, ◌≤◌, List, ◌++◌, length, take, Option, IfSome}
 use Rattle.std.specs.List.{concat}
 use Rattle.std.specs.Io.KnownBytes.{Consumes}
 use Rattle.sg_plan.specs.Limits.{longest_line}
 use Rattle.sg_outside.specs.TextLines.{AreLines, HasNoFeed, lines_of}
 
--- of these bytes whole lines of this kind were taken, and at most the bytes of one more line or as many
+-- of these bytes whole lines of this kind were taken, each at most as long as a line may be, and at most the bytes of one more
+-- line or as many
 pub record TookLines (Are : List (List ℕ) → Type 0) (before now : Option (List ℕ)) : Type 0 where
   pub done : List (List ℕ)
   pub rest : List ℕ
   pub lines : AreLines done
   pub are : Are done
+  pub short : length (concat done) ≤ length done * longest_line
   pub few : length rest ≤ longest_line
   pub taken : Consumes before now (concat done ++ rest)
 
--- of these bytes whole lines of this kind were taken, and behind them fewer than 16,384 bytes, without a line feed
+-- of these bytes whole lines of this kind were taken, each at most as long as a line may be, and behind them fewer than 16,384
+-- bytes, without a line feed
 pub record TookUnended (Are : List (List ℕ) → Type 0) (before now : Option (List ℕ)) : Type 0 where
   pub done : List (List ℕ)
   pub rest : List ℕ
   pub lines : AreLines done
   pub are : Are done
+  pub short : length (concat done) ≤ length done * longest_line
   pub unended : HasNoFeed rest
   pub few : length rest < longest_line
   pub taken : Consumes before now (concat done ++ rest)

@@ -3,11 +3,12 @@ ghost use Rattle.std.specs.Prelude.{◌≡◌, List, [], Option, false, true};
 ghost use Rattle.sg_plan.specs.Limits.{longest_line};
 ghost use Rattle.sg_outside.specs.Cutting.{Cutting};
 ghost use Rattle.sg_outside.specs.Streams.{seen};
-ghost use Rattle.sg_driver.specs.inside.Hearing.{Hears};
+ghost use Rattle.sg_driver.specs.inside.Hearing.{Hears, heard_of};
 ghost use Rattle.sg_driver.specs.inside.Stopping.{Cuts, Stops};
 
 use crate::judge::{Judge, Standing};
 use sg_outside::{Got, Lines, Source};
+use sg_plan::NoMemory;
 use sg_plan::limits::LONGEST_LINE;
 use std::alloc::Global;
 
@@ -48,11 +49,21 @@ pub(crate) fn hear<J: Judge + Drop, S: Source>(alloc: Global, input: &mut S) -> 
         return Heard::NoMemory;
     };
     match take_lines(&mut judge, &mut lines, input) {
-        Stop::NoLine => Heard::Answer(judge.end_at_no_line()),
-        Stop::Settled => Heard::Answer(judge.end()),
-        Stop::End => Heard::Answer(judge.end()),
+        Stop::NoLine => answered(judge.end_at_no_line(alloc)),
+        Stop::Settled => Heard::Answer(judge.end_settled()),
+        Stop::End => answered(judge.end(alloc)),
         Stop::Fault => Heard::Fault,
         Stop::NoMemory => Heard::NoMemory,
+    }
+}
+
+/// The answer, or that memory was wanted.
+fn answered<A>(answer: Result<A, NoMemory>) -> Heard<A>
+    ensures { result ≡ heard_of answer }
+{
+    match answer {
+        Ok(answer) => Heard::Answer(answer),
+        Err(NoMemory) => Heard::NoMemory,
     }
 }
 

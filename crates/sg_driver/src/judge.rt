@@ -1,6 +1,6 @@
 //! Who judges the lines of an input.
 
-ghost use Rattle.std.specs.Prelude.{◌≡◌, ◌<◌, ◌⊎◌, ◌++◌, ◌∷◌, ℕ, List, [], IfOk, OnErr};
+ghost use Rattle.std.specs.Prelude.{◌≡◌, ◌<◌, ◌++◌, ◌∷◌, ℕ, List, [], IfOk, OnErr};
 ghost use Rattle.sg_outside.specs.Faults.{HasCause};
 ghost use Rattle.sg_outside.specs.Streams.{PutAppends};
 ghost use Rattle.sg_driver.specs.Judging.{IsNoLine, IsOfAnswer, Judging};
@@ -48,18 +48,24 @@ pub trait Judge {
         ensures falls { IfOk result (λ standing. standing ≡ Standing.Open → left_in self.new < left_in self.old) }
         ensures wants { OnErr result ((lines : List (List ℕ)) → stands self.old lines → judging.Wants lines) };
 
-    /// The answer on the lines so far: the last was taken, or they settle one.
-    fn end(self) -> Self::Answer
-        requires { (lines : List (List ℕ)) × (stands self lines ⊎ settled self lines) }
-        ensures all { (lines : List (List ℕ)) → stands self lines → judging.IsAnswer lines result }
+    /// The answer where there are no more lines.
+    fn end(self, alloc: Global) -> Result<Self::Answer, NoMemory>
+        requires { (lines : List (List ℕ)) × stands self lines }
+        ensures all { IfOk result (λ answer. (lines : List (List ℕ)) → stands self lines → judging.IsAnswer lines answer) }
+        ensures wants { OnErr result ((lines : List (List ℕ)) → stands self lines → judging.Wants lines) };
+
+    /// The answer that the lines settle.
+    fn end_settled(self) -> Self::Answer
+        requires { (lines : List (List ℕ)) × settled self lines }
         ensures over { (lines more : List (List ℕ)) → settled self lines → judging.IsAnswer (lines ++ more) result }
         ensures refuses { (lines : List (List ℕ)) → settled self lines → judging.Refuses result };
 
     /// The answer where the next bytes are no line: they have no line feed, or are too many.
-    fn end_at_no_line(self) -> Self::Answer
+    fn end_at_no_line(self, alloc: Global) -> Result<Self::Answer, NoMemory>
         requires { (lines : List (List ℕ)) × stands self lines }
-        ensures all { (lines more : List (List ℕ)) (text : List ℕ) → stands self lines → IsNoLine text → judging.IsAnswer (lines ++ text ∷ more) result }
-        ensures refuses { judging.Refuses result };
+        ensures all { IfOk result (λ answer. (lines more : List (List ℕ)) (text : List ℕ) → stands self lines → IsNoLine text → judging.IsAnswer (lines ++ text ∷ more) answer) }
+        ensures refuses { IfOk result (λ answer. judging.Refuses answer) }
+        ensures wants { OnErr result ((lines : List (List ℕ)) → stands self lines → judging.Wants lines) };
 
     /// How the command ends with an answer whose report was written.
     fn outcome(answer: &Self::Answer) -> Outcome

@@ -10,7 +10,7 @@ use Rattle.sg_plan.specs.declared.plan.Plan.{Plan}
 use Rattle.sg_plan.specs.declared.plan.Race.{Race}
 use Rattle.sg_forms.specs.declared.line.CodeLine.{CodeLine}
 use Rattle.sg_grammar.specs.Due.{ballot_codes, code_line, each, race_codes}
-use Rattle.sg_grammar.specs.Walk.{in_order, is_column, is_later}
+use Rattle.sg_grammar.specs.Walk.{follows_in_order, is_column, is_later}
 use Rattle.sg_grammar.specs.declared.state.Block.{Block}
 use Rattle.sg_grammar.specs.declared.state.Block.TheVariants as block
 use Rattle.sg_grammar.specs.declared.state.Slot.{Slot}
@@ -252,9 +252,9 @@ own_at plan ballot (c ∷ codes) all = λ at code is. at_place (own_at plan ball
 marks_own : (plan : Plan) (ballot race column : ℕ) (codes : List CodeLine) → are_marks plan ballot race column codes ≡ true → EachOf (IsOwn plan ballot) codes
 marks_own plan ballot race column [] e = tt
 marks_own plan ballot race column (code ∷ codes) e =
-    let parts = and_parts ((is_column plan ballot code.race code.column && in_order race column code.race code.column) && is_code plan code.code) (are_marks plan ballot code.race (code.column + 1) codes) e in
-    let first = and_parts (is_column plan ballot code.race code.column && in_order race column code.race code.column) (is_code plan code.code) parts.0 in
-    ((and_parts (is_column plan ballot code.race code.column) (in_order race column code.race code.column) first.0).0, marks_own plan ballot code.race (code.column + 1) codes parts.1)
+    let parts = and_parts ((is_column plan ballot code.race code.column && follows_in_order race column code.race code.column) && is_code plan code.code) (are_marks plan ballot code.race (code.column + 1) codes) e in
+    let first = and_parts (is_column plan ballot code.race code.column && follows_in_order race column code.race code.column) (is_code plan code.code) parts.0 in
+    ((and_parts (is_column plan ballot code.race code.column) (follows_in_order race column code.race code.column) first.0).0, marks_own plan ballot code.race (code.column + 1) codes parts.1)
 
 abbrev IsOwnSlot : Plan → ℕ → Slot → Type 0
 IsOwnSlot plan ballot (slot.Code kind of race column) = is_column plan ballot race column ≡ true

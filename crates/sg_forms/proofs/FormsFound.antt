@@ -8,7 +8,7 @@ use Rattle.std.specs.Option.{option_map, option_and_then}
 use Rattle.sg_forms.specs.Said.{Said}
 use Rattle.sg_forms.specs.Said.Said.{Style, Paper, DrawFull, DrawPublic}
 use Rattle.sg_forms.specs.Spelling.{words_of, IsInRange}
-use Rattle.sg_forms.specs.Reading.{first_by, whole, instances_of, cand_of, election_of, race_of, ballots_of, code_commit_of, row_commit_of, seal_of, cast_of, spoiled_of, audited_of, voided_of, code_line_of, over_of, flags_of, places_of, total_of, left_of, right_of, both_of, dispute_of, version_of, style_of, paper_of, draw_of, digits_of, is_few, all_by, few_by, plan_form, result_form, ballot_form, form_of, form_in}
+use Rattle.sg_forms.specs.Reading.{first_by, whole, read_instances, read_cand, read_election, read_race, read_ballots, read_code_commit, read_row_commit, read_seal, read_cast, read_spoiled, read_audited, read_voided, read_code_line, read_over, read_flags, read_places, read_total, read_left, read_right, read_both, read_dispute, read_version, read_style, read_paper, read_draw, digits_of, is_few, all_by, few_by, plan_form, result_form, ballot_form, form_of, form_in}
 use Rattle.sg_forms.proofs.WordKinds.{IsKind, number_kind, key_kind, digest_kind, code_kind, name_kind, bits_kind, digits_kind, claim_kind}
 use Rattle.sg_forms.proofs.Kept.{both_true}
 
@@ -60,41 +60,41 @@ then_reads {A} {version} {read} {spell} {Fits} {front} {next} kind goes = record
 
 -- ---- form by form
 
-pub instances_reads : (version : ℕ) → Reads version (codes "instances" ∷ []) instances_of
+pub instances_reads : (version : ℕ) → Reads version (codes "instances" ∷ []) read_instances
 instances_reads version =
     then_reads number_kind (λ instances instances_fits.
     whole_reads instances_fits refl)
 
-pub cand_reads : (version : ℕ) → Reads version (codes "cand" ∷ []) cand_of
+pub cand_reads : (version : ℕ) → Reads version (codes "cand" ∷ []) read_cand
 cand_reads version =
     then_reads name_kind (λ name name_fits.
     whole_reads name_fits refl)
 
-pub election_reads : (version : ℕ) → Reads version (codes "election" ∷ []) election_of
+pub election_reads : (version : ℕ) → Reads version (codes "election" ∷ []) read_election
 election_reads version =
     then_reads name_kind (λ name name_fits.
     whole_reads name_fits refl)
 
-pub race_reads : (version : ℕ) → Reads version (codes "race" ∷ []) race_of
+pub race_reads : (version : ℕ) → Reads version (codes "race" ∷ []) read_race
 race_reads version =
     then_reads name_kind (λ name name_fits.
     then_reads number_kind (λ candidates candidates_fits.
     then_reads number_kind (λ votes votes_fits.
     whole_reads (name_fits, candidates_fits, votes_fits) refl)))
 
-pub ballots_reads : (version : ℕ) → Reads version (codes "ballots" ∷ []) ballots_of
+pub ballots_reads : (version : ℕ) → Reads version (codes "ballots" ∷ []) read_ballots
 ballots_reads version =
     then_reads number_kind (λ style style_fits.
     then_reads number_kind (λ count count_fits.
     whole_reads (style_fits, count_fits) refl))
 
-pub code_commit_reads : (version : ℕ) → Reads version (codes "code-commit" ∷ []) code_commit_of
+pub code_commit_reads : (version : ℕ) → Reads version (codes "code-commit" ∷ []) read_code_commit
 code_commit_reads version =
     then_reads number_kind (λ race race_fits.
     then_reads digest_kind (λ digest digest_fits.
     whole_reads (race_fits, digest_fits) refl))
 
-pub row_commit_reads : (version : ℕ) → Reads version (codes "row-commit" ∷ []) row_commit_of
+pub row_commit_reads : (version : ℕ) → Reads version (codes "row-commit" ∷ []) read_row_commit
 row_commit_reads version =
     then_reads number_kind (λ race race_fits.
     then_reads number_kind (λ instance instance_fits.
@@ -102,33 +102,33 @@ row_commit_reads version =
     then_reads digest_kind (λ right right_fits.
     whole_reads (race_fits, instance_fits, left_fits, right_fits) refl))))
 
-pub seal_reads : (version : ℕ) → Reads version (codes "seal" ∷ []) seal_of
+pub seal_reads : (version : ℕ) → Reads version (codes "seal" ∷ []) read_seal
 seal_reads version =
     then_reads number_kind (λ number number_fits.
     then_reads digest_kind (λ digest digest_fits.
     whole_reads (number_fits, digest_fits) refl))
 
-pub cast_reads : (version : ℕ) → Reads version (codes "cast" ∷ []) cast_of
+pub cast_reads : (version : ℕ) → Reads version (codes "cast" ∷ []) read_cast
 cast_reads version =
     then_reads number_kind (λ ballot ballot_fits.
     whole_reads ballot_fits refl)
 
-pub spoiled_reads : (version : ℕ) → Reads version (codes "spoiled" ∷ []) spoiled_of
+pub spoiled_reads : (version : ℕ) → Reads version (codes "spoiled" ∷ []) read_spoiled
 spoiled_reads version =
     then_reads number_kind (λ ballot ballot_fits.
     whole_reads ballot_fits refl)
 
-pub audited_reads : (version : ℕ) → Reads version (codes "audited" ∷ []) audited_of
+pub audited_reads : (version : ℕ) → Reads version (codes "audited" ∷ []) read_audited
 audited_reads version =
     then_reads number_kind (λ ballot ballot_fits.
     whole_reads ballot_fits refl)
 
-pub voided_reads : (version : ℕ) → Reads version (codes "voided" ∷ []) voided_of
+pub voided_reads : (version : ℕ) → Reads version (codes "voided" ∷ []) read_voided
 voided_reads version =
     then_reads number_kind (λ ballot ballot_fits.
     whole_reads ballot_fits refl)
 
-pub code_line_reads : (version : ℕ) → Reads version (codes "code" ∷ []) (code_line_of version)
+pub code_line_reads : (version : ℕ) → Reads version (codes "code" ∷ []) (read_code_line version)
 code_line_reads version =
     then_reads number_kind (λ race race_fits.
     then_reads number_kind (λ column column_fits.
@@ -136,44 +136,44 @@ code_line_reads version =
     then_reads (code_kind version) (λ code code_fits.
     whole_reads (race_fits, column_fits, key_fits, code_fits) refl))))
 
-pub over_reads : (version : ℕ) → Reads version (codes "over" ∷ []) over_of
+pub over_reads : (version : ℕ) → Reads version (codes "over" ∷ []) read_over
 over_reads version =
     then_reads number_kind (λ race race_fits.
     whole_reads race_fits refl)
 
-pub flags_reads : (version : ℕ) → Reads version (codes "flags" ∷ []) flags_of
+pub flags_reads : (version : ℕ) → Reads version (codes "flags" ∷ []) read_flags
 flags_reads version =
     then_reads number_kind (λ race race_fits.
     then_reads number_kind (λ instance instance_fits.
     then_reads bits_kind (λ bits bits_fits.
     whole_reads (race_fits, instance_fits, bits_fits) refl)))
 
-pub places_reads : (version : ℕ) → Reads version (codes "places" ∷ []) places_of
+pub places_reads : (version : ℕ) → Reads version (codes "places" ∷ []) read_places
 places_reads version =
     then_reads number_kind (λ race race_fits.
     then_reads bits_kind (λ bits bits_fits.
     whole_reads (race_fits, bits_fits) refl))
 
-pub total_reads : (version : ℕ) → Reads version (codes "total" ∷ []) total_of
+pub total_reads : (version : ℕ) → Reads version (codes "total" ∷ []) read_total
 total_reads version =
     then_reads number_kind (λ race race_fits.
     then_reads number_kind (λ candidate candidate_fits.
     then_reads number_kind (λ count count_fits.
     whole_reads (race_fits, candidate_fits, count_fits) refl)))
 
-pub left_reads : (version : ℕ) → Reads version (codes "left" ∷ []) left_of
+pub left_reads : (version : ℕ) → Reads version (codes "left" ∷ []) read_left
 left_reads version =
     then_reads key_kind (λ key key_fits.
     then_reads number_kind (λ value value_fits.
     whole_reads (key_fits, value_fits) refl))
 
-pub right_reads : (version : ℕ) → Reads version (codes "right" ∷ []) right_of
+pub right_reads : (version : ℕ) → Reads version (codes "right" ∷ []) read_right
 right_reads version =
     then_reads key_kind (λ key key_fits.
     then_reads number_kind (λ value value_fits.
     whole_reads (key_fits, value_fits) refl))
 
-pub both_reads : (version : ℕ) → Reads version (codes "both" ∷ []) both_of
+pub both_reads : (version : ℕ) → Reads version (codes "both" ∷ []) read_both
 both_reads version =
     then_reads key_kind (λ key key_fits.
     then_reads number_kind (λ value value_fits.
@@ -181,7 +181,7 @@ both_reads version =
     then_reads number_kind (λ value_behind value_behind_fits.
     whole_reads ((key_fits, value_fits), (key_behind_fits, value_behind_fits)) refl))))
 
-pub dispute_reads : (version : ℕ) → Reads version (codes "dispute" ∷ []) (dispute_of version)
+pub dispute_reads : (version : ℕ) → Reads version (codes "dispute" ∷ []) (read_dispute version)
 dispute_reads version =
     then_reads number_kind (λ ballot ballot_fits.
     then_reads number_kind (λ race race_fits.
@@ -208,7 +208,7 @@ one_or_two number true two e f test = inl (eqb-true number 1 e)
 one_or_two number false true e f test = inr (eqb-true number 2 f)
 one_or_two number false false e f test = cc
 
-pub version_reads : (version : ℕ) → Reads version (codes "scantegrity2" ∷ []) version_of
+pub version_reads : (version : ℕ) → Reads version (codes "scantegrity2" ∷ []) read_version
 version_reads version =
     then_reads number_kind (λ number number_fits.
     where_reads (number == 1 || number == 2) (λ test.
@@ -280,12 +280,12 @@ pub list_reads : {A : Type 0} {version : ℕ} {front : List (List ℕ)} {read : 
 list_reads {A} {version} {front} {read} {spell} {Fits} most form kind says =
     record { says = λ words found e. list_says version front read spell Fits most form kind says words found (few_by read most words) refl e }
 
-pub style_reads : (version : ℕ) → Reads version (codes "style" ∷ []) style_of
+pub style_reads : (version : ℕ) → Reads version (codes "style" ∷ []) read_style
 style_reads version =
     then_reads name_kind (λ name name_fits.
     list_reads 32 (Style name) number_kind (λ races fit some few. ((name_fits, fit, some, few), refl)))
 
-pub paper_reads : (version : ℕ) → Reads version (codes "paper" ∷ []) (paper_of version)
+pub paper_reads : (version : ℕ) → Reads version (codes "paper" ∷ []) (read_paper version)
 paper_reads version =
     then_reads number_kind (λ race race_fits.
     list_reads 16 (Paper race) (code_kind version) (λ list fit some few. ((race_fits, fit, some, few), refl)))
@@ -304,11 +304,11 @@ draw_says_at version word words found false (Some d) full is e =
     rw kept.1 (whole_says version (codes "draw" ∷ d ∷ []) (DrawPublic d) kept.0 refl words found e)
 
 -- the draw
-draw_says : (version : ℕ) (words : List (List ℕ)) (found : Said) → draw_of words ≡ Some found → Says version (codes "draw" ∷ words) found
+draw_says : (version : ℕ) (words : List (List ℕ)) (found : Said) → read_draw words ≡ Some found → Says version (codes "draw" ∷ words) found
 draw_says version [] found e = cc
 draw_says version (word ∷ words) found e = draw_says_at version word words found (bytes_eq word (codes "full")) (digits_of word) refl refl e
 
-pub draw_reads : (version : ℕ) → Reads version (codes "draw" ∷ []) draw_of
+pub draw_reads : (version : ℕ) → Reads version (codes "draw" ∷ []) read_draw
 draw_reads version = record { says = draw_says version }
 
 -- ---- the form, by the first word

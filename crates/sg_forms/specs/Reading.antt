@@ -66,8 +66,8 @@ abbrev pub digits_of : List ℕ → Option (List ℕ)
 digits_of = kept_where (λ word. is_few (2 * most_public_bytes) word && ((length word % 2 == 0) && list_all is_hex_sign word))
 
 -- the public bytes that their hexadecimal digits stand for
-abbrev pub public_bytes : List ℕ → List ℕ
-public_bytes digits = result_unwrap_or (decode_of digits) []
+abbrev pub bytes_of_digits : List ℕ → List ℕ
+bytes_of_digits digits = result_unwrap_or (decode_of digits) []
 
 -- a dispute's answer
 abbrev pub claim_of : List ℕ → Option ClaimWord
@@ -115,125 +115,125 @@ few_by read most words = if is_few most words then all_by read words else None
 
 -- ---- the words behind the first one, form by form
 
-abbrev pub version_of : List (List ℕ) → Option Said
-version_of = number_then (λ number words. if number == 1 || number == 2 then whole (Version number) words else None)
+abbrev pub read_version : List (List ℕ) → Option Said
+read_version = number_then (λ number words. if number == 1 || number == 2 then whole (Version number) words else None)
 
-abbrev pub election_of : List (List ℕ) → Option Said
-election_of = then_by name_of (λ name. whole (Election name))
+abbrev pub read_election : List (List ℕ) → Option Said
+read_election = then_by name_of (λ name. whole (Election name))
 
-abbrev pub instances_of : List (List ℕ) → Option Said
-instances_of = number_then (λ instances. whole (Instances instances))
+abbrev pub read_instances : List (List ℕ) → Option Said
+read_instances = number_then (λ instances. whole (Instances instances))
 
-abbrev pub race_of : List (List ℕ) → Option Said
-race_of = then_by name_of (λ name. number_then (λ candidates. number_then (λ votes. whole (Race name candidates votes))))
+abbrev pub read_race : List (List ℕ) → Option Said
+read_race = then_by name_of (λ name. number_then (λ candidates. number_then (λ votes. whole (Race name candidates votes))))
 
-abbrev pub cand_of : List (List ℕ) → Option Said
-cand_of = then_by name_of (λ name. whole (Cand name))
+abbrev pub read_cand : List (List ℕ) → Option Said
+read_cand = then_by name_of (λ name. whole (Cand name))
 
-abbrev pub style_of : List (List ℕ) → Option Said
-style_of = then_by name_of (λ name words. option_map (λ races. Style name races) (few_by decimal_of most_races words))
+abbrev pub read_style : List (List ℕ) → Option Said
+read_style = then_by name_of (λ name words. option_map (λ races. Style name races) (few_by decimal_of most_races words))
 
-abbrev pub ballots_of : List (List ℕ) → Option Said
-ballots_of = number_then (λ style. number_then (λ count. whole (Ballots style count)))
+abbrev pub read_ballots : List (List ℕ) → Option Said
+read_ballots = number_then (λ style. number_then (λ count. whole (Ballots style count)))
 
-abbrev pub code_commit_of : List (List ℕ) → Option Said
-code_commit_of = number_then (λ race. digest_then (λ digest. whole (CodeCommit race digest)))
+abbrev pub read_code_commit : List (List ℕ) → Option Said
+read_code_commit = number_then (λ race. digest_then (λ digest. whole (CodeCommit race digest)))
 
-abbrev pub row_commit_of : List (List ℕ) → Option Said
-row_commit_of = number_then (λ race. number_then (λ instance. digest_then (λ left. digest_then (λ right. whole (RowCommit race instance left right)))))
+abbrev pub read_row_commit : List (List ℕ) → Option Said
+read_row_commit = number_then (λ race. number_then (λ instance. digest_then (λ left. digest_then (λ right. whole (RowCommit race instance left right)))))
 
-abbrev pub seal_of : List (List ℕ) → Option Said
-seal_of = number_then (λ number. digest_then (λ digest. whole (Seal number digest)))
+abbrev pub read_seal : List (List ℕ) → Option Said
+read_seal = number_then (λ number. digest_then (λ digest. whole (Seal number digest)))
 
-abbrev pub cast_of : List (List ℕ) → Option Said
-cast_of = number_then (λ ballot. whole (Cast ballot))
+abbrev pub read_cast : List (List ℕ) → Option Said
+read_cast = number_then (λ ballot. whole (Cast ballot))
 
-abbrev pub spoiled_of : List (List ℕ) → Option Said
-spoiled_of = number_then (λ ballot. whole (Spoiled ballot))
+abbrev pub read_spoiled : List (List ℕ) → Option Said
+read_spoiled = number_then (λ ballot. whole (Spoiled ballot))
 
-abbrev pub audited_of : List (List ℕ) → Option Said
-audited_of = number_then (λ ballot. whole (Audited ballot))
+abbrev pub read_audited : List (List ℕ) → Option Said
+read_audited = number_then (λ ballot. whole (Audited ballot))
 
-abbrev pub code_line_of : ℕ → List (List ℕ) → Option Said
-code_line_of version = number_then (λ race. number_then (λ column. key_then (λ key. then_by (code_of version) (λ code. whole (Code (record { race = race; column = column; key = key; code = code }))))))
+abbrev pub read_code_line : ℕ → List (List ℕ) → Option Said
+read_code_line version = number_then (λ race. number_then (λ column. key_then (λ key. then_by (code_of version) (λ code. whole (Code (record { race = race; column = column; key = key; code = code }))))))
 
-abbrev pub over_of : List (List ℕ) → Option Said
-over_of = number_then (λ race. whole (Over race))
+abbrev pub read_over : List (List ℕ) → Option Said
+read_over = number_then (λ race. whole (Over race))
 
-abbrev pub paper_of : ℕ → List (List ℕ) → Option Said
-paper_of version = number_then (λ race words. option_map (λ list. Paper race list) (few_by (code_of version) most_candidates words))
+abbrev pub read_paper : ℕ → List (List ℕ) → Option Said
+read_paper version = number_then (λ race words. option_map (λ list. Paper race list) (few_by (code_of version) most_candidates words))
 
-abbrev pub flags_of : List (List ℕ) → Option Said
-flags_of = number_then (λ race. number_then (λ instance. then_by bits_of (λ bits. whole (Flags race instance bits))))
+abbrev pub read_flags : List (List ℕ) → Option Said
+read_flags = number_then (λ race. number_then (λ instance. then_by bits_of (λ bits. whole (Flags race instance bits))))
 
-abbrev pub places_of : List (List ℕ) → Option Said
-places_of = number_then (λ race. then_by bits_of (λ bits. whole (Places race bits)))
+abbrev pub read_places : List (List ℕ) → Option Said
+read_places = number_then (λ race. then_by bits_of (λ bits. whole (Places race bits)))
 
-abbrev pub total_of : List (List ℕ) → Option Said
-total_of = number_then (λ race. number_then (λ candidate. number_then (λ count. whole (Total race candidate count))))
+abbrev pub read_total : List (List ℕ) → Option Said
+read_total = number_then (λ race. number_then (λ candidate. number_then (λ count. whole (Total race candidate count))))
 
-abbrev pub draw_of : List (List ℕ) → Option Said
-draw_of = then_by (λ word. Some word) (λ word words. if bytes_eq word (codes "full") then whole DrawFull words else option_and_then (λ digits. whole (DrawPublic digits) words) (digits_of word))
+abbrev pub read_draw : List (List ℕ) → Option Said
+read_draw = then_by (λ word. Some word) (λ word words. if bytes_eq word (codes "full") then whole DrawFull words else option_and_then (λ digits. whole (DrawPublic digits) words) (digits_of word))
 
-abbrev pub left_of : List (List ℕ) → Option Said
-left_of = opening_then (λ opening. whole (Row (row.Left opening)))
+abbrev pub read_left : List (List ℕ) → Option Said
+read_left = opening_then (λ opening. whole (Row (row.Left opening)))
 
-abbrev pub right_of : List (List ℕ) → Option Said
-right_of = opening_then (λ opening. whole (Row (row.Right opening)))
+abbrev pub read_right : List (List ℕ) → Option Said
+read_right = opening_then (λ opening. whole (Row (row.Right opening)))
 
-abbrev pub both_of : List (List ℕ) → Option Said
-both_of = opening_then (λ left. opening_then (λ right. whole (Row (row.Both left right))))
+abbrev pub read_both : List (List ℕ) → Option Said
+read_both = opening_then (λ left. opening_then (λ right. whole (Row (row.Both left right))))
 
-abbrev pub dispute_of : ℕ → List (List ℕ) → Option Said
-dispute_of version = number_then (λ ballot. number_then (λ race. then_by (code_of version) (λ code. then_by claim_of (λ word. whole (Dispute ballot race code word)))))
+abbrev pub read_dispute : ℕ → List (List ℕ) → Option Said
+read_dispute version = number_then (λ ballot. number_then (λ race. then_by (code_of version) (λ code. then_by claim_of (λ word. whole (Dispute ballot race code word)))))
 
-abbrev pub voided_of : List (List ℕ) → Option Said
-voided_of = number_then (λ ballot. whole (Voided ballot))
+abbrev pub read_voided : List (List ℕ) → Option Said
+read_voided = number_then (λ ballot. whole (Voided ballot))
 
 -- ---- the form, by the first word
 
 -- the lines of the plan
 unfoldable pub plan_form : List ℕ → List (List ℕ) → Option Said
 plan_form first words =
-    if bytes_eq first (codes "cand") then cand_of words
-    else (if bytes_eq first (codes "race") then race_of words
-    else (if bytes_eq first (codes "style") then style_of words
-    else (if bytes_eq first (codes "ballots") then ballots_of words
-    else (if bytes_eq first (codes "scantegrity2") then version_of words
-    else (if bytes_eq first (codes "election") then election_of words
-    else (if bytes_eq first (codes "instances") then instances_of words else None))))))
+    if bytes_eq first (codes "cand") then read_cand words
+    else (if bytes_eq first (codes "race") then read_race words
+    else (if bytes_eq first (codes "style") then read_style words
+    else (if bytes_eq first (codes "ballots") then read_ballots words
+    else (if bytes_eq first (codes "scantegrity2") then read_version words
+    else (if bytes_eq first (codes "election") then read_election words
+    else (if bytes_eq first (codes "instances") then read_instances words else None))))))
 
 -- the lines of results, and those of the plan
 unfoldable pub result_form : List ℕ → List (List ℕ) → Option Said
 result_form first words =
-    if bytes_eq first (codes "flags") then flags_of words
-    else (if bytes_eq first (codes "places") then places_of words
-    else (if bytes_eq first (codes "total") then total_of words
-    else (if bytes_eq first (codes "seal") then seal_of words
-    else (if bytes_eq first (codes "draw") then draw_of words
+    if bytes_eq first (codes "flags") then read_flags words
+    else (if bytes_eq first (codes "places") then read_places words
+    else (if bytes_eq first (codes "total") then read_total words
+    else (if bytes_eq first (codes "seal") then read_seal words
+    else (if bytes_eq first (codes "draw") then read_draw words
     else plan_form first words))))
 
 -- the lines of ballots, and those above
 unfoldable pub ballot_form : ℕ → List ℕ → List (List ℕ) → Option Said
 ballot_form version first words =
-    if bytes_eq first (codes "code") then code_line_of version words
-    else (if bytes_eq first (codes "cast") then cast_of words
-    else (if bytes_eq first (codes "spoiled") then spoiled_of words
-    else (if bytes_eq first (codes "audited") then audited_of words
-    else (if bytes_eq first (codes "voided") then voided_of words
-    else (if bytes_eq first (codes "over") then over_of words
-    else (if bytes_eq first (codes "paper") then paper_of version words
-    else (if bytes_eq first (codes "dispute") then dispute_of version words
+    if bytes_eq first (codes "code") then read_code_line version words
+    else (if bytes_eq first (codes "cast") then read_cast words
+    else (if bytes_eq first (codes "spoiled") then read_spoiled words
+    else (if bytes_eq first (codes "audited") then read_audited words
+    else (if bytes_eq first (codes "voided") then read_voided words
+    else (if bytes_eq first (codes "over") then read_over words
+    else (if bytes_eq first (codes "paper") then read_paper version words
+    else (if bytes_eq first (codes "dispute") then read_dispute version words
     else result_form first words)))))))
 
 -- the lines of rows and entries, of which there are most, and those above
 unfoldable pub form_of : ℕ → List ℕ → List (List ℕ) → Option Said
 form_of version first words =
-    if bytes_eq first (codes "row-commit") then row_commit_of words
-    else (if bytes_eq first (codes "both") then both_of words
-    else (if bytes_eq first (codes "left") then left_of words
-    else (if bytes_eq first (codes "right") then right_of words
-    else (if bytes_eq first (codes "code-commit") then code_commit_of words
+    if bytes_eq first (codes "row-commit") then read_row_commit words
+    else (if bytes_eq first (codes "both") then read_both words
+    else (if bytes_eq first (codes "left") then read_left words
+    else (if bytes_eq first (codes "right") then read_right words
+    else (if bytes_eq first (codes "code-commit") then read_code_commit words
     else ballot_form version first words))))
 
 abbrev pub form_in : ℕ → List (List ℕ) → Option Said

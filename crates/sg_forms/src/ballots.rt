@@ -1,7 +1,7 @@
 //! The lines of ballots: their blocks, and those of disputes.
 ghost use Rattle.std.specs.Prelude.{◌≡◌, IfSome};
 ghost use Rattle.std.specs.Option.{option_map};
-ghost use Rattle.sg_forms.specs.Reading.{cast_of, spoiled_of, audited_of, code_line_of, over_of, paper_of, dispute_of, voided_of};
+ghost use Rattle.sg_forms.specs.Reading.{read_cast, read_spoiled, read_audited, read_code_line, read_over, read_paper, read_dispute, read_voided};
 ghost use Rattle.sg_forms.specs.Said.{said};
 ghost use Rattle.sg_forms.specs.Zeros.{HasZeros};
 
@@ -12,7 +12,7 @@ use crate::words::Words;
 
 /// `cast B`
 pub(crate) fn cast<'a>(mut words: Words<'a>) -> Option<Line<'a>>
-    ensures exact { option_map said result ≡ cast_of words.entry }
+    ensures exact { option_map said result ≡ read_cast words.entry }
     ensures zeros { IfSome result HasZeros }
 {
     let ballot = words.number()?;
@@ -21,7 +21,7 @@ pub(crate) fn cast<'a>(mut words: Words<'a>) -> Option<Line<'a>>
 
 /// `spoiled B`
 pub(crate) fn spoiled<'a>(mut words: Words<'a>) -> Option<Line<'a>>
-    ensures exact { option_map said result ≡ spoiled_of words.entry }
+    ensures exact { option_map said result ≡ read_spoiled words.entry }
     ensures zeros { IfSome result HasZeros }
 {
     let ballot = words.number()?;
@@ -30,7 +30,7 @@ pub(crate) fn spoiled<'a>(mut words: Words<'a>) -> Option<Line<'a>>
 
 /// `audited B`
 pub(crate) fn audited<'a>(mut words: Words<'a>) -> Option<Line<'a>>
-    ensures exact { option_map said result ≡ audited_of words.entry }
+    ensures exact { option_map said result ≡ read_audited words.entry }
     ensures zeros { IfSome result HasZeros }
 {
     let ballot = words.number()?;
@@ -39,7 +39,7 @@ pub(crate) fn audited<'a>(mut words: Words<'a>) -> Option<Line<'a>>
 
 /// `voided B`
 pub(crate) fn voided<'a>(mut words: Words<'a>) -> Option<Line<'a>>
-    ensures exact { option_map said result ≡ voided_of words.entry }
+    ensures exact { option_map said result ≡ read_voided words.entry }
     ensures zeros { IfSome result HasZeros }
 {
     let ballot = words.number()?;
@@ -48,7 +48,7 @@ pub(crate) fn voided<'a>(mut words: Words<'a>) -> Option<Line<'a>>
 
 /// `code R C KEY CODE`
 pub(crate) fn code<'a>(version: u32, mut words: Words<'a>) -> Option<Line<'a>>
-    ensures exact { option_map said result ≡ code_line_of version words.entry }
+    ensures exact { option_map said result ≡ read_code_line version words.entry }
     ensures zeros { IfSome result HasZeros }
 {
     let race = words.number()?;
@@ -65,7 +65,7 @@ pub(crate) fn code<'a>(version: u32, mut words: Words<'a>) -> Option<Line<'a>>
 
 /// `over R`
 pub(crate) fn over<'a>(mut words: Words<'a>) -> Option<Line<'a>>
-    ensures exact { option_map said result ≡ over_of words.entry }
+    ensures exact { option_map said result ≡ read_over words.entry }
     ensures zeros { IfSome result HasZeros }
 {
     let race = words.number()?;
@@ -74,7 +74,7 @@ pub(crate) fn over<'a>(mut words: Words<'a>) -> Option<Line<'a>>
 
 /// `paper R CODE ..`
 pub(crate) fn paper<'a>(version: u32, mut words: Words<'a>) -> Option<Line<'a>>
-    ensures exact { option_map said result ≡ paper_of version words.entry }
+    ensures exact { option_map said result ≡ read_paper version words.entry }
     ensures zeros { IfSome result HasZeros }
 {
     let race = words.number()?;
@@ -84,7 +84,7 @@ pub(crate) fn paper<'a>(version: u32, mut words: Words<'a>) -> Option<Line<'a>>
 
 /// `dispute B R CODE WORD`
 pub(crate) fn dispute<'a>(version: u32, mut words: Words<'a>) -> Option<Line<'a>>
-    ensures exact { option_map said result ≡ dispute_of version words.entry }
+    ensures exact { option_map said result ≡ read_dispute version words.entry }
     ensures zeros { IfSome result HasZeros }
 {
     let ballot = words.number()?;

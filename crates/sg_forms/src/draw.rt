@@ -2,7 +2,7 @@
 ghost use Rattle.std.specs.Prelude.{◌≡◌, ◌≤◌, ◌++◌, ℕ, List, length, drop};
 ghost use Rattle.sg_plan.specs.Limits.{most_public_bytes};
 ghost use Rattle.sg_lines.specs.Words.{IsBytes, encode_lower};
-ghost use Rattle.sg_forms.specs.Reading.{public_bytes};
+ghost use Rattle.sg_forms.specs.Reading.{bytes_of_digits};
 ghost use Rattle.sg_forms.specs.Spelling.{AreDigits};
 
 use sg_lines::read_hex;
@@ -12,11 +12,11 @@ use sg_lines::read_hex;
 pub fn draw_bytes(digits: &[u8], out: &mut [u8]) -> usize
     requires digits { AreDigits digits.now }
     requires room { most_public_bytes ≤ length out.old }
-    ensures len { result ≡ length (public_bytes digits.now) }
+    ensures len { result ≡ length (bytes_of_digits digits.now) }
     ensures few { (1 ≤ result) × (result ≤ most_public_bytes) }
-    ensures written { out.new ≡ public_bytes digits.now ++ drop result out.old }
-    ensures spelled { digits.now ≡ encode_lower (public_bytes digits.now) }
-    ensures only { (bytes : List ℕ) → IsBytes bytes → digits.now ≡ encode_lower bytes → public_bytes digits.now ≡ bytes }
+    ensures written { out.new ≡ bytes_of_digits digits.now ++ drop result out.old }
+    ensures spelled { digits.now ≡ encode_lower (bytes_of_digits digits.now) }
+    ensures only { (bytes : List ℕ) → IsBytes bytes → digits.now ≡ encode_lower bytes → bytes_of_digits digits.now ≡ bytes }
 {
     let count = digits.len() / 2;
     let is_hex = read_hex(digits, &mut out[..count]);

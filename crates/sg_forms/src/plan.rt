@@ -1,7 +1,7 @@
 //! The lines of the plan.
 ghost use Rattle.std.specs.Prelude.{◌≡◌, IfSome};
 ghost use Rattle.std.specs.Option.{option_map};
-ghost use Rattle.sg_forms.specs.Reading.{version_of, election_of, instances_of, race_of, cand_of, style_of, ballots_of};
+ghost use Rattle.sg_forms.specs.Reading.{read_version, read_election, read_instances, read_race, read_cand, read_style, read_ballots};
 ghost use Rattle.sg_forms.specs.Said.{said};
 ghost use Rattle.sg_forms.specs.Zeros.{HasZeros};
 
@@ -11,7 +11,7 @@ use crate::words::Words;
 
 /// `scantegrity2 V`, V being 1 or 2
 pub(crate) fn version<'a>(mut words: Words<'a>) -> Option<Line<'a>>
-    ensures exact { option_map said result ≡ version_of words.entry }
+    ensures exact { option_map said result ≡ read_version words.entry }
     ensures zeros { IfSome result HasZeros }
 {
     let number = words.number()?;
@@ -23,7 +23,7 @@ pub(crate) fn version<'a>(mut words: Words<'a>) -> Option<Line<'a>>
 
 /// `election NAME`
 pub(crate) fn election<'a>(mut words: Words<'a>) -> Option<Line<'a>>
-    ensures exact { option_map said result ≡ election_of words.entry }
+    ensures exact { option_map said result ≡ read_election words.entry }
     ensures zeros { IfSome result HasZeros }
 {
     let name = words.name()?;
@@ -32,7 +32,7 @@ pub(crate) fn election<'a>(mut words: Words<'a>) -> Option<Line<'a>>
 
 /// `instances M`
 pub(crate) fn instances<'a>(mut words: Words<'a>) -> Option<Line<'a>>
-    ensures exact { option_map said result ≡ instances_of words.entry }
+    ensures exact { option_map said result ≡ read_instances words.entry }
     ensures zeros { IfSome result HasZeros }
 {
     let instances = words.number()?;
@@ -41,7 +41,7 @@ pub(crate) fn instances<'a>(mut words: Words<'a>) -> Option<Line<'a>>
 
 /// `race NAME K W`
 pub(crate) fn race<'a>(mut words: Words<'a>) -> Option<Line<'a>>
-    ensures exact { option_map said result ≡ race_of words.entry }
+    ensures exact { option_map said result ≡ read_race words.entry }
     ensures zeros { IfSome result HasZeros }
 {
     let name = words.name()?;
@@ -56,7 +56,7 @@ pub(crate) fn race<'a>(mut words: Words<'a>) -> Option<Line<'a>>
 
 /// `cand NAME`
 pub(crate) fn cand<'a>(mut words: Words<'a>) -> Option<Line<'a>>
-    ensures exact { option_map said result ≡ cand_of words.entry }
+    ensures exact { option_map said result ≡ read_cand words.entry }
     ensures zeros { IfSome result HasZeros }
 {
     let name = words.name()?;
@@ -65,7 +65,7 @@ pub(crate) fn cand<'a>(mut words: Words<'a>) -> Option<Line<'a>>
 
 /// `style NAME R ..`
 pub(crate) fn style<'a>(mut words: Words<'a>) -> Option<Line<'a>>
-    ensures exact { option_map said result ≡ style_of words.entry }
+    ensures exact { option_map said result ≡ read_style words.entry }
     ensures zeros { IfSome result HasZeros }
 {
     let name = words.name()?;
@@ -75,7 +75,7 @@ pub(crate) fn style<'a>(mut words: Words<'a>) -> Option<Line<'a>>
 
 /// `ballots S COUNT`
 pub(crate) fn ballots<'a>(mut words: Words<'a>) -> Option<Line<'a>>
-    ensures exact { option_map said result ≡ ballots_of words.entry }
+    ensures exact { option_map said result ≡ read_ballots words.entry }
     ensures zeros { IfSome result HasZeros }
 {
     let style = words.number()?;

@@ -1,7 +1,7 @@
 //! The lines of results, seals and the draw.
 ghost use Rattle.std.specs.Prelude.{◌≡◌, IfSome};
 ghost use Rattle.std.specs.Option.{option_map};
-ghost use Rattle.sg_forms.specs.Reading.{flags_of, places_of, total_of, seal_of, draw_of};
+ghost use Rattle.sg_forms.specs.Reading.{read_flags, read_places, read_total, read_seal, read_draw};
 ghost use Rattle.sg_forms.specs.Said.{said};
 ghost use Rattle.sg_forms.specs.Zeros.{HasZeros};
 
@@ -11,7 +11,7 @@ use crate::words::{Words, is_word};
 
 /// `flags R I BITS`
 pub(crate) fn flags<'a>(mut words: Words<'a>) -> Option<Line<'a>>
-    ensures exact { option_map said result ≡ flags_of words.entry }
+    ensures exact { option_map said result ≡ read_flags words.entry }
     ensures zeros { IfSome result HasZeros }
 {
     let race = words.number()?;
@@ -26,7 +26,7 @@ pub(crate) fn flags<'a>(mut words: Words<'a>) -> Option<Line<'a>>
 
 /// `places R BITS`
 pub(crate) fn places<'a>(mut words: Words<'a>) -> Option<Line<'a>>
-    ensures exact { option_map said result ≡ places_of words.entry }
+    ensures exact { option_map said result ≡ read_places words.entry }
     ensures zeros { IfSome result HasZeros }
 {
     let race = words.number()?;
@@ -36,7 +36,7 @@ pub(crate) fn places<'a>(mut words: Words<'a>) -> Option<Line<'a>>
 
 /// `total R J COUNT`
 pub(crate) fn total<'a>(mut words: Words<'a>) -> Option<Line<'a>>
-    ensures exact { option_map said result ≡ total_of words.entry }
+    ensures exact { option_map said result ≡ read_total words.entry }
     ensures zeros { IfSome result HasZeros }
 {
     let race = words.number()?;
@@ -51,7 +51,7 @@ pub(crate) fn total<'a>(mut words: Words<'a>) -> Option<Line<'a>>
 
 /// `seal N HEX`
 pub(crate) fn seal<'a>(mut words: Words<'a>) -> Option<Line<'a>>
-    ensures exact { option_map said result ≡ seal_of words.entry }
+    ensures exact { option_map said result ≡ read_seal words.entry }
     ensures zeros { IfSome result HasZeros }
 {
     let number = words.number()?;
@@ -61,7 +61,7 @@ pub(crate) fn seal<'a>(mut words: Words<'a>) -> Option<Line<'a>>
 
 /// `draw full` or `draw HEX`
 pub(crate) fn draw<'a>(mut words: Words<'a>) -> Option<Line<'a>>
-    ensures exact { option_map said result ≡ draw_of words.entry }
+    ensures exact { option_map said result ≡ read_draw words.entry }
     ensures zeros { IfSome result HasZeros }
 {
     let word = words.word()?;

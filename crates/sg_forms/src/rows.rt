@@ -1,7 +1,7 @@
 //! The lines of rows and entries: their commitments, and what is opened of a row.
 ghost use Rattle.std.specs.Prelude.{◌≡◌, IfSome};
 ghost use Rattle.std.specs.Option.{option_map};
-ghost use Rattle.sg_forms.specs.Reading.{code_commit_of, row_commit_of, left_of, right_of, both_of};
+ghost use Rattle.sg_forms.specs.Reading.{read_code_commit, read_row_commit, read_left, read_right, read_both};
 ghost use Rattle.sg_forms.specs.Said.{said};
 ghost use Rattle.sg_forms.specs.Zeros.{HasZeros};
 
@@ -12,7 +12,7 @@ use sg_commit::Opening;
 /// `code-commit R HEX`
 #[inline(always)]
 pub(crate) fn code_commit<'a>(mut words: Words<'a>) -> Option<Line<'a>>
-    ensures exact { option_map said result ≡ code_commit_of words.entry }
+    ensures exact { option_map said result ≡ read_code_commit words.entry }
     ensures zeros { IfSome result HasZeros }
 {
     let race = words.number()?;
@@ -23,7 +23,7 @@ pub(crate) fn code_commit<'a>(mut words: Words<'a>) -> Option<Line<'a>>
 /// `row-commit R I HEX HEX`
 #[inline(always)]
 pub(crate) fn row_commit<'a>(mut words: Words<'a>) -> Option<Line<'a>>
-    ensures exact { option_map said result ≡ row_commit_of words.entry }
+    ensures exact { option_map said result ≡ read_row_commit words.entry }
     ensures zeros { IfSome result HasZeros }
 {
     let race = words.number()?;
@@ -40,7 +40,7 @@ pub(crate) fn row_commit<'a>(mut words: Words<'a>) -> Option<Line<'a>>
 
 /// `left KEY Q`
 pub(crate) fn left<'a>(mut words: Words<'a>) -> Option<Line<'a>>
-    ensures exact { option_map said result ≡ left_of words.entry }
+    ensures exact { option_map said result ≡ read_left words.entry }
     ensures zeros { IfSome result HasZeros }
 {
     let key = words.key()?;
@@ -50,7 +50,7 @@ pub(crate) fn left<'a>(mut words: Words<'a>) -> Option<Line<'a>>
 
 /// `right KEY S`
 pub(crate) fn right<'a>(mut words: Words<'a>) -> Option<Line<'a>>
-    ensures exact { option_map said result ≡ right_of words.entry }
+    ensures exact { option_map said result ≡ read_right words.entry }
     ensures zeros { IfSome result HasZeros }
 {
     let key = words.key()?;
@@ -60,7 +60,7 @@ pub(crate) fn right<'a>(mut words: Words<'a>) -> Option<Line<'a>>
 
 /// `both KEY Q KEY S`
 pub(crate) fn both<'a>(mut words: Words<'a>) -> Option<Line<'a>>
-    ensures exact { option_map said result ≡ both_of words.entry }
+    ensures exact { option_map said result ≡ read_both words.entry }
     ensures zeros { IfSome result HasZeros }
 {
     let key = words.key()?;

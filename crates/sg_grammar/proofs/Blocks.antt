@@ -11,10 +11,10 @@ use Rattle.std.proofs.lemmas.Option.{slice_get-get_or}
 use Rattle.sg_plan.specs.Ballots.{ballot_has, ballot_styles, ballots_of, candidates_of, entries_before, entries_of, rows_of, style_has, style_of_ballot}
 use Rattle.sg_plan.specs.declared.plan.Plan.{Plan}
 use Rattle.sg_grammar.proofs.Sections.{entries-rows, race_codes-length}
-use Rattle.sg_grammar.specs.Due.{numbered, each, audit, ballot_codes, ballot_paper, race_codes}
+use Rattle.sg_grammar.specs.Due.{numbered, each, due_audit, ballot_codes, ballot_paper, race_codes}
 use Rattle.sg_grammar.specs.Left.{block_left, block_lines, blocks_left, lines_before, lines_from, lines_in, lines_of}
 use Rattle.sg_grammar.specs.Made.{HasSizes}
-use Rattle.sg_grammar.specs.Walk.{in_order}
+use Rattle.sg_grammar.specs.Walk.{follows_in_order}
 use Rattle.sg_grammar.specs.declared.state.Block.TheVariants as block
 use Rattle.sg_grammar.specs.declared.state.Slot.TheVariants as slot
 
@@ -66,7 +66,7 @@ lines-here plan style race has = cond-true (style_has plan race style) (candidat
 
 -- a later column leaves fewer
 column-falls : (plan : Plan) (style race column next_race next_column : ℕ) → style_has plan next_race style ≡ true → next_race < length plan.races
-    → next_column < candidates_of plan next_race → in_order race column next_race next_column ≡ true
+    → next_column < candidates_of plan next_race → follows_in_order race column next_race next_column ≡ true
     → lines_from plan next_race (next_column + 1) style < lines_from plan race column style
 column-falls plan style race column next_race next_column has within below order =
     let here = lines-here plan style next_race has in
@@ -99,7 +99,7 @@ over-falls plan style race column next_race has within le =
 
 -- the same, in the block of a ballot that has the race
 pub codes-fall : (plan : Plan) (ballot race column next_race next_column : ℕ) → ballot_has plan ballot next_race ≡ true
-    → next_race < length plan.races → next_column < candidates_of plan next_race → in_order race column next_race next_column ≡ true
+    → next_race < length plan.races → next_column < candidates_of plan next_race → follows_in_order race column next_race next_column ≡ true
     → block_left plan ballot next_race (next_column + 1) < block_left plan ballot race column
 codes-fall plan ballot race column next_race next_column has within below order = at_style (style_of_ballot plan ballot) has
   where
@@ -120,9 +120,9 @@ overs-fall plan ballot race column next_race has within le = at_style (style_of_
 -- THE BLOCK OF AN AUDITED BALLOT
 
 -- the paper and the codes of a race
-audit-race : (plan : Plan) (ballot race : ℕ)
+due_audit-race : (plan : Plan) (ballot race : ℕ)
     → length (ballot_paper plan ballot race) + length (ballot_codes plan ballot race) ≤ (if ballot_has plan ballot race then candidates_of plan race + 1 else 0)
-audit-race plan ballot race = at_test (ballot_has plan ballot race)
+due_audit-race plan ballot race = at_test (ballot_has plan ballot race)
   where
     at_test : (b : Bool) → length (cond b (slot.Paper ballot race (candidates_of plan race) ∷ []) []) + length (cond b (race_codes plan block.Audited ballot race) [])
         ≤ cond b (candidates_of plan race + 1) 0
@@ -130,13 +130,13 @@ audit-race plan ballot race = at_test (ballot_has plan ballot race)
     at_test false = omega arith
 
 -- those of so many races
-audit-races : (plan : Plan) (ballot style at count : ℕ) → ((race : ℕ) → ballot_has plan ballot race ≡ style_has plan race style)
+due_audit-races : (plan : Plan) (ballot style at count : ℕ) → ((race : ℕ) → ballot_has plan ballot race ≡ style_has plan race style)
     → length (numbered (ballot_paper plan ballot) at count) + length (numbered (ballot_codes plan ballot) at count) + lines_before plan style at ≤ lines_before plan style (at + count)
 unfolding numbered
-audit-races plan ballot style at zero has =
+due_audit-races plan ballot style at zero has =
     let same : at + 0 ≡ at = omega arith in
     rw same (omega arith)
-audit-races plan ballot style at (suc count) has =
+due_audit-races plan ballot style at (suc count) has =
     let next : lines_before plan style (at + 1) ≡ lines_before plan style (suc at) = let same : at + 1 ≡ suc at = omega arith in ap (λ r. lines_before plan style r) same in
     let end : lines_before plan style ((at + 1) + count) ≡ lines_before plan style (at + suc count)
     = let same : (at + 1) + count ≡ at + suc count = omega arith in ap (λ r. lines_before plan style r) same in
@@ -146,21 +146,21 @@ audit-races plan ballot style at (suc count) has =
       next,
       end,
       here,
-      audit-race plan ballot at,
-      audit-races plan ballot style (at + 1) count has,
+      due_audit-race plan ballot at,
+      due_audit-races plan ballot style (at + 1) count has,
       length-append (ballot_paper plan ballot at) (numbered (ballot_paper plan ballot) (at + 1) count),
       length-append (ballot_codes plan ballot at) (numbered (ballot_codes plan ballot) (at + 1) count),
     )
 
 -- an audited ballot has no more lines behind its first one than a cast one may have
-audit-style : (plan : Plan) (ballot style : ℕ) → style_of_ballot plan ballot ≡ Some style → length (audit plan ballot) ≤ lines_of plan style
-audit-style plan ballot style is =
+due_audit-style : (plan : Plan) (ballot style : ℕ) → style_of_ballot plan ballot ≡ Some style → length (due_audit plan ballot) ≤ lines_of plan style
+due_audit-style plan ballot style is =
     let count : length plan.races - 0 ≡ length plan.races = omega arith in
     let end : lines_before plan style (0 + (length plan.races - 0)) ≡ lines_of plan style = let same : 0 + (length plan.races - 0) ≡ length plan.races = omega arith in ap (λ r. lines_before plan style r) same in
     omega (
       arith,
       end,
-      audit-races plan ballot style 0 (length plan.races - 0) (λ race. ap (λ o. option_map_or (style_has plan race) o false) is),
+      due_audit-races plan ballot style 0 (length plan.races - 0) (λ race. ap (λ o. option_map_or (style_has plan race) o false) is),
       length-append (each (ballot_paper plan ballot) 0 (length plan.races)) (each (ballot_codes plan ballot) 0 (length plan.races)),
     )
 
@@ -173,11 +173,11 @@ style_there plan ballot some within =
     ∙ slice_get-get_or (ballot_styles plan.runs) (ballot - 1) 0 (omega arith)
 
 -- an audited ballot has no more lines behind its first one than a cast one may have
-pub audit-length : (plan : Plan) (ballot : ℕ) → 0 < ballot → ballot ≤ ballots_of plan → length (audit plan ballot) ≤ block_left plan ballot 0 0
-audit-length plan ballot some within =
+pub due_audit-length : (plan : Plan) (ballot : ℕ) → 0 < ballot → ballot ≤ ballots_of plan → length (due_audit plan ballot) ≤ block_left plan ballot 0 0
+due_audit-length plan ballot some within =
     let there = style_there plan ballot some within in
     let lines : block_left plan ballot 0 0 ≡ lines_from plan 0 0 (get_or (ballot_styles plan.runs) (ballot - 1) 0) = ap (λ o. option_map_or (lines_from plan 0 0) o 0) there in
-    omega (arith, lines, audit-style plan ballot (get_or (ballot_styles plan.runs) (ballot - 1) 0) there)
+    omega (arith, lines, due_audit-style plan ballot (get_or (ballot_styles plan.runs) (ballot - 1) 0) there)
 
 -- a later ballot leaves fewer
 pub blocks-fall : (plan : Plan) (last ballot : ℕ) → last < ballot → ballot ≤ ballots_of plan → block_left plan ballot 0 0 + blocks_left plan ballot < blocks_left plan last

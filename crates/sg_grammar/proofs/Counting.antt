@@ -13,18 +13,18 @@ use Rattle.sg_plan.specs.declared.plan.Plan.{Plan}
 use Rattle.sg_plan.specs.declared.plan.Race.{Race as PlanRace}
 use Rattle.sg_forms.specs.Said.{Said}
 use Rattle.sg_forms.specs.Said.Said.{Audited, Ballots, Cand, Cast, Code, Dispute, Election, Instances, Over, Race, Spoiled, Style, Version, Voided}
-use Rattle.sg_grammar.proofs.Blocks.{audit-length, blocks-fall, blocks-length, codes-fall, overs-fall}
+use Rattle.sg_grammar.proofs.Blocks.{due_audit-length, blocks-fall, blocks-length, codes-fall, overs-fall}
 use Rattle.sg_grammar.proofs.Claims.{if_some, if_then-claim, option_map-some}
 use Rattle.sg_grammar.proofs.FirstLines.{take_bytes-line, walk-first, walk-none}
 use Rattle.sg_grammar.proofs.Making.{candidates_within, complete-sizes, length-with_candidate, made-line, made-start}
 use Rattle.sg_grammar.proofs.Sections.{commits-length, race_codes-length, results-length}
-use Rattle.sg_grammar.specs.Due.{audit, commits, race_codes, results}
-use Rattle.sg_grammar.specs.Head.{Making, behind_candidate, candidate_line, election_line, head_line, instances_line, last_candidates, later_style_line, made, race_line, run_line, style_line, version_line, with_cand, with_instances, with_name, with_race, with_run, with_style, with_version}
+use Rattle.sg_grammar.specs.Due.{due_audit, commits, race_codes, results}
+use Rattle.sg_grammar.specs.Head.{Making, behind_candidate, candidate_line, election_line, head_line, instances_line, last_candidates, later_style_line, made, race_line, take_run, take_style, version_line, with_cand, with_instances, with_name, with_race, with_run, with_style, with_version}
 use Rattle.sg_grammar.specs.Left.{block_left, blocks_left, body_left, disputes_left, left_at, lines_left, most_lines, part_left, results_left}
 use Rattle.sg_grammar.specs.Made.{HasSizes, IsComplete, IsMade}
 use Rattle.sg_grammar.specs.Placed.{Placed}
 use Rattle.sg_grammar.specs.Placed.Placed.{Begun, CodeAt, Disputed, OverAt}
-use Rattle.sg_grammar.specs.Walk.{Next, Taken, Walked, after_block, after_dispute, after_run, begins, behind, body_line, first_of, headed, in_cast, in_head, in_order, is_column, is_later, is_race_left, place, start, take_at, take_line, taking, took, walk}
+use Rattle.sg_grammar.specs.Walk.{Next, Taken, Walked, after_block, after_dispute, after_run, begins, behind, body_line, first_taken, headed, in_cast, in_head, follows_in_order, is_column, is_later, is_race_left, place, start, take_at, take_line, taking, took, walk}
 use Rattle.sg_grammar.specs.declared.state.Block.TheVariants as block
 use Rattle.sg_grammar.specs.declared.state.Head.{Head}
 use Rattle.sg_grammar.specs.declared.state.Head.TheVariants as head
@@ -54,9 +54,9 @@ taking-falls plan due may_begin most None t less e = cc
 taking-falls plan due may_begin most (Some line) t less e =
     subst (λ (x : Taken). Falls plan most x) (same_Some (took line (behind plan due may_begin)) t e) (falls-took plan due may_begin most line less)
 
-first_of-falls : (plan : Plan) (slots : List Slot) (said : Said) (t : Taken) → first_of plan slots said ≡ Some t → Falls plan (length slots + disputes_left 0) t
-first_of-falls plan [] said t e = cc
-first_of-falls plan (slot ∷ due) said t e = taking-falls plan due (part.Disputes 0) (length (slot ∷ due) + disputes_left 0) (place slot said) t (omega arith) e
+first_taken-falls : (plan : Plan) (slots : List Slot) (said : Said) (t : Taken) → first_taken plan slots said ≡ Some t → Falls plan (length slots + disputes_left 0) t
+first_taken-falls plan [] said t e = cc
+first_taken-falls plan (slot ∷ due) said t e = taking-falls plan due (part.Disputes 0) (length (slot ∷ due) + disputes_left 0) (place slot said) t (omega arith) e
 
 -- a block of a later ballot, which has no more lines than one of a cast ballot may have
 begun-falls : (plan : Plan) (last ballot : ℕ) (due : List Slot) (may_begin : Part) → is_later plan last ballot ≡ true
@@ -69,11 +69,11 @@ begun-falls plan last ballot due may_begin later few =
 
 -- the block of an audited ballot
 audited-falls : (plan : Plan) (last ballot : ℕ) → is_later plan last ballot ≡ true
-    → Falls plan (blocks_left plan last + results_left plan) (took (Begun ballot) (behind plan (audit plan ballot) (part.Ballots ballot)))
+    → Falls plan (blocks_left plan last + results_left plan) (took (Begun ballot) (behind plan (due_audit plan ballot) (part.Ballots ballot)))
 audited-falls plan last ballot later =
     let parts = and_parts (nat_lt last ballot) (nat_le ballot (ballots_of plan)) later in
-    let few = audit-length plan ballot (omega (arith, ltb-true last ballot parts.0)) (leb-true ballot (ballots_of plan) parts.1) in
-    begun-falls plan last ballot (audit plan ballot) (part.Ballots ballot) later (omega (arith, few))
+    let few = due_audit-length plan ballot (omega (arith, ltb-true last ballot parts.0)) (leb-true ballot (ballots_of plan) parts.1) in
+    begun-falls plan last ballot (due_audit plan ballot) (part.Ballots ballot) later (omega (arith, few))
 
 after_block-falls : (plan : Plan) (last : ℕ) (said : Said) (t : Taken) → after_block plan last said ≡ Some t → Falls plan (blocks_left plan last + results_left plan) t
 after_block-falls plan last (Cast ballot) t e =
@@ -84,23 +84,23 @@ after_block-falls plan last (Spoiled ballot) t e =
     (λ later. begun-falls plan last ballot [] (part.Ballots ballot) later (omega arith)) e
 after_block-falls plan last (Audited ballot) t e =
     if_then-claim (λ x. Falls plan (blocks_left plan last + results_left plan) x) (is_later plan last ballot)
-    (took (Begun ballot) (behind plan (audit plan ballot) (part.Ballots ballot))) t (audited-falls plan last ballot) e
+    (took (Begun ballot) (behind plan (due_audit plan ballot) (part.Ballots ballot))) t (audited-falls plan last ballot) e
 after_block-falls plan last (Voided ballot) t e =
     if_then-claim (λ x. Falls plan (blocks_left plan last + results_left plan) x) (plan.version == 2 && is_later plan last ballot)
     (took (Begun ballot) (behind plan [] (part.Ballots ballot))) t
     (λ ok. begun-falls plan last ballot [] (part.Ballots ballot) (and_parts (plan.version == 2) (is_later plan last ballot) ok).1 (omega arith)) e
 after_block-falls plan last said t e =
-    falls-more plan (results_left plan) (blocks_left plan last + results_left plan) t (omega arith) (first_of-falls plan (results plan) said t e)
+    falls-more plan (results_left plan) (blocks_left plan last + results_left plan) t (omega arith) (first_taken-falls plan (results plan) said t e)
 
 -- what is left in the block of a ballot, and behind it
 abbrev cast_left : Plan → ℕ → ℕ → ℕ → ℕ
 cast_left plan ballot race column = block_left plan ballot race column + (blocks_left plan ballot + results_left plan)
 
 code-falls : (plan : Plan) (ballot race column next_race next_column : ℕ) (placed : Placed)
-    → (is_column plan ballot next_race next_column && in_order race column next_race next_column) ≡ true
+    → (is_column plan ballot next_race next_column && follows_in_order race column next_race next_column) ≡ true
     → Falls plan (cast_left plan ballot race column) (took placed (behind plan [] (part.Cast ballot next_race (next_column + 1))))
 code-falls plan ballot race column next_race next_column placed test =
-    let parts = and_parts (is_column plan ballot next_race next_column) (in_order race column next_race next_column) test in
+    let parts = and_parts (is_column plan ballot next_race next_column) (follows_in_order race column next_race next_column) test in
     let columns = and_parts (ballot_has plan ballot next_race) (nat_lt next_column (candidates_of plan next_race)) parts.0 in
     let below = ltb-true next_column (candidates_of plan next_race) columns.1 in
     let within = candidates_within plan next_race (omega (arith, below)) in
@@ -117,7 +117,7 @@ over-falls plan ballot race column next_race test =
 
 in_cast-falls : (plan : Plan) (ballot race column : ℕ) (said : Said) (t : Taken) → in_cast plan ballot race column said ≡ Some t → Falls plan (cast_left plan ballot race column) t
 in_cast-falls plan ballot race column (Code code) t e =
-    if_then-claim (λ x. Falls plan (cast_left plan ballot race column) x) (is_column plan ballot code.race code.column && in_order race column code.race code.column)
+    if_then-claim (λ x. Falls plan (cast_left plan ballot race column) x) (is_column plan ballot code.race code.column && follows_in_order race column code.race code.column)
     (took (CodeAt block.Cast ballot code.race code.column code) (behind plan [] (part.Cast ballot code.race (code.column + 1)))) t
     (code-falls plan ballot race column code.race code.column (CodeAt block.Cast ballot code.race code.column code)) e
 in_cast-falls plan ballot race column (Over next_race) t e =
@@ -176,13 +176,13 @@ instances_line-falls plan (Instances instances) m e =
     if_then-claim (λ x. making_left x < left_at plan head.Instances [] (part.Ballots 0)) (is_within 1 most_instances instances) (made (with_instances plan instances) head.Races) m (λ ok. omega arith) e
 instances_line-falls plan said m e = cc
 
-style_line-falls : (plan : Plan) (said : Said) (m : Making) → style_line plan said ≡ Some m → making_left m < left_at plan head.Styles [] (part.Ballots 0)
-style_line-falls plan (Style name races) m e =
+take_style-falls : (plan : Plan) (said : Said) (m : Making) → take_style plan said ≡ Some m → making_left m < left_at plan head.Styles [] (part.Ballots 0)
+take_style-falls plan (Style name races) m e =
     if_then-claim (λ x. making_left x < left_at plan head.Styles [] (part.Ballots 0))
     (nat_lt (length plan.styles) most_styles && style_keeps (length plan.races) plan.styles (record { name = name; races = races })) (made (with_style plan name races) head.Styles) m
     (λ ok. let parts = and_parts (nat_lt (length plan.styles) most_styles) (style_keeps (length plan.races) plan.styles (record { name = name; races = races })) ok in
     omega (arith, ltb-true (length plan.styles) most_styles parts.0, length-append plan.styles (record { name = name; races = races } ∷ []))) e
-style_line-falls plan said m e = cc
+take_style-falls plan said m e = cc
 
 -- a race that keeps its limits has at most 16 candidates
 few_candidates : (earlier : List PlanRace) (name : List ℕ) (candidates votes : ℕ) → race_head_keeps earlier name candidates votes ≡ true → candidates ≤ 16
@@ -202,7 +202,7 @@ race_line-falls plan (Race name candidates votes) m e =
       length-append plan.races (record { name = name; candidates = []; votes = votes } ∷ []),
     )) e
 race_line-falls plan (Style name races) m e =
-    omega (arith, style_line-falls plan (Style name races) m (if_some (nat_lt 0 (length plan.races)) (style_line plan (Style name races)) m e))
+    omega (arith, take_style-falls plan (Style name races) m (if_some (nat_lt 0 (length plan.races)) (take_style plan (Style name races)) m e))
 race_line-falls plan said m e = cc
 
 candidate_line-falls : (left : ℕ) (plan : Plan) (said : Said) (m : Making) → 1 ≤ left → candidate_line left plan said ≡ Some m
@@ -215,18 +215,18 @@ candidate_line-falls left plan (Cand name) m some e =
     ]) e
 candidate_line-falls left plan said m some e = cc
 
-run_line-falls : (plan : Plan) (said : Said) (m : Making) → run_line plan said ≡ Some m → making_left m < left_at plan head.Runs [] (part.Ballots 0)
-run_line-falls plan (Ballots style count) m e =
+take_run-falls : (plan : Plan) (said : Said) (m : Making) → take_run plan said ≡ Some m → making_left m < left_at plan head.Runs [] (part.Ballots 0)
+take_run-falls plan (Ballots style count) m e =
     if_then-claim (λ x. making_left x < left_at plan head.Runs [] (part.Ballots 0))
     (run_keeps (length plan.styles) plan.runs (record { style = style; count = count }) && nat_le (r_rows (with_run plan style count)) 200000) (made (with_run plan style count) head.Runs) m
     (λ ok. let run = run_keeps-true (length plan.styles) plan.runs (record { style = style; count = count })
     (and_parts (run_keeps (length plan.styles) plan.runs (record { style = style; count = count })) (nat_le (r_rows (with_run plan style count)) 200000) ok).0 in
     omega (arith, run.some, run.most, count-push plan.runs (record { style = style; count = count }))) e
-run_line-falls plan said m e = cc
+take_run-falls plan said m e = cc
 
 later_style_line-falls : (plan : Plan) (said : Said) (m : Making) → later_style_line plan said ≡ Some m → making_left m < left_at plan head.Styles [] (part.Ballots 0)
-later_style_line-falls plan (Style name races) m e = style_line-falls plan (Style name races) m e
-later_style_line-falls plan said m e = omega (arith, run_line-falls plan said m e)
+later_style_line-falls plan (Style name races) m e = take_style-falls plan (Style name races) m e
+later_style_line-falls plan said m e = omega (arith, take_run-falls plan said m e)
 
 pub head_line-falls : (plan : Plan) (stage : Head) (said : Said) (m : Making) (due : List Slot) (may_begin : Part) → IsMade plan stage → head_line plan stage said ≡ Some m
     → making_left m < left_at plan stage due may_begin
@@ -236,7 +236,7 @@ head_line-falls plan head.Instances said m due may_begin kept e = instances_line
 head_line-falls plan head.Races said m due may_begin kept e = race_line-falls plan said m e
 head_line-falls plan (head.Candidates left) said m due may_begin kept e = candidate_line-falls left plan said m kept.stands.1.some e
 head_line-falls plan head.Styles said m due may_begin kept e = later_style_line-falls plan said m e
-head_line-falls plan head.Runs said m due may_begin kept e = run_line-falls plan said m e
+head_line-falls plan head.Runs said m due may_begin kept e = take_run-falls plan said m e
 head_line-falls plan head.Whole said m due may_begin kept e = cc
 
 -- THE WALK

@@ -8,7 +8,7 @@ use Rattle.sg_plan.specs.declared.plan.Plan.{Plan}
 use Rattle.sg_forms.specs.Said.{Said}
 use Rattle.sg_forms.specs.Said.Said.{Code, CodeCommit, DrawFull, DrawPublic, Flags, Paper, Places, Row, RowCommit, Seal, Total}
 use Rattle.sg_grammar.proofs.Claims.{if_then-claim}
-use Rattle.sg_grammar.specs.Due.{bits_on, each, flag_line, instance_flags, instance_rows, lines_for, place_line, race_places, race_results, race_rows, race_totals, results, row_opening, total_line}
+use Rattle.sg_grammar.specs.Due.{bits_on, each, due_flags, instance_flags, instance_rows, lines_for, due_places, race_places, race_results, race_rows, race_totals, results, row_opening, due_totals}
 use Rattle.sg_grammar.specs.Placed.{Placed}
 use Rattle.sg_grammar.specs.Placed.Placed.{CodeAt, CodeCommitAt, DrawnFull, DrawnPublic, FlagsAt, PaperAt, PlacesAt, RowAt, RowCommitAt, SealAt, TotalAt}
 use Rattle.sg_grammar.specs.Walk.{place}
@@ -183,19 +183,19 @@ nothing (x ∷ xs) = nothing xs
 module _ (plan : Plan) where
   places_apart : (race : ℕ) → Apart slot_clash (race_places plan race)
   places_apart race =
-      apart-numbered slot_clash (place_line plan race) 0 (lines_for (entries_of plan race) - 0) (λ k. (refl, tt)) (λ k j less. (later k j less, tt))
+      apart-numbered slot_clash (due_places plan race) 0 (lines_for (entries_of plan race) - 0) (λ k. (refl, tt)) (λ k j less. (later k j less, tt))
     where
-      later : (k j : ℕ) → k < j → None_of (slot_clash (slot.Places race k (bits_on (entries_of plan race) k))) (place_line plan race j)
+      later : (k j : ℕ) → k < j → None_of (slot_clash (slot.Places race k (bits_on (entries_of plan race) k))) (due_places plan race j)
       later k j less =
           or_from _ false (and_right (race == race) (nat_lt (64 * j) (64 * k + bits_on (entries_of plan race) k)) (le-ltb (64 * j) (64 * k + bits_on (entries_of plan race) k) (omega (arith, less)))) refl
 
   flags_bar_none : (race : ℕ) → None_of is_bar (each (instance_flags plan race) 0 plan.instances)
   flags_bar_none race =
       none-numbered is_bar (instance_flags plan race) 0 (plan.instances - 0) (λ instance.
-      none-numbered is_bar (flag_line plan race instance) 0 (lines_for (entries_of plan race) - 0) (λ k. refl))
+      none-numbered is_bar (due_flags plan race instance) 0 (lines_for (entries_of plan race) - 0) (λ k. refl))
 
   totals_unbarred : (race : ℕ) → None_of is_barred (race_totals plan race)
-  totals_unbarred race = none-numbered is_barred (total_line race) 0 (candidates_of plan race - 0) (λ k. refl)
+  totals_unbarred race = none-numbered is_barred (due_totals race) 0 (candidates_of plan race - 0) (λ k. refl)
 
   race_apart : (race : ℕ) → Apart slot_clash (race_results plan race)
   race_apart race =
@@ -204,18 +204,18 @@ module _ (plan : Plan) where
       apart-append slot_clash flags rest
       (apart-by slot_clash is_bar (λ s. false) flags (λ x y e d. bars_none x y e) (flags_bar_none race) (nothing flags))
       (apart-append slot_clash (race_places plan race) (race_totals plan race) (places_apart race)
-      (apart-by slot_clash is_draw is_barred (race_totals plan race) unbarred_none (none-numbered is_draw (total_line race) 0 (candidates_of plan race - 0) (λ k. refl)) (totals_unbarred race))
-      (cross-by slot_clash is_draw is_barred (race_places plan race) (race_totals plan race) unbarred_none (none-numbered is_draw (place_line plan race) 0 (lines_for (entries_of plan race) - 0) (λ k. refl)) (totals_unbarred race)))
+      (apart-by slot_clash is_draw is_barred (race_totals plan race) unbarred_none (none-numbered is_draw (due_totals race) 0 (candidates_of plan race - 0) (λ k. refl)) (totals_unbarred race))
+      (cross-by slot_clash is_draw is_barred (race_places plan race) (race_totals plan race) unbarred_none (none-numbered is_draw (due_places plan race) 0 (lines_for (entries_of plan race) - 0) (λ k. refl)) (totals_unbarred race)))
       (cross-by slot_clash is_bar (λ s. false) flags rest (λ x y e d. bars_none x y e) (flags_bar_none race) (nothing rest))
 
   race_own : (race : ℕ) → None_of (is_other race) (race_results plan race)
   race_own race =
       none-append (is_other race) (each (instance_flags plan race) 0 plan.instances) (race_places plan race ++ race_totals plan race)
       (none-numbered (is_other race) (instance_flags plan race) 0 (plan.instances - 0) (λ instance.
-      none-numbered (is_other race) (flag_line plan race instance) 0 (lines_for (entries_of plan race) - 0) (λ k. refl)))
+      none-numbered (is_other race) (due_flags plan race instance) 0 (lines_for (entries_of plan race) - 0) (λ k. refl)))
       (none-append (is_other race) (race_places plan race) (race_totals plan race)
-      (none-numbered (is_other race) (place_line plan race) 0 (lines_for (entries_of plan race) - 0) (λ k. or_from _ false own refl))
-      (none-numbered (is_other race) (total_line race) 0 (candidates_of plan race - 0) (λ k. or_from _ false own refl)))
+      (none-numbered (is_other race) (due_places plan race) 0 (lines_for (entries_of plan race) - 0) (λ k. or_from _ false own refl))
+      (none-numbered (is_other race) (due_totals race) 0 (candidates_of plan race - 0) (λ k. or_from _ false own refl)))
     where
       own : not (race == race) ≡ false
       own = ap (λ (b : Bool). not b) (eq-eqb race race refl)
@@ -225,10 +225,10 @@ module _ (plan : Plan) where
       none-numbered is_row (race_results plan) 0 (length plan.races - 0) (λ race.
       none-append is_row (each (instance_flags plan race) 0 plan.instances) (race_places plan race ++ race_totals plan race)
       (none-numbered is_row (instance_flags plan race) 0 (plan.instances - 0) (λ instance.
-      none-numbered is_row (flag_line plan race instance) 0 (lines_for (entries_of plan race) - 0) (λ k. refl)))
+      none-numbered is_row (due_flags plan race instance) 0 (lines_for (entries_of plan race) - 0) (λ k. refl)))
       (none-append is_row (race_places plan race) (race_totals plan race)
-      (none-numbered is_row (place_line plan race) 0 (lines_for (entries_of plan race) - 0) (λ k. refl))
-      (none-numbered is_row (total_line race) 0 (candidates_of plan race - 0) (λ k. refl))))
+      (none-numbered is_row (due_places plan race) 0 (lines_for (entries_of plan race) - 0) (λ k. refl))
+      (none-numbered is_row (due_totals race) 0 (candidates_of plan race - 0) (λ k. refl))))
 
   -- the rows and the seal behind them
   abbrev last_lines : List Slot

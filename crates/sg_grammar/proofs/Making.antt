@@ -24,7 +24,7 @@ use Rattle.sg_plan.specs.declared.plan.Style.{Style as PlanStyle}
 use Rattle.sg_forms.specs.Said.{Said}
 use Rattle.sg_forms.specs.Said.Said.{Ballots, Cand, Election, Instances, Race, Style, Version}
 use Rattle.sg_grammar.proofs.Claims.{if_some, if_then-claim, is_none-None}
-use Rattle.sg_grammar.specs.Head.{Making, behind_candidate, candidate_line, election_line, has_runs, head_line, instances_line, last_candidates, later_style_line, made, no_plan, race_line, run_line, style_line, version_line, with_cand, with_candidate, with_instances, with_name, with_race, with_run, with_style, with_version}
+use Rattle.sg_grammar.specs.Head.{Making, behind_candidate, candidate_line, election_line, has_runs, head_line, instances_line, last_candidates, later_style_line, made, no_plan, race_line, take_run, take_style, version_line, with_cand, with_candidate, with_instances, with_name, with_race, with_run, with_style, with_version}
 use Rattle.sg_grammar.specs.Made.{HasFront, HasNoRaces, HasNoStyles, HasRaces, HasRacesBut, HasSizes, HasStyles, IsComplete, IsMade, IsSmall, races_keep_but}
 use Rattle.sg_grammar.specs.declared.state.Head.{Head}
 use Rattle.sg_grammar.specs.declared.state.Head.TheVariants as head
@@ -123,9 +123,9 @@ instances_line-made plan (Instances instances) m version name none e =
 instances_line-made plan said m version name none e = cc
 
 -- a plan with a further style
-style_line-made : (plan : Plan) (name races : List ℕ) (m : Making) → HasFront plan → HasRaces plan → 1 ≤ length plan.races
-    → each_keeps (style_keeps (length plan.races)) [] plan.styles ≡ true → plan.runs ≡ [] → style_line plan (Style name races) ≡ Some m → Goes m
-style_line-made plan name races m front whole one kept none e =
+take_style-made : (plan : Plan) (name races : List ℕ) (m : Making) → HasFront plan → HasRaces plan → 1 ≤ length plan.races
+    → each_keeps (style_keeps (length plan.races)) [] plan.styles ≡ true → plan.runs ≡ [] → take_style plan (Style name races) ≡ Some m → Goes m
+take_style-made plan name races m front whole one kept none e =
     let style : PlanStyle = record { name = name; races = races } in
     if_then-claim Goes (nat_lt (length plan.styles) most_styles && style_keeps (length plan.races) plan.styles style) (made (with_style plan name races) head.Styles) m
     (λ ok.
@@ -168,10 +168,10 @@ race_line-made plan (Race name candidates votes) m front whole none e =
     }) e
 race_line-made plan (Style name races) m front whole none e =
     let some : 1 ≤ length plan.races = some_races plan (length plan.races) m name races e in
-    style_line-made plan name races m front whole some (ap (λ l. each_keeps (style_keeps (length plan.races)) [] l) none.styles) none.runs
-    (if_some (nat_lt 0 (length plan.races)) (style_line plan (Style name races)) m e)
+    take_style-made plan name races m front whole some (ap (λ l. each_keeps (style_keeps (length plan.races)) [] l) none.styles) none.runs
+    (if_some (nat_lt 0 (length plan.races)) (take_style plan (Style name races)) m e)
   where
-    some_races : (p : Plan) (n : ℕ) (x : Making) (word list : List ℕ) → cond (nat_lt 0 n) (style_line p (Style word list)) None ≡ Some x → 1 ≤ n
+    some_races : (p : Plan) (n : ℕ) (x : Making) (word list : List ℕ) → cond (nat_lt 0 n) (take_style p (Style word list)) None ≡ Some x → 1 ≤ n
     some_races p zero x word list none_there = cc
     some_races p (suc n) x word list there = omega arith
 race_line-made plan said m front whole none e = cc
@@ -202,9 +202,9 @@ candidate_line-made left plan (Cand name) m front but none e =
 candidate_line-made left plan said m front but none e = cc
 
 -- a plan with a further run
-run_line-made : (plan : Plan) (said : Said) (m : Making) → HasFront plan → HasRaces plan → HasStyles plan → each_keeps (run_keeps (length plan.styles)) [] plan.runs ≡ true
-    → run_line plan said ≡ Some m → Goes m
-run_line-made plan (Ballots style count) m front whole styles kept e =
+take_run-made : (plan : Plan) (said : Said) (m : Making) → HasFront plan → HasRaces plan → HasStyles plan → each_keeps (run_keeps (length plan.styles)) [] plan.runs ≡ true
+    → take_run plan said ≡ Some m → Goes m
+take_run-made plan (Ballots style count) m front whole styles kept e =
     let run : Run = record { style = style; count = count } in
     if_then-claim Goes (run_keeps (length plan.styles) plan.runs run && nat_le (r_rows (with_run plan style count)) 200000) (made (with_run plan style count) head.Runs) m
     (λ ok.
@@ -222,12 +222,12 @@ run_line-made plan (Ballots style count) m front whole styles kept e =
         };
       };
     }) e
-run_line-made plan said m front whole styles kept e = cc
+take_run-made plan said m front whole styles kept e = cc
 
 later_style_line-made : (plan : Plan) (said : Said) (m : Making) → HasFront plan → HasRaces plan → HasStyles plan → plan.runs ≡ [] → later_style_line plan said ≡ Some m → Goes m
-later_style_line-made plan (Style name races) m front whole styles none e = style_line-made plan name races m front whole styles.one_race styles.keep none e
+later_style_line-made plan (Style name races) m front whole styles none e = take_style-made plan name races m front whole styles.one_race styles.keep none e
 later_style_line-made plan said m front whole styles none e =
-    run_line-made plan said m front whole styles (ap (λ l. each_keeps (run_keeps (length plan.styles)) [] l) none) e
+    take_run-made plan said m front whole styles (ap (λ l. each_keeps (run_keeps (length plan.styles)) [] l) none) e
 
 -- what holds of a plan in the making holds of it with each further line
 pub made-line : (plan : Plan) (stage : Head) (said : Said) (making : Making) → IsMade plan stage → head_line plan stage said ≡ Some making → IsMade making.plan making.head
@@ -237,7 +237,7 @@ made-line plan head.Instances said m kept e = instances_line-made plan said m ke
 made-line plan head.Races said m kept e = race_line-made plan said m kept.stands.0 kept.stands.1 kept.stands.2 e
 made-line plan (head.Candidates left) said m kept e = candidate_line-made left plan said m kept.stands.0 kept.stands.1 kept.stands.2 e
 made-line plan head.Styles said m kept e = later_style_line-made plan said m kept.stands.0 kept.stands.1 kept.stands.2 kept.stands.3 e
-made-line plan head.Runs said m kept e = run_line-made plan said m kept.stands.front kept.stands.races kept.stands.styles kept.stands.runs.keep e
+made-line plan head.Runs said m kept e = take_run-made plan said m kept.stands.front kept.stands.races kept.stands.styles kept.stands.runs.keep e
 made-line plan head.Whole said m kept e = cc
 
 pub ruleset made_so_far = (made-start, made-line)

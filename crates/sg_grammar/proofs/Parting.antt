@@ -11,11 +11,11 @@ use Rattle.sg_forms.specs.Said.{Said}
 use Rattle.sg_forms.specs.Said.Said.{Audited, Ballots, Cast, Code, Dispute, Over, Spoiled, Voided}
 use Rattle.sg_grammar.proofs.Claims.{if_then-claim, option_map-some}
 use Rattle.sg_grammar.proofs.FirstLines.{take_bytes-line, walk-first}
-use Rattle.sg_grammar.specs.Due.{audit, ballot_codes, ballot_paper, code_commit, code_line, commits, each, instance_row_commits, race_code_commits, race_codes, race_row_commits, results, row_commit}
+use Rattle.sg_grammar.specs.Due.{due_audit, ballot_codes, ballot_paper, code_commit, code_line, commits, each, instance_row_commits, race_code_commits, race_codes, race_row_commits, results, row_commit}
 use Rattle.sg_grammar.specs.Head.{head_line}
 use Rattle.sg_grammar.specs.Placed.{Placed}
 use Rattle.sg_grammar.specs.Placed.Placed.{Begun, CodeAt, Disputed, DrawnFull, DrawnPublic, OverAt, PlacesAt, RowAt, TotalAt}
-use Rattle.sg_grammar.specs.Walk.{Next, Taken, Walked, after_block, after_dispute, after_run, begins, behind, body_line, first_of, headed, in_cast, in_head, in_order, is_column, is_later, is_race_left, is_whole, is_whole_at, place, take_at, take_line, took, walk, walked_on}
+use Rattle.sg_grammar.specs.Walk.{Next, Taken, Walked, after_block, after_dispute, after_run, begins, behind, body_line, first_taken, headed, in_cast, in_head, follows_in_order, is_column, is_later, is_race_left, is_whole, is_whole_at, place, take_at, take_line, took, walk, walked_on}
 use Rattle.sg_grammar.specs.declared.state.Block.TheVariants as block
 use Rattle.sg_grammar.specs.declared.state.Head.{Head}
 use Rattle.sg_grammar.specs.declared.state.Head.TheVariants as head
@@ -246,9 +246,9 @@ pub record Begins (t : Taken) : Type 0 where
 abbrev Steps : Taken → Type 0
 Steps t = GoesOn t ⊎ Begins t
 
-first_of-steps : (plan : Plan) (slots : List Slot) (said : Said) (t : Taken) → results plan ≡ slots → first_of plan slots said ≡ Some t → Steps t
-first_of-steps plan [] said t is e = cc
-first_of-steps plan (s ∷ due) said t is e =
+first_taken-steps : (plan : Plan) (slots : List Slot) (said : Said) (t : Taken) → results plan ≡ slots → first_taken plan slots said ≡ Some t → Steps t
+first_taken-steps plan [] said t is e = cc
+first_taken-steps plan (s ∷ due) said t is e =
     let from = option_map-some (λ (x : Placed). took x (behind plan due (part.Disputes 0))) (place s said) t e in
     subst Steps from.2 (inr (record { plan = plan; slot = s; due = due; results_are = is; fills = (said, from.1); next_is = refl }))
 
@@ -261,7 +261,7 @@ commits_free plan =
     none-numbered is_bar (instance_row_commits plan race) 0 (plan.instances - 0) (λ instance. none-numbered is_bar (row_commit race instance) 0 (entries_of plan race - 0) (λ k. refl))))
     refl)
 
-audit_free : (plan : Plan) (ballot : ℕ) → None_of is_bar (audit plan ballot)
+audit_free : (plan : Plan) (ballot : ℕ) → None_of is_bar (due_audit plan ballot)
 audit_free plan ballot =
     none-append is_bar (each (ballot_paper plan ballot) 0 (length plan.races)) (each (ballot_codes plan ballot) 0 (length plan.races))
     (none-numbered is_bar (ballot_paper plan ballot) 0 (length plan.races - 0) (λ race. paper (ballot_has plan ballot race) race))
@@ -281,15 +281,15 @@ after_block-steps plan last (Cast ballot) t e =
 after_block-steps plan last (Spoiled ballot) t e =
     if_then-claim Steps (is_later plan last ballot) (took (Begun ballot) (behind plan [] (part.Ballots ballot))) t (λ ok. inl ((refl, tt), (λ later. refl))) e
 after_block-steps plan last (Audited ballot) t e =
-    if_then-claim Steps (is_later plan last ballot) (took (Begun ballot) (behind plan (audit plan ballot) (part.Ballots ballot))) t
+    if_then-claim Steps (is_later plan last ballot) (took (Begun ballot) (behind plan (due_audit plan ballot) (part.Ballots ballot))) t
     (λ ok. inl ((audit_free plan ballot, tt), (λ later. refl))) e
 after_block-steps plan last (Voided ballot) t e =
     if_then-claim Steps (plan.version == 2 && is_later plan last ballot) (took (Begun ballot) (behind plan [] (part.Ballots ballot))) t (λ ok. inl ((refl, tt), (λ later. refl))) e
-after_block-steps plan last said t e = first_of-steps plan (results plan) said t refl e
+after_block-steps plan last said t e = first_taken-steps plan (results plan) said t refl e
 
 in_cast-steps : (plan : Plan) (ballot race column : ℕ) (said : Said) (t : Taken) → in_cast plan ballot race column said ≡ Some t → Steps t
 in_cast-steps plan ballot race column (Code code) t e =
-    if_then-claim Steps (is_column plan ballot code.race code.column && in_order race column code.race code.column)
+    if_then-claim Steps (is_column plan ballot code.race code.column && follows_in_order race column code.race code.column)
     (took (CodeAt block.Cast ballot code.race code.column code) (behind plan [] (part.Cast ballot code.race (code.column + 1)))) t (λ ok. inl ((refl, tt), (λ later. refl))) e
 in_cast-steps plan ballot race column (Over next_race) t e =
     if_then-claim Steps (is_race_left plan ballot race next_race) (took (OverAt ballot next_race) (behind plan [] (part.Cast ballot (next_race + 1) 0))) t

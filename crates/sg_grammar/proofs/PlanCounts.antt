@@ -15,7 +15,7 @@ use Rattle.sg_plan.specs.declared.plan.Run.{Run}
 use Rattle.sg_forms.specs.Said.{Said}
 use Rattle.sg_forms.specs.Said.Said.{Ballots, Cand, Election, Instances, Race, Style, Version}
 use Rattle.sg_grammar.proofs.Claims.{if_some, if_then-claim}
-use Rattle.sg_grammar.specs.Head.{Making, behind_candidate, candidate_line, election_line, has_runs, head_line, instances_line, last_candidates, later_style_line, made, race_line, run_line, style_line, version_line, with_cand, with_instances, with_name, with_race, with_run, with_style, with_version}
+use Rattle.sg_grammar.specs.Head.{Making, behind_candidate, candidate_line, election_line, has_runs, head_line, instances_line, last_candidates, later_style_line, made, race_line, take_run, take_style, version_line, with_cand, with_instances, with_name, with_race, with_run, with_style, with_version}
 use Rattle.sg_grammar.specs.Made.{IsMade}
 use Rattle.sg_grammar.specs.Slots.{IsCounted, RunFits, TellsEntries, is_run}
 use Rattle.sg_grammar.specs.declared.state.Head.{Head}
@@ -34,8 +34,8 @@ pub record RunStands (plan : Plan) (style count : ℕ) (making : Making) : Type 
   pub keeps : run_keeps (length plan.styles) plan.runs (record { style = style; count = count }) ≡ true
   pub is : making ≡ made (with_run plan style count) head.Runs
 
-run_line-stands : (plan : Plan) (style count : ℕ) (making : Making) → run_line plan (Ballots style count) ≡ Some making → RunStands plan style count making
-run_line-stands plan style count making e =
+take_run-stands : (plan : Plan) (style count : ℕ) (making : Making) → take_run plan (Ballots style count) ≡ Some making → RunStands plan style count making
+take_run-stands plan style count making e =
     let keeps = run_keeps (length plan.styles) plan.runs (record { style = style; count = count }) in
     let rows = nat_le (r_rows (with_run plan style count)) 200000 in
     let parts = cond_some (keeps && rows) (made (with_run plan style count) head.Runs) making e in
@@ -47,8 +47,8 @@ run_stands plan head.Election style count making e = cc
 run_stands plan head.Instances style count making e = cc
 run_stands plan head.Races style count making e = cc
 run_stands plan (head.Candidates left) style count making e = cc
-run_stands plan head.Styles style count making e = run_line-stands plan style count making e
-run_stands plan head.Runs style count making e = run_line-stands plan style count making e
+run_stands plan head.Styles style count making e = take_run-stands plan style count making e
+run_stands plan head.Runs style count making e = take_run-stands plan style count making e
 run_stands plan head.Whole style count making e = cc
 
 -- a run of a style with the race adds its candidates so many times
@@ -115,12 +115,12 @@ early_instances : (plan : Plan) (said : Said) (m : Making) → instances_line pl
 early_instances plan (Instances instances) m e = if_then-claim IsEarly (is_within 1 most_instances instances) (made (with_instances plan instances) head.Races) m (λ _. refl) e
 early_instances plan said m e = cc
 
-early_style : (plan : Plan) (name races : List ℕ) (m : Making) → style_line plan (Style name races) ≡ Some m → IsEarly m
+early_style : (plan : Plan) (name races : List ℕ) (m : Making) → take_style plan (Style name races) ≡ Some m → IsEarly m
 early_style plan name races m e = if_then-claim IsEarly (nat_lt (length plan.styles) most_styles && style_keeps (length plan.races) plan.styles (record { name = name; races = races })) (made (with_style plan name races) head.Styles) m (λ _. refl) e
 
 early_race : (plan : Plan) (said : Said) (m : Making) → race_line plan said ≡ Some m → IsEarly m
 early_race plan (Race name candidates votes) m e = if_then-claim IsEarly (nat_lt (length plan.races) most_races && race_head_keeps plan.races name candidates votes) (made (with_race plan name votes) (head.Candidates candidates)) m (λ _. refl) e
-early_race plan (Style name races) m e = early_style plan name races m (if_some (nat_lt 0 (length plan.races)) (style_line plan (Style name races)) m e)
+early_race plan (Style name races) m e = early_style plan name races m (if_some (nat_lt 0 (length plan.races)) (take_style plan (Style name races)) m e)
 early_race plan said m e = cc
 
 early_candidate : (left : ℕ) (plan : Plan) (said : Said) (m : Making) → candidate_line left plan said ≡ Some m → IsEarly m
@@ -134,7 +134,7 @@ early_later_style plan (Style name races) m other e = early_style plan name race
 early_later_style plan (Ballots style count) m other e = cc
 early_later_style plan said m other e = cc
 
-no_run_line : (plan : Plan) (said : Said) (m : Making) → is_run said ≡ false → run_line plan said ≡ Some m → ⊥
+no_run_line : (plan : Plan) (said : Said) (m : Making) → is_run said ≡ false → take_run plan said ≡ Some m → ⊥
 no_run_line plan (Ballots style count) m other e = cc
 no_run_line plan said m other e = cc
 

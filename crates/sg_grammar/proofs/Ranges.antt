@@ -15,7 +15,7 @@ use Rattle.sg_forms.specs.Spelling.{IsInRange}
 use Rattle.sg_grammar.proofs.Claims.{if_then-claim, option_map-some}
 use Rattle.sg_grammar.proofs.FirstLines.{take_bytes-line, walk-first}
 use Rattle.sg_grammar.proofs.Walking.{take_line-behind, take_line-head, take_line-plan}
-use Rattle.sg_grammar.specs.Due.{audit, ballot_codes, ballot_paper, bits_on, code_commit, code_line, commits, each, flag_line, instance_flags, instance_row_commits, instance_rows, lines_for, numbered, place_line, race_code_commits, race_codes, race_places, race_results, race_row_commits, race_rows, race_totals, results, row_commit, row_opening, total_line}
+use Rattle.sg_grammar.specs.Due.{due_audit, ballot_codes, ballot_paper, bits_on, code_commit, code_line, commits, each, due_flags, instance_flags, instance_row_commits, instance_rows, lines_for, numbered, due_places, race_code_commits, race_codes, race_places, race_results, race_row_commits, race_rows, race_totals, results, row_commit, row_opening, due_totals}
 use Rattle.sg_grammar.specs.Head.{Making, head_line}
 use Rattle.sg_grammar.specs.Laws.{LinesAreInPlan}
 use Rattle.sg_grammar.specs.Lines.{IsAmong, placed_of}
@@ -23,7 +23,7 @@ use Rattle.sg_grammar.specs.Parting.{IsLineIn}
 use Rattle.sg_grammar.specs.Placed.{Placed}
 use Rattle.sg_grammar.specs.Placed.Placed.{Begun, CodeAt, CodeCommitAt, Disputed, DrawnFull, DrawnPublic, FlagsAt, OverAt, PaperAt, PlacesAt, RowAt, RowCommitAt, SealAt, TotalAt}
 use Rattle.sg_grammar.specs.Spots.{IsRaceOf}
-use Rattle.sg_grammar.specs.Walk.{Next, Taken, Walked, after_block, after_dispute, after_run, begins, behind, body_line, first_of, headed, in_cast, in_head, in_order, is_column, is_later, is_race_left, place, start, take_at, take_line, took, walk}
+use Rattle.sg_grammar.specs.Walk.{Next, Taken, Walked, after_block, after_dispute, after_run, begins, behind, body_line, first_taken, headed, in_cast, in_head, follows_in_order, is_column, is_later, is_race_left, place, start, take_at, take_line, took, walk}
 use Rattle.sg_grammar.specs.declared.state.Block.{Block}
 use Rattle.sg_grammar.specs.declared.state.Block.TheVariants as block
 use Rattle.sg_grammar.specs.declared.state.Head.{Head}
@@ -96,10 +96,10 @@ results_in plan =
     race_in race a =
         slots_append plan (each (instance_flags plan race) 0 plan.instances) (race_places plan race ++ race_totals plan race)
         (slots_each plan (instance_flags plan race) plan.instances (λ instance b.
-        slots_each plan (flag_line plan race instance) (lines_for (entries_of plan race)) (λ line c. ((a, b, bits_in (entries_of plan race) line c), tt))))
+        slots_each plan (due_flags plan race instance) (lines_for (entries_of plan race)) (λ line c. ((a, b, bits_in (entries_of plan race) line c), tt))))
         (slots_append plan (race_places plan race) (race_totals plan race)
-        (slots_each plan (place_line plan race) (lines_for (entries_of plan race)) (λ line c. ((a, bits_in (entries_of plan race) line c), tt)))
-        (slots_each plan (total_line race) (candidates_of plan race) (λ candidate c. ((a, c), tt))))
+        (slots_each plan (due_places plan race) (lines_for (entries_of plan race)) (λ line c. ((a, bits_in (entries_of plan race) line c), tt)))
+        (slots_each plan (due_totals race) (candidates_of plan race) (λ candidate c. ((a, c), tt))))
 
 -- a race of a ballot
 race_of : (plan : Plan) (ballot race : ℕ) → race < length plan.races → ballot_has plan ballot race ≡ true → IsRaceOf plan ballot race
@@ -119,7 +119,7 @@ codes_in plan kind ballot race a has =
     let of = race_of plan ballot race a has in
     slots_each plan (code_line kind ballot race) (candidates_of plan race) (λ column c. ((of.0, of.1, of.2, of.3, c), tt))
 
-audit_in : (plan : Plan) (ballot : ℕ) → AreSlotsIn plan (audit plan ballot)
+audit_in : (plan : Plan) (ballot : ℕ) → AreSlotsIn plan (due_audit plan ballot)
 audit_in plan ballot =
     slots_append plan (each (ballot_paper plan ballot) 0 (length plan.races)) (each (ballot_codes plan ballot) 0 (length plan.races))
     (slots_each plan (ballot_paper plan ballot) (length plan.races) (λ race a. paper (ballot_has plan ballot race) race a refl))
@@ -183,9 +183,9 @@ begun_in plan last ballot later =
     let parts = and_parts (nat_lt last ballot) (nat_le ballot (ballots_of plan)) later in
     record { placed = (omega (arith, ltb-true last ballot parts.0), leb-true ballot (ballots_of plan) parts.1); shown = tt }
 
-first_of-keeps : (plan : Plan) (slots : List Slot) (said : Said) (t : Taken) → IsInRange plan.version said → AreSlotsIn plan slots → first_of plan slots said ≡ Some t → Keeps plan t
-first_of-keeps plan [] said t range within e = cc
-first_of-keeps plan (s ∷ due) said t range within e =
+first_taken-keeps : (plan : Plan) (slots : List Slot) (said : Said) (t : Taken) → IsInRange plan.version said → AreSlotsIn plan slots → first_taken plan slots said ≡ Some t → Keeps plan t
+first_taken-keeps plan [] said t range within e = cc
+first_taken-keeps plan (s ∷ due) said t range within e =
     let from = option_map-some (λ (x : Placed). took x (behind plan due (part.Disputes 0))) (place s said) t e in
     subst (Keeps plan) from.2 (placed_in plan s said from.0 range within.0 from.1, within.1)
 
@@ -195,18 +195,18 @@ after_block-keeps plan last (Cast ballot) t range e =
 after_block-keeps plan last (Spoiled ballot) t range e =
     if_then-claim (Keeps plan) (is_later plan last ballot) (took (Begun ballot) (behind plan [] (part.Ballots ballot))) t (λ ok. (begun_in plan last ballot ok, tt)) e
 after_block-keeps plan last (Audited ballot) t range e =
-    if_then-claim (Keeps plan) (is_later plan last ballot) (took (Begun ballot) (behind plan (audit plan ballot) (part.Ballots ballot))) t (λ ok. (begun_in plan last ballot ok, audit_in plan ballot)) e
+    if_then-claim (Keeps plan) (is_later plan last ballot) (took (Begun ballot) (behind plan (due_audit plan ballot) (part.Ballots ballot))) t (λ ok. (begun_in plan last ballot ok, audit_in plan ballot)) e
 after_block-keeps plan last (Voided ballot) t range e =
     if_then-claim (Keeps plan) (plan.version == 2 && is_later plan last ballot) (took (Begun ballot) (behind plan [] (part.Ballots ballot))) t
     (λ ok. (begun_in plan last ballot (and_parts (plan.version == 2) (is_later plan last ballot) ok).1, tt)) e
-after_block-keeps plan last said t range e = first_of-keeps plan (results plan) said t range (results_in plan) e
+after_block-keeps plan last said t range e = first_taken-keeps plan (results plan) said t range (results_in plan) e
 
 in_cast-keeps : (plan : Plan) (ballot race column : ℕ) (said : Said) (t : Taken) → IsInRange plan.version said → in_cast plan ballot race column said ≡ Some t → Keeps plan t
 in_cast-keeps plan ballot race column (Code code) t range e =
-    if_then-claim (Keeps plan) (is_column plan ballot code.race code.column && in_order race column code.race code.column)
+    if_then-claim (Keeps plan) (is_column plan ballot code.race code.column && follows_in_order race column code.race code.column)
     (took (CodeAt block.Cast ballot code.race code.column code) (behind plan [] (part.Cast ballot code.race (code.column + 1)))) t
     (λ ok.
-    let columns = and_parts (ballot_has plan ballot code.race) (nat_lt code.column (candidates_of plan code.race)) (and_parts (is_column plan ballot code.race code.column) (in_order race column code.race code.column) ok).0 in
+    let columns = and_parts (ballot_has plan ballot code.race) (nat_lt code.column (candidates_of plan code.race)) (and_parts (is_column plan ballot code.race code.column) (follows_in_order race column code.race code.column) ok).0 in
     let within = ltb-true code.column (candidates_of plan code.race) columns.1 in
     let of = race_of plan ballot code.race (candidate_race plan code.race code.column within) columns.0 in
     (record { placed = (of.0, of.1, of.2, of.3, within); shown = range.3 }, tt)) e

@@ -5,7 +5,7 @@ use Rattle.std.proofs.lemmas.List.{length-append}
 use Rattle.std.proofs.lemmas.Nat.{mul-le}
 use Rattle.sg_plan.specs.Ballots.{all_entries, candidates_of, entries_before, entries_of}
 use Rattle.sg_plan.specs.declared.plan.Plan.{Plan}
-use Rattle.sg_grammar.specs.Due.{numbered, each, code_commit, code_line, commits, flag_line, instance_flags, instance_row_commits, instance_rows, lines_for, place_line, race_code_commits, race_codes, race_places, race_results, race_row_commits, race_rows, race_totals, results, row_commit, row_opening, total_line}
+use Rattle.sg_grammar.specs.Due.{numbered, each, code_commit, code_line, commits, due_flags, instance_flags, instance_row_commits, instance_rows, lines_for, due_places, race_code_commits, race_codes, race_places, race_results, race_row_commits, race_rows, race_totals, results, row_commit, row_opening, due_totals}
 use Rattle.sg_grammar.specs.Made.{HasSizes}
 use Rattle.sg_grammar.specs.declared.state.Block.{Block}
 use Rattle.sg_grammar.specs.declared.state.Slot.{Slot}
@@ -91,11 +91,11 @@ race_results-length : (plan : Plan) (race : ℕ) → HasSizes plan → 64 * leng
 race_results-length plan race sizes =
     let few = lines_for-bits (entries_of plan race) in
     let flags : (instance : ℕ) → length (instance_flags plan race instance) ≤ lines_for (entries_of plan race)
-    = λ instance. omega (arith, each-length (flag_line plan race instance) 1 (lines_for (entries_of plan race)) (lines_for (entries_of plan race)) (λ k. omega arith) (omega arith)) in
+    = λ instance. omega (arith, each-length (due_flags plan race instance) 1 (lines_for (entries_of plan race)) (lines_for (entries_of plan race)) (λ k. omega arith) (omega arith)) in
     let all_flags = each-length (instance_flags plan race) (lines_for (entries_of plan race)) plan.instances plan.instances flags (omega arith) in
     let bits = mul-le plan.instances (64 * lines_for (entries_of plan race)) plan.instances (entries_of plan race + 63) (omega arith) few in
-    let places = each-length (place_line plan race) 1 (lines_for (entries_of plan race)) (lines_for (entries_of plan race)) (λ k. omega arith) (omega arith) in
-    let totals = each-length (total_line race) 1 16 (candidates_of plan race) (λ k. omega arith) (sizes.most_candidates race) in
+    let places = each-length (due_places plan race) 1 (lines_for (entries_of plan race)) (lines_for (entries_of plan race)) (λ k. omega arith) (omega arith) in
+    let totals = each-length (due_totals race) 1 16 (candidates_of plan race) (λ k. omega arith) (sizes.most_candidates race) in
     omega (
       arith,
       few,

@@ -4,7 +4,7 @@ use Rattle.std.proofs.lemmas.List.{append-nil}
 use Rattle.sg_plan.proofs.PlanLaws.{ballot_has-true}
 use Rattle.sg_plan.specs.Ballots.{ballot_has, candidates_of, entries_of}
 use Rattle.sg_plan.specs.declared.plan.Plan.{Plan}
-use Rattle.sg_grammar.specs.Due.{numbered, code_line, race_codes, ballot_paper, ballot_codes, code_commit, race_code_commits, row_commit, instance_row_commits, race_row_commits, lines_for, bits_on, flag_line, instance_flags, place_line, total_line, race_results, row_opening, instance_rows, race_rows}
+use Rattle.sg_grammar.specs.Due.{numbered, code_line, race_codes, ballot_paper, ballot_codes, code_commit, race_code_commits, row_commit, instance_row_commits, race_row_commits, lines_for, bits_on, due_flags, instance_flags, due_places, due_totals, race_results, row_opening, instance_rows, race_rows}
 use Rattle.sg_grammar.specs.Slots.{code_commits_from, row_commits_from, codes_from, papers_from, results_from, totals_from, places_from, rows_from, rest_of, rest_of_codes, HasNoEntries}
 use Rattle.sg_grammar.specs.Spots.{IsRaceOf, LacksRaces}
 use Rattle.sg_grammar.specs.declared.state.Block.{Block}
@@ -136,18 +136,18 @@ pub ruleset audit_steps = (race_of_ballot, codes_first, codes_none, papers_first
 
 -- a race with no entry has no line of flags
 pub no_flags : (plan : Plan) (race : ℕ) → entries_of plan race ≡ 0 → numbered (instance_flags plan race) 0 (plan.instances - 0) ≡ []
-no_flags plan race e = each-nothing (instance_flags plan race) plan.instances (λ i. each-none (flag_line plan race i) 0 (lines_for (entries_of plan race)) (rw e (omega arith)))
+no_flags plan race e = each-nothing (instance_flags plan race) plan.instances (λ i. each-none (due_flags plan race i) 0 (lines_for (entries_of plan race)) (rw e (omega arith)))
 
 -- the flags of a race from an instance on
-pub instance_flags_first : (plan : Plan) (race instance : ℕ) (rest : List Slot) → instance < plan.instances → 0 < lines_for (entries_of plan race) → numbered (instance_flags plan race) instance (plan.instances - instance) ++ rest ≡ slot.Flags race instance 0 (bits_on (entries_of plan race) 0) ∷ (numbered (flag_line plan race instance) 1 (lines_for (entries_of plan race) - 1) ++ (numbered (instance_flags plan race) (instance + 1) (plan.instances - (instance + 1)) ++ rest))
-instance_flags_first plan race instance rest a b = each-enter_two (instance_flags plan race) (flag_line plan race instance) instance plan.instances 0 (lines_for (entries_of plan race)) (slot.Flags race instance 0 (bits_on (entries_of plan race) 0)) [] rest a b refl refl
+pub instance_flags_first : (plan : Plan) (race instance : ℕ) (rest : List Slot) → instance < plan.instances → 0 < lines_for (entries_of plan race) → numbered (instance_flags plan race) instance (plan.instances - instance) ++ rest ≡ slot.Flags race instance 0 (bits_on (entries_of plan race) 0) ∷ (numbered (due_flags plan race instance) 1 (lines_for (entries_of plan race) - 1) ++ (numbered (instance_flags plan race) (instance + 1) (plan.instances - (instance + 1)) ++ rest))
+instance_flags_first plan race instance rest a b = each-enter_two (instance_flags plan race) (due_flags plan race instance) instance plan.instances 0 (lines_for (entries_of plan race)) (slot.Flags race instance 0 (bits_on (entries_of plan race) 0)) [] rest a b refl refl
 
 -- the places and totals of a race: the first total
 pub totals_first : (plan : Plan) (race : ℕ) → 0 < candidates_of plan race → totals_from plan race ≡ slot.Total race 0 ∷ rest_of plan (slot.Total race 0)
-totals_first plan race a = each-enter (total_line race) 0 (candidates_of plan race) (slot.Total race 0) [] (results_from plan (race + 1)) a refl
+totals_first plan race a = each-enter (due_totals race) 0 (candidates_of plan race) (slot.Total race 0) [] (results_from plan (race + 1)) a refl
 
 pub places_first : (plan : Plan) (race : ℕ) → 0 < lines_for (entries_of plan race) → places_from plan race ≡ slot.Places race 0 (bits_on (entries_of plan race) 0) ∷ rest_of plan (slot.Places race 0 0)
-places_first plan race a = each-enter (place_line plan race) 0 (lines_for (entries_of plan race)) (slot.Places race 0 (bits_on (entries_of plan race) 0)) [] (totals_from plan race) a refl
+places_first plan race a = each-enter (due_places plan race) 0 (lines_for (entries_of plan race)) (slot.Places race 0 (bits_on (entries_of plan race) 0)) [] (totals_from plan race) a refl
 
 -- the results of a race, part after part
 pub results_parts : (plan : Plan) (race : ℕ) → race < length plan.races → results_from plan race ≡ numbered (instance_flags plan race) 0 (plan.instances - 0) ++ places_from plan race
@@ -160,39 +160,39 @@ pub results_no_entries : (plan : Plan) (race : ℕ) → race < length plan.races
 results_no_entries plan race a e c =
     results_parts plan race a
     ∙ ap (λ l. l ++ places_from plan race) (no_flags plan race e)
-    ∙ each-over (place_line plan race) 0 (lines_for (entries_of plan race)) (totals_from plan race) (rw e (omega arith))
+    ∙ each-over (due_places plan race) 0 (lines_for (entries_of plan race)) (totals_from plan race) (rw e (omega arith))
     ∙ totals_first plan race c
 
 pub results_end : (plan : Plan) (race : ℕ) → length plan.races ≤ race → results_from plan race ≡ slot.Seal 2 ∷ rest_of plan (slot.Seal 2)
 results_end plan race a = each-over (race_results plan) race (length plan.races) (slot.Seal 2 ∷ slot.Draw ∷ rows_from plan 0) a
 
 pub flags_line : (plan : Plan) (race instance line : ℕ) → line + 1 < lines_for (entries_of plan race) → rest_of plan (slot.Flags race instance line 0) ≡ slot.Flags race instance (line + 1) (bits_on (entries_of plan race) (line + 1)) ∷ rest_of plan (slot.Flags race instance (line + 1) 0)
-flags_line plan race instance line a = each-enter (flag_line plan race instance) (line + 1) (lines_for (entries_of plan race)) (slot.Flags race instance (line + 1) (bits_on (entries_of plan race) (line + 1))) [] (numbered (instance_flags plan race) (instance + 1) (plan.instances - (instance + 1)) ++ places_from plan race) a refl
+flags_line plan race instance line a = each-enter (due_flags plan race instance) (line + 1) (lines_for (entries_of plan race)) (slot.Flags race instance (line + 1) (bits_on (entries_of plan race) (line + 1))) [] (numbered (instance_flags plan race) (instance + 1) (plan.instances - (instance + 1)) ++ places_from plan race) a refl
 
 pub flags_instance : (plan : Plan) (race instance line : ℕ) → lines_for (entries_of plan race) ≤ line + 1 → 0 < lines_for (entries_of plan race) → instance + 1 < plan.instances → rest_of plan (slot.Flags race instance line 0) ≡ slot.Flags race (instance + 1) 0 (bits_on (entries_of plan race) 0) ∷ rest_of plan (slot.Flags race (instance + 1) 0 0)
 flags_instance plan race instance line a b c =
-    each-over (flag_line plan race instance) (line + 1) (lines_for (entries_of plan race)) (numbered (instance_flags plan race) (instance + 1) (plan.instances - (instance + 1)) ++ places_from plan race) a
+    each-over (due_flags plan race instance) (line + 1) (lines_for (entries_of plan race)) (numbered (instance_flags plan race) (instance + 1) (plan.instances - (instance + 1)) ++ places_from plan race) a
     ∙ instance_flags_first plan race (instance + 1) (places_from plan race) c b
 
 pub flags_last : (plan : Plan) (race instance line : ℕ) → lines_for (entries_of plan race) ≤ line + 1 → 0 < lines_for (entries_of plan race) → plan.instances ≤ instance + 1 → rest_of plan (slot.Flags race instance line 0) ≡ slot.Places race 0 (bits_on (entries_of plan race) 0) ∷ rest_of plan (slot.Places race 0 0)
 flags_last plan race instance line a b c =
-    each-over (flag_line plan race instance) (line + 1) (lines_for (entries_of plan race)) (numbered (instance_flags plan race) (instance + 1) (plan.instances - (instance + 1)) ++ places_from plan race) a
+    each-over (due_flags plan race instance) (line + 1) (lines_for (entries_of plan race)) (numbered (instance_flags plan race) (instance + 1) (plan.instances - (instance + 1)) ++ places_from plan race) a
     ∙ each-over (instance_flags plan race) (instance + 1) plan.instances (places_from plan race) c
     ∙ places_first plan race b
 
 pub places_line : (plan : Plan) (race line : ℕ) → line + 1 < lines_for (entries_of plan race) → rest_of plan (slot.Places race line 0) ≡ slot.Places race (line + 1) (bits_on (entries_of plan race) (line + 1)) ∷ rest_of plan (slot.Places race (line + 1) 0)
-places_line plan race line a = each-enter (place_line plan race) (line + 1) (lines_for (entries_of plan race)) (slot.Places race (line + 1) (bits_on (entries_of plan race) (line + 1))) [] (totals_from plan race) a refl
+places_line plan race line a = each-enter (due_places plan race) (line + 1) (lines_for (entries_of plan race)) (slot.Places race (line + 1) (bits_on (entries_of plan race) (line + 1))) [] (totals_from plan race) a refl
 
 pub places_last : (plan : Plan) (race line : ℕ) → lines_for (entries_of plan race) ≤ line + 1 → 0 < candidates_of plan race → rest_of plan (slot.Places race line 0) ≡ slot.Total race 0 ∷ rest_of plan (slot.Total race 0)
 places_last plan race line a b =
-    each-over (place_line plan race) (line + 1) (lines_for (entries_of plan race)) (totals_from plan race) a
+    each-over (due_places plan race) (line + 1) (lines_for (entries_of plan race)) (totals_from plan race) a
     ∙ totals_first plan race b
 
 pub total_next : (plan : Plan) (race candidate : ℕ) → candidate + 1 < candidates_of plan race → rest_of plan (slot.Total race candidate) ≡ slot.Total race (candidate + 1) ∷ rest_of plan (slot.Total race (candidate + 1))
-total_next plan race candidate a = each-enter (total_line race) (candidate + 1) (candidates_of plan race) (slot.Total race (candidate + 1)) [] (results_from plan (race + 1)) a refl
+total_next plan race candidate a = each-enter (due_totals race) (candidate + 1) (candidates_of plan race) (slot.Total race (candidate + 1)) [] (results_from plan (race + 1)) a refl
 
 pub total_last : (plan : Plan) (race candidate : ℕ) → candidates_of plan race ≤ candidate + 1 → rest_of plan (slot.Total race candidate) ≡ results_from plan (race + 1)
-total_last plan race candidate a = each-over (total_line race) (candidate + 1) (candidates_of plan race) (results_from plan (race + 1)) a
+total_last plan race candidate a = each-over (due_totals race) (candidate + 1) (candidates_of plan race) (results_from plan (race + 1)) a
 
 pub ruleset result_steps = (results_first, results_no_entries, results_end, flags_line, flags_instance, flags_last, places_line, places_last, total_next, total_last)
 

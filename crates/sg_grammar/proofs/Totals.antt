@@ -12,13 +12,13 @@ use Rattle.sg_grammar.proofs.Claims.{if_then-claim, option_map-some}
 use Rattle.sg_grammar.proofs.Counting.{start-made, take_line-made}
 use Rattle.sg_grammar.proofs.FirstLines.{take_bytes-line, walk-first}
 use Rattle.sg_grammar.proofs.Making.{complete-sizes, made-line, made-start}
-use Rattle.sg_grammar.specs.Due.{numbered, each, audit, ballot_codes, ballot_paper, code_commit, code_line, commits, flag_line, instance_flags, instance_row_commits, instance_rows, lines_for, place_line, race_code_commits, race_codes, race_places, race_results, race_row_commits, race_rows, race_totals, results, row_commit, row_opening, total_line}
+use Rattle.sg_grammar.specs.Due.{numbered, each, due_audit, ballot_codes, ballot_paper, code_commit, code_line, commits, due_flags, instance_flags, instance_row_commits, instance_rows, lines_for, due_places, race_code_commits, race_codes, race_places, race_results, race_row_commits, race_rows, race_totals, results, row_commit, row_opening, due_totals}
 use Rattle.sg_grammar.specs.Head.{Making, head_line}
 use Rattle.sg_grammar.specs.Left.{is_total, is_total_line, most_totals, part_totals, totals_at, totals_left}
 use Rattle.sg_grammar.specs.Made.{HasSizes, IsMade}
 use Rattle.sg_grammar.specs.Placed.{Placed}
 use Rattle.sg_grammar.specs.Placed.Placed.{Begun, CodeAt, CodeCommitAt, Disputed, DrawnFull, DrawnPublic, FlagsAt, OverAt, PaperAt, PlacesAt, RowAt, RowCommitAt, SealAt}
-use Rattle.sg_grammar.specs.Walk.{Next, Posted, Taken, Walked, after_block, after_dispute, after_run, begins, behind, body_line, first_of, headed, in_cast, in_head, in_order, is_column, is_later, is_race_left, place, start, take_at, take_bytes, take_line, taking, took, walk}
+use Rattle.sg_grammar.specs.Walk.{Next, Posted, Taken, Walked, after_block, after_dispute, after_run, begins, behind, body_line, first_taken, headed, in_cast, in_head, follows_in_order, is_column, is_later, is_race_left, place, start, take_at, take_bytes, take_line, taking, took, walk}
 use Rattle.sg_grammar.specs.declared.state.Block.{Block}
 use Rattle.sg_grammar.specs.declared.state.Block.TheVariants as block
 use Rattle.sg_grammar.specs.declared.state.Head.{Head}
@@ -59,8 +59,8 @@ commits-none plan =
 codes-none : (plan : Plan) (kind : Block) (ballot race : ℕ) → count_by is_total (race_codes plan kind ballot race) ≡ 0
 codes-none plan kind ballot race = each-none (code_line kind ballot race) (candidates_of plan race) (λ k. refl)
 
-audit-none : (plan : Plan) (ballot : ℕ) → count_by is_total (audit plan ballot) ≡ 0
-audit-none plan ballot =
+due_audit-none : (plan : Plan) (ballot : ℕ) → count_by is_total (due_audit plan ballot) ≡ 0
+due_audit-none plan ballot =
     let papers = each-none (ballot_paper plan ballot) (length plan.races) paper in
     let codes = each-none (ballot_codes plan ballot) (length plan.races) code in
     omega (arith, papers, codes, count_by-append is_total (each (ballot_paper plan ballot) 0 (length plan.races)) (each (ballot_codes plan ballot) 0 (length plan.races)))
@@ -75,9 +75,9 @@ audit-none plan ballot =
 -- a race has a total for each candidate
 race-totals : (plan : Plan) (race : ℕ) → HasSizes plan → count_by is_total (race_results plan race) ≤ 16
 race-totals plan race sizes =
-    let flags = each-none (instance_flags plan race) plan.instances (λ instance. each-none (flag_line plan race instance) (lines_for (entries_of plan race)) (λ k. refl)) in
-    let places = each-none (place_line plan race) (lines_for (entries_of plan race)) (λ k. refl) in
-    let totals = numbered-totals (total_line race) 1 0 (candidates_of plan race - 0) (λ k. omega arith) in
+    let flags = each-none (instance_flags plan race) plan.instances (λ instance. each-none (due_flags plan race instance) (lines_for (entries_of plan race)) (λ k. refl)) in
+    let places = each-none (due_places plan race) (lines_for (entries_of plan race)) (λ k. refl) in
+    let totals = numbered-totals (due_totals race) 1 0 (candidates_of plan race - 0) (λ k. omega arith) in
     omega (
       arith,
       flags,
@@ -173,9 +173,9 @@ due-keeps plan s due may_begin said t e =
     subst (λ (x : Taken). Keeps (count_by is_total (s ∷ due) + part_totals plan may_begin) x) from.2
     (keeps-took plan due may_begin (count_by is_total (s ∷ due) + part_totals plan may_begin) from.0 (omega (arith, count, place-total s said from.0 from.1)))
 
-first_of-keeps : (plan : Plan) (slots : List Slot) (said : Said) (t : Taken) → first_of plan slots said ≡ Some t → Keeps (count_by is_total slots) t
-first_of-keeps plan [] said t e = cc
-first_of-keeps plan (slot ∷ due) said t e =
+first_taken-keeps : (plan : Plan) (slots : List Slot) (said : Said) (t : Taken) → first_taken plan slots said ≡ Some t → Keeps (count_by is_total slots) t
+first_taken-keeps plan [] said t e = cc
+first_taken-keeps plan (slot ∷ due) said t e =
     keeps-more (count_by is_total (slot ∷ due) + 0) (count_by is_total (slot ∷ due)) t (omega arith) (due-keeps plan slot due (part.Disputes 0) said t e)
 
 after_block-keeps : (plan : Plan) (last : ℕ) (said : Said) (t : Taken) → after_block plan last said ≡ Some t → Keeps (count_by is_total (results plan)) t
@@ -186,17 +186,17 @@ after_block-keeps plan last (Spoiled ballot) t e =
     if_then-claim (λ x. Keeps (count_by is_total (results plan)) x) (is_later plan last ballot) (took (Begun ballot) (behind plan [] (part.Ballots ballot))) t
     (λ ok. keeps-took plan [] (part.Ballots ballot) (count_by is_total (results plan)) (Begun ballot) (omega arith)) e
 after_block-keeps plan last (Audited ballot) t e =
-    if_then-claim (λ x. Keeps (count_by is_total (results plan)) x) (is_later plan last ballot) (took (Begun ballot) (behind plan (audit plan ballot) (part.Ballots ballot))) t
-    (λ ok. keeps-took plan (audit plan ballot) (part.Ballots ballot) (count_by is_total (results plan)) (Begun ballot) (omega (arith, audit-none plan ballot))) e
+    if_then-claim (λ x. Keeps (count_by is_total (results plan)) x) (is_later plan last ballot) (took (Begun ballot) (behind plan (due_audit plan ballot) (part.Ballots ballot))) t
+    (λ ok. keeps-took plan (due_audit plan ballot) (part.Ballots ballot) (count_by is_total (results plan)) (Begun ballot) (omega (arith, due_audit-none plan ballot))) e
 after_block-keeps plan last (Voided ballot) t e =
     if_then-claim (λ x. Keeps (count_by is_total (results plan)) x) (plan.version == 2 && is_later plan last ballot)
     (took (Begun ballot) (behind plan [] (part.Ballots ballot))) t
     (λ ok. keeps-took plan [] (part.Ballots ballot) (count_by is_total (results plan)) (Begun ballot) (omega arith)) e
-after_block-keeps plan last said t e = first_of-keeps plan (results plan) said t e
+after_block-keeps plan last said t e = first_taken-keeps plan (results plan) said t e
 
 in_cast-keeps : (plan : Plan) (ballot race column : ℕ) (said : Said) (t : Taken) → in_cast plan ballot race column said ≡ Some t → Keeps (count_by is_total (results plan)) t
 in_cast-keeps plan ballot race column (Code code) t e =
-    if_then-claim (λ x. Keeps (count_by is_total (results plan)) x) (is_column plan ballot code.race code.column && in_order race column code.race code.column)
+    if_then-claim (λ x. Keeps (count_by is_total (results plan)) x) (is_column plan ballot code.race code.column && follows_in_order race column code.race code.column)
     (took (CodeAt block.Cast ballot code.race code.column code) (behind plan [] (part.Cast ballot code.race (code.column + 1)))) t
     (λ ok. keeps-took plan [] (part.Cast ballot code.race (code.column + 1)) (count_by is_total (results plan)) (CodeAt block.Cast ballot code.race code.column code) (omega arith)) e
 in_cast-keeps plan ballot race column (Over next_race) t e =

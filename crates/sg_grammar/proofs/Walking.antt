@@ -14,13 +14,13 @@ use Rattle.sg_grammar.proofs.FirstLines.{walk-first}
 use Rattle.sg_grammar.proofs.Making.{complete-sizes, runs-fault, whole-fault}
 use Rattle.sg_grammar.proofs.PlanCounts.{some_value}
 use Rattle.sg_grammar.proofs.DueLines.{if_then_claim}
-use Rattle.sg_grammar.specs.Due.{audit, commits, race_codes, results}
-use Rattle.sg_grammar.specs.Head.{Making, has_runs, head_line, run_line}
+use Rattle.sg_grammar.specs.Due.{due_audit, commits, race_codes, results}
+use Rattle.sg_grammar.specs.Head.{Making, has_runs, head_line, take_run}
 use Rattle.sg_grammar.specs.Made.{HasSizes, IsMade}
 use Rattle.sg_grammar.specs.Placed.{Placed}
 use Rattle.sg_grammar.specs.Placed.Placed.{Begun, CodeAt, Disputed, OfPlan, OverAt}
 use Rattle.sg_grammar.specs.Spots.{placed_next}
-use Rattle.sg_grammar.specs.Walk.{Next, Taken, Walked, after_block, after_dispute, after_run, begins, behind, body_line, first_of, headed, in_cast, in_head, in_order, is_column, is_later, is_race_left, place, read_next, take_at, take_bytes, take_line, taking, took, walk, walked_on}
+use Rattle.sg_grammar.specs.Walk.{Next, Taken, Walked, after_block, after_dispute, after_run, begins, behind, body_line, first_taken, headed, in_cast, in_head, follows_in_order, is_column, is_later, is_race_left, place, read_next, take_at, take_bytes, take_line, taking, took, walk, walked_on}
 use Rattle.sg_grammar.specs.declared.state.Block.TheVariants as block
 use Rattle.sg_grammar.specs.declared.state.Head.{Head}
 use Rattle.sg_grammar.specs.declared.state.Head.TheVariants as head
@@ -38,7 +38,7 @@ sizes_whole plan kept = complete-sizes plan kept.stands
 
 -- A LINE OF THE PLAN
 
-run_taken : (plan : Plan) (said : Said) (making : Making) → run_line plan said ≡ Some making → after_run plan said ≡ Some (headed said making)
+run_taken : (plan : Plan) (said : Said) (making : Making) → take_run plan said ≡ Some making → after_run plan said ≡ Some (headed said making)
 run_taken plan (Ballots style count) making e = ap (option_map (headed (Ballots style count))) e
 run_taken plan said making e = cc
 
@@ -111,19 +111,19 @@ taking_behind : (plan : Plan) (due : List Slot) (may_begin : Part) (placed : Opt
 taking_behind plan due may_begin None = tt
 taking_behind plan due may_begin (Some placed) = (refl, refl)
 
-first_behind : (plan : Plan) (due : List Slot) (said : Said) → IfSome (first_of plan due said) (IsBehind plan)
+first_behind : (plan : Plan) (due : List Slot) (said : Said) → IfSome (first_taken plan due said) (IsBehind plan)
 first_behind plan [] said = tt
 first_behind plan (slot ∷ due) said = taking_behind plan due (part.Disputes 0) (place slot said)
 
 block_behind : (plan : Plan) (last : ℕ) (said : Said) → IfSome (after_block plan last said) (IsBehind plan)
 block_behind plan last (Cast ballot) = if_then_claim (IsBehind plan) (is_later plan last ballot) (took (Begun ballot) (behind plan [] (part.Cast ballot 0 0))) (λ _. (refl, refl))
 block_behind plan last (Spoiled ballot) = if_then_claim (IsBehind plan) (is_later plan last ballot) (took (Begun ballot) (behind plan [] (part.Ballots ballot))) (λ _. (refl, refl))
-block_behind plan last (Audited ballot) = if_then_claim (IsBehind plan) (is_later plan last ballot) (took (Begun ballot) (behind plan (audit plan ballot) (part.Ballots ballot))) (λ _. (refl, refl))
+block_behind plan last (Audited ballot) = if_then_claim (IsBehind plan) (is_later plan last ballot) (took (Begun ballot) (behind plan (due_audit plan ballot) (part.Ballots ballot))) (λ _. (refl, refl))
 block_behind plan last (Voided ballot) = if_then_claim (IsBehind plan) (plan.version == 2 && is_later plan last ballot) (took (Begun ballot) (behind plan [] (part.Ballots ballot))) (λ _. (refl, refl))
 block_behind plan last said = first_behind plan (results plan) said
 
 cast_behind : (plan : Plan) (ballot race column : ℕ) (said : Said) → IfSome (in_cast plan ballot race column said) (IsBehind plan)
-cast_behind plan ballot race column (Code code) = if_then_claim (IsBehind plan) (is_column plan ballot code.race code.column && in_order race column code.race code.column) (took (CodeAt block.Cast ballot code.race code.column code) (behind plan [] (part.Cast ballot code.race (code.column + 1)))) (λ _. (refl, refl))
+cast_behind plan ballot race column (Code code) = if_then_claim (IsBehind plan) (is_column plan ballot code.race code.column && follows_in_order race column code.race code.column) (took (CodeAt block.Cast ballot code.race code.column code) (behind plan [] (part.Cast ballot code.race (code.column + 1)))) (λ _. (refl, refl))
 cast_behind plan ballot race column (Over next_race) = if_then_claim (IsBehind plan) (is_race_left plan ballot race next_race) (took (OverAt ballot next_race) (behind plan [] (part.Cast ballot (next_race + 1) 0))) (λ _. (refl, refl))
 cast_behind plan ballot race column said = block_behind plan ballot said
 

@@ -9,7 +9,7 @@ use Rattle.sg_forms.specs.Said.Said.{Places, Row, Total}
 use Rattle.sg_grammar.proofs.Claims.{if_then-claim}
 use Rattle.sg_grammar.proofs.Filling.{Fills, FillsSlot, filled_at}
 use Rattle.sg_grammar.proofs.Parting.{Parted, lines_apart, parted}
-use Rattle.sg_grammar.specs.Due.{bits_on, each, instance_flags, instance_rows, lines_for, numbered, place_line, race_places, race_results, race_rows, race_totals, results, row_opening, total_line}
+use Rattle.sg_grammar.specs.Due.{bits_on, each, instance_flags, instance_rows, lines_for, numbered, due_places, race_places, race_results, race_rows, race_totals, results, row_opening, due_totals}
 use Rattle.sg_grammar.specs.Laws.{LinesStandApart, WholeHasEach}
 use Rattle.sg_grammar.specs.Lines.{IsAmong, placed_of}
 use Rattle.sg_grammar.specs.Parting.{HasEachLine, HasPlace, HasRow, HasTotal}
@@ -51,7 +51,7 @@ row_in plan race instance row a b c =
 total_in : (plan : Plan) (race candidate : ℕ) → race < length plan.races → candidate < candidates_of plan race → IsDue (slot.Total race candidate) (results plan)
 total_in plan race candidate a b =
     let s = slot.Total race candidate in
-    let totals = in_numbered s (total_line race) 0 (candidates_of plan race - 0) candidate (omega arith) (omega (arith, b)) ([], [], refl) in
+    let totals = in_numbered s (due_totals race) 0 (candidates_of plan race - 0) candidate (omega arith) (omega (arith, b)) ([], [], refl) in
     let own = in_right s (each (instance_flags plan race) 0 plan.instances) (race_places plan race ++ race_totals plan race) (in_right s (race_places plan race) (race_totals plan race) totals) in
     in_left s (each (race_results plan) 0 (length plan.races)) (slot.Seal 2 ∷ slot.Draw ∷ (each (race_rows plan) 0 (length plan.races) ++ slot.Seal 3 ∷ []))
     (in_numbered s (race_results plan) 0 (length plan.races - 0) race (omega arith) (omega (arith, a)) own)
@@ -59,7 +59,7 @@ total_in plan race candidate a b =
 places_in : (plan : Plan) (race at : ℕ) → race < length plan.races → at < entries_of plan race → IsDue (slot.Places race (at / 64) (bits_on (entries_of plan race) (at / 64))) (results plan)
 places_in plan race at a b =
     let s = slot.Places race (at / 64) (bits_on (entries_of plan race) (at / 64)) in
-    let places = in_numbered s (place_line plan race) 0 (lines_for (entries_of plan race) - 0) (at / 64) (omega arith) (omega (arith, b)) ([], [], refl) in
+    let places = in_numbered s (due_places plan race) 0 (lines_for (entries_of plan race) - 0) (at / 64) (omega arith) (omega (arith, b)) ([], [], refl) in
     let own = in_right s (each (instance_flags plan race) 0 plan.instances) (race_places plan race ++ race_totals plan race) (in_left s (race_places plan race) (race_totals plan race) places) in
     in_left s (each (race_results plan) 0 (length plan.races)) (slot.Seal 2 ∷ slot.Draw ∷ (each (race_rows plan) 0 (length plan.races) ++ slot.Seal 3 ∷ []))
     (in_numbered s (race_results plan) 0 (length plan.races - 0) race (omega arith) (omega (arith, a)) own)

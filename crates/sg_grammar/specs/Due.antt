@@ -57,8 +57,8 @@ abbrev pub ballot_codes : Plan → ℕ → ℕ → List Slot
 ballot_codes plan ballot race = (if ballot_has plan ballot race then race_codes plan block.Audited ballot race else [])
 
 -- the paper of each race of an audited ballot, and then the code in each column of each of these races
-abbrev pub audit : Plan → ℕ → List Slot
-audit plan ballot = each (ballot_paper plan ballot) 0 (length plan.races) ++ each (ballot_codes plan ballot) 0 (length plan.races)
+abbrev pub due_audit : Plan → ℕ → List Slot
+due_audit plan ballot = each (ballot_paper plan ballot) 0 (length plan.races) ++ each (ballot_codes plan ballot) 0 (length plan.races)
 
 -- SECTION 2: THE RESULTS
 
@@ -70,23 +70,23 @@ lines_for bits = (bits + (most_bits - 1)) / most_bits
 abbrev pub bits_on : ℕ → ℕ → ℕ
 bits_on bits line = min most_bits (bits - most_bits * line)
 
-abbrev pub flag_line : Plan → ℕ → ℕ → ℕ → List Slot
-flag_line plan race instance line = slot.Flags race instance line (bits_on (entries_of plan race) line) ∷ []
+abbrev pub due_flags : Plan → ℕ → ℕ → ℕ → List Slot
+due_flags plan race instance line = slot.Flags race instance line (bits_on (entries_of plan race) line) ∷ []
 
 abbrev pub instance_flags : Plan → ℕ → ℕ → List Slot
-instance_flags plan race instance = each (flag_line plan race instance) 0 (lines_for (entries_of plan race))
+instance_flags plan race instance = each (due_flags plan race instance) 0 (lines_for (entries_of plan race))
 
-abbrev pub place_line : Plan → ℕ → ℕ → List Slot
-place_line plan race line = slot.Places race line (bits_on (entries_of plan race) line) ∷ []
+abbrev pub due_places : Plan → ℕ → ℕ → List Slot
+due_places plan race line = slot.Places race line (bits_on (entries_of plan race) line) ∷ []
 
 abbrev pub race_places : Plan → ℕ → List Slot
-race_places plan race = each (place_line plan race) 0 (lines_for (entries_of plan race))
+race_places plan race = each (due_places plan race) 0 (lines_for (entries_of plan race))
 
-abbrev pub total_line : ℕ → ℕ → List Slot
-total_line race candidate = slot.Total race candidate ∷ []
+abbrev pub due_totals : ℕ → ℕ → List Slot
+due_totals race candidate = slot.Total race candidate ∷ []
 
 abbrev pub race_totals : Plan → ℕ → List Slot
-race_totals plan race = each (total_line race) 0 (candidates_of plan race)
+race_totals plan race = each (due_totals race) 0 (candidates_of plan race)
 
 -- the flags of each instance, then the places, then the total of each candidate
 abbrev pub race_results : Plan → ℕ → List Slot

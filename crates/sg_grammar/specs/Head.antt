@@ -78,14 +78,14 @@ instances_line plan (Instances instances) = if_then (is_within 1 most_instances 
 instances_line plan said = None
 
 -- a style, behind which a style or a run may come
-abbrev pub style_line : Plan → Said → Option Making
-style_line plan (Style name races) = if_then (nat_lt (length plan.styles) most_styles && style_keeps (length plan.races) plan.styles (record { name = name; races = races })) (made (with_style plan name races) head.Styles)
-style_line plan said = None
+abbrev pub take_style : Plan → Said → Option Making
+take_style plan (Style name races) = if_then (nat_lt (length plan.styles) most_styles && style_keeps (length plan.races) plan.styles (record { name = name; races = races })) (made (with_style plan name races) head.Styles)
+take_style plan said = None
 
 -- a race, behind which its candidates are due; or the first style, where there is a race
 abbrev pub race_line : Plan → Said → Option Making
 race_line plan (Race name candidates votes) = if_then (nat_lt (length plan.races) most_races && race_head_keeps plan.races name candidates votes) (made (with_race plan name votes) (head.Candidates candidates))
-race_line plan (Style name races) = (if nat_lt 0 (length plan.races) then style_line plan (Style name races) else None)
+race_line plan (Style name races) = (if nat_lt 0 (length plan.races) then take_style plan (Style name races) else None)
 race_line plan said = None
 
 -- behind a candidate, so many of which were due
@@ -97,14 +97,14 @@ candidate_line left plan (Cand name) = if_then (candidate_keeps (last_candidates
 candidate_line left plan said = None
 
 -- a run, with which there are at most 200,000 rows of table R
-abbrev pub run_line : Plan → Said → Option Making
-run_line plan (Ballots style count) = if_then (run_keeps (length plan.styles) plan.runs (record { style = style; count = count }) && nat_le (r_rows (with_run plan style count)) most_rows) (made (with_run plan style count) head.Runs)
-run_line plan said = None
+abbrev pub take_run : Plan → Said → Option Making
+take_run plan (Ballots style count) = if_then (run_keeps (length plan.styles) plan.runs (record { style = style; count = count }) && nat_le (r_rows (with_run plan style count)) most_rows) (made (with_run plan style count) head.Runs)
+take_run plan said = None
 
 -- a further style, or the first run
 abbrev pub later_style_line : Plan → Said → Option Making
-later_style_line plan (Style name races) = style_line plan (Style name races)
-later_style_line plan said = run_line plan said
+later_style_line plan (Style name races) = take_style plan (Style name races)
+later_style_line plan said = take_run plan said
 
 -- the plan with the line, where it may stand behind the plan's lines so far
 abbrev pub head_line : Plan → Head → Said → Option Making
@@ -114,7 +114,7 @@ head_line plan head.Instances said = instances_line plan said
 head_line plan head.Races said = race_line plan said
 head_line plan (head.Candidates left) said = candidate_line left plan said
 head_line plan head.Styles said = later_style_line plan said
-head_line plan head.Runs said = run_line plan said
+head_line plan head.Runs said = take_run plan said
 head_line plan head.Whole said = None
 
 -- HOW FAR THE LINES GO

@@ -6,7 +6,7 @@ use Rattle.sg_plan.specs.Runs.{run_numbers}
 use Rattle.sg_plan.specs.declared.plan.Plan.{Plan}
 use Rattle.sg_forms.specs.Said.{Said}
 use Rattle.sg_forms.specs.Said.Said.{Ballots}
-use Rattle.sg_grammar.specs.Due.{each, code_line, ballot_paper, ballot_codes, code_commit, race_code_commits, row_commit, instance_row_commits, race_row_commits, lines_for, bits_on, flag_line, instance_flags, place_line, race_places, total_line, race_totals, race_results, row_opening, instance_rows, race_rows}
+use Rattle.sg_grammar.specs.Due.{each, code_line, ballot_paper, ballot_codes, code_commit, race_code_commits, row_commit, instance_row_commits, race_row_commits, lines_for, bits_on, due_flags, instance_flags, due_places, race_places, due_totals, race_totals, race_results, row_opening, instance_rows, race_rows}
 use Rattle.sg_grammar.specs.Head.{with_run}
 use Rattle.sg_grammar.specs.declared.state.Block.{Block}
 use Rattle.sg_grammar.specs.declared.state.Block.TheVariants as block
@@ -61,9 +61,9 @@ rest_of plan (slot.RowCommit race instance row) = each (row_commit race instance
 rest_of plan (slot.Seal number) = rest_of_seal plan number
 rest_of plan (slot.Paper ballot race count) = papers_from plan ballot (race + 1)
 rest_of plan (slot.Code kind ballot race column) = each (code_line kind ballot race) (column + 1) (candidates_of plan race) ++ rest_of_codes plan kind ballot race
-rest_of plan (slot.Flags race instance line count) = each (flag_line plan race instance) (line + 1) (lines_for (entries_of plan race)) ++ (each (instance_flags plan race) (instance + 1) plan.instances ++ places_from plan race)
-rest_of plan (slot.Places race line count) = each (place_line plan race) (line + 1) (lines_for (entries_of plan race)) ++ totals_from plan race
-rest_of plan (slot.Total race candidate) = each (total_line race) (candidate + 1) (candidates_of plan race) ++ results_from plan (race + 1)
+rest_of plan (slot.Flags race instance line count) = each (due_flags plan race instance) (line + 1) (lines_for (entries_of plan race)) ++ (each (instance_flags plan race) (instance + 1) plan.instances ++ places_from plan race)
+rest_of plan (slot.Places race line count) = each (due_places plan race) (line + 1) (lines_for (entries_of plan race)) ++ totals_from plan race
+rest_of plan (slot.Total race candidate) = each (due_totals race) (candidate + 1) (candidates_of plan race) ++ results_from plan (race + 1)
 rest_of plan slot.Draw = rows_from plan 0
 rest_of plan (slot.Row race instance row) = each (row_opening race instance) (row + 1) (entries_of plan race) ++ (each (instance_rows plan race) (instance + 1) plan.instances ++ rows_from plan (race + 1))
 

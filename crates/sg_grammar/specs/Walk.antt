@@ -11,7 +11,7 @@ use Rattle.sg_plan.specs.declared.plan.Plan.{Plan}
 use Rattle.sg_forms.specs.Reading.{line_of}
 use Rattle.sg_forms.specs.Said.{Said}
 use Rattle.sg_forms.specs.Said.Said.{Ballots, CodeCommit, RowCommit, Seal, Cast, Spoiled, Audited, Code, Over, Paper, Flags, Places, Total, DrawFull, DrawPublic, Row, Dispute, Voided}
-use Rattle.sg_grammar.specs.Due.{audit, commits, race_codes, results}
+use Rattle.sg_grammar.specs.Due.{due_audit, commits, race_codes, results}
 use Rattle.sg_grammar.specs.Head.{Making, head_line, no_plan, if_then}
 use Rattle.sg_grammar.specs.Placed.{Placed}
 use Rattle.sg_grammar.specs.Placed.Placed.{OfPlan, CodeCommitAt, RowCommitAt, SealAt, Begun, CodeAt, OverAt, PaperAt, FlagsAt, PlacesAt, TotalAt, DrawnFull, DrawnPublic, RowAt, Disputed}
@@ -112,9 +112,9 @@ taking plan due may_begin placed = option_map (λ line. took line (behind plan d
 -- WHAT MAY BEGIN
 
 -- the first line of the results: behind it the others are due, and at last disputes may come
-abbrev pub first_of : Plan → List Slot → Said → Option Taken
-first_of plan [] said = None
-first_of plan (slot ∷ due) said = taking plan due (part.Disputes 0) (place slot said)
+abbrev pub first_taken : Plan → List Slot → Said → Option Taken
+first_taken plan [] said = None
+first_taken plan (slot ∷ due) said = taking plan due (part.Disputes 0) (place slot said)
 
 -- a ballot of the plan behind this one
 abbrev pub is_later : Plan → ℕ → ℕ → Bool
@@ -125,17 +125,17 @@ is_later plan last ballot = nat_lt last ballot && nat_le ballot (ballots_of plan
 abbrev pub after_block : Plan → ℕ → Said → Option Taken
 after_block plan last (Cast ballot) = if_then (is_later plan last ballot) (took (Begun ballot) (behind plan [] (part.Cast ballot 0 0)))
 after_block plan last (Spoiled ballot) = if_then (is_later plan last ballot) (took (Begun ballot) (behind plan [] (part.Ballots ballot)))
-after_block plan last (Audited ballot) = if_then (is_later plan last ballot) (took (Begun ballot) (behind plan (audit plan ballot) (part.Ballots ballot)))
+after_block plan last (Audited ballot) = if_then (is_later plan last ballot) (took (Begun ballot) (behind plan (due_audit plan ballot) (part.Ballots ballot)))
 after_block plan last (Voided ballot) = if_then (plan.version == 2 && is_later plan last ballot) (took (Begun ballot) (behind plan [] (part.Ballots ballot)))
-after_block plan last said = first_of plan (results plan) said
+after_block plan last said = first_taken plan (results plan) said
 
 -- the column is of a race of the ballot
 abbrev pub is_column : Plan → ℕ → ℕ → ℕ → Bool
 is_column plan ballot race column = ballot_has plan ballot race && nat_lt column (candidates_of plan race)
 
 -- races don't fall, and in one race columns rise
-abbrev pub in_order : ℕ → ℕ → ℕ → ℕ → Bool
-in_order race column next_race next_column = nat_lt race next_race || (race == next_race && nat_le column next_column)
+abbrev pub follows_in_order : ℕ → ℕ → ℕ → ℕ → Bool
+follows_in_order race column next_race next_column = nat_lt race next_race || (race == next_race && nat_le column next_column)
 
 -- the race is of the ballot, and is not one of those behind which the block has gone on
 abbrev pub is_race_left : Plan → ℕ → ℕ → ℕ → Bool
@@ -144,7 +144,7 @@ is_race_left plan ballot race next_race = (nat_lt next_race (length plan.races) 
 -- in the block of a cast ballot: a code of a later column; that a race is over, behind which no line of that race
 -- comes; or what may follow the block
 abbrev pub in_cast : Plan → ℕ → ℕ → ℕ → Said → Option Taken
-in_cast plan ballot race column (Code code) = if_then (is_column plan ballot code.race code.column && in_order race column code.race code.column) (took (CodeAt block.Cast ballot code.race code.column code) (behind plan [] (part.Cast ballot code.race (code.column + 1))))
+in_cast plan ballot race column (Code code) = if_then (is_column plan ballot code.race code.column && follows_in_order race column code.race code.column) (took (CodeAt block.Cast ballot code.race code.column code) (behind plan [] (part.Cast ballot code.race (code.column + 1))))
 in_cast plan ballot race column (Over next_race) = if_then (is_race_left plan ballot race next_race) (took (OverAt ballot next_race) (behind plan [] (part.Cast ballot (next_race + 1) 0)))
 in_cast plan ballot race column said = after_block plan ballot said
 

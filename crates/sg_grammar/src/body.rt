@@ -9,7 +9,7 @@ ghost use Rattle.sg_grammar.specs.Made.{HasSizes, IsMade};
 ghost use Rattle.sg_grammar.specs.Slots.{due_of, rest_of, IsIn, IsInSome, IsPartIn};
 ghost use Rattle.sg_grammar.specs.Standing.{taken_at, IsStandingIn};
 ghost use Rattle.sg_grammar.specs.Spots.{IsRaceOf};
-ghost use Rattle.sg_grammar.specs.Walk.{after_block, after_dispute, after_run, begins, body_line, in_cast, in_order, is_column, is_later, place, take_at, taking};
+ghost use Rattle.sg_grammar.specs.Walk.{after_block, after_dispute, after_run, begins, body_line, in_cast, follows_in_order, is_column, is_later, place, take_at, taking};
 
 use crate::counted::CountedPlan;
 use crate::slots::{first_commit, first_of_audit, first_of_dispute, first_result, next_slot};
@@ -175,7 +175,7 @@ fn stand_after_block(plan: &CountedPlan, last: u32, line: &Line) -> Option<Stand
 
 /// Races don't fall, and in one race columns rise.
 fn is_in_order(race: u32, column: u32, next_race: u32, next_column: u32) -> bool
-    ensures { result ≡ in_order race column next_race next_column }
+    ensures { result ≡ follows_in_order race column next_race next_column }
 {
     race < next_race || (race == next_race && column <= next_column)
 }

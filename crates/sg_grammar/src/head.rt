@@ -5,7 +5,7 @@ ghost use Rattle.sg_plan.specs.Limits.{is_version, most_ballots, most_races, mos
 ghost use Rattle.sg_plan.specs.Names.{is_within};
 ghost use Rattle.sg_plan.specs.declared.plan.Plan.{Plan as PlanSeen};
 ghost use Rattle.sg_forms.specs.Said.{said};
-ghost use Rattle.sg_grammar.specs.Head.{behind_candidate, candidate_line, election_line, head_line, instances_line, last_candidates, later_style_line, made, race_line, run_line, version_line, with_candidate, with_run, with_style};
+ghost use Rattle.sg_grammar.specs.Head.{behind_candidate, candidate_line, election_line, head_line, instances_line, last_candidates, later_style_line, made, race_line, take_run, version_line, with_candidate, with_run, with_style};
 ghost use Rattle.sg_grammar.specs.Made.{IsMade, IsSmall};
 ghost use Rattle.sg_grammar.specs.Slots.{is_run};
 
@@ -176,7 +176,7 @@ fn may_follow_style(plan: &CountedPlan, line: &Line) -> bool
 #[tactic(auto, using(crate::proofs::Claims::tests))]
 fn may_be_run(plan: &CountedPlan, line: &Line) -> bool
     requires { IsSmall plan.now }
-    ensures { result ≡ is_some (run_line plan.now (said line.now)) }
+    ensures { result ≡ is_some (take_run plan.now (said line.now)) }
 {
     match line {
         Line::Ballots { style, count } => is_new_run(

@@ -2,7 +2,7 @@
 ghost use Rattle.std.specs.Prelude.{◌≡◌, ◌+◌, ◌*◌, ◌<◌, ◌≤◌, true, false, length, ◌∷◌, IfSome, IfNone};
 ghost use Rattle.sg_plan.specs.Ballots.{ballot_has, candidates_of, entries_of};
 ghost use Rattle.sg_plan.specs.declared.plan.Plan.{Plan};
-ghost use Rattle.sg_grammar.specs.Due.{audit, commits, race_codes, results, lines_for, bits_on};
+ghost use Rattle.sg_grammar.specs.Due.{due_audit, commits, race_codes, results, lines_for, bits_on};
 ghost use Rattle.sg_grammar.specs.Made.{HasSizes};
 ghost use Rattle.sg_grammar.specs.Slots.{code_commits_from, row_commits_from, codes_from, papers_from, results_from, totals_from, places_from, rows_from, rest_of, rest_of_codes, rest_of_seal, due_of, IsIn, IsInSome, HasNoEntries};
 ghost use Rattle.sg_grammar.specs.Spots.{IsRaceOf, LacksRaces};
@@ -190,7 +190,7 @@ fn first_paper(plan: &CountedPlan, ballot: u32, from: u32) -> Option<Slot>
 /// The first line that is due in the block of an audited ballot: none where the ballot has no race.
 pub(crate) fn first_of_audit(plan: &CountedPlan, ballot: u32) -> Option<Slot>
     requires sized { HasSizes plan.now }
-    ensures due { due_of plan.now result ≡ audit plan.now ballot }
+    ensures due { due_of plan.now result ≡ due_audit plan.now ballot }
     ensures within { IsInSome plan.now result }
 {
     first_paper(plan, ballot, 0)

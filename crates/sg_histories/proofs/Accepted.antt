@@ -10,10 +10,10 @@ use Rattle.sg_acts.specs.declared.replies.Phase.{Phase}
 use Rattle.sg_acts.specs.declared.replies.Reply.{Reply}
 use Rattle.sg_acts.specs.declared.replies.Reply.TheVariants as reply
 use Rattle.sg_keeper.specs.declared.setup.Setup.{Setup}
-use Rattle.sg_histories.specs.Answers.{accepts, early_refusal, early_reply, first_of, is_ballot, is_cast, is_unused, is_voting, knows_secret_of, refusal_of, repeat_of, unless, void_refusal}
+use Rattle.sg_histories.specs.Answers.{accepts, early_refusal, early_reply, first_reply, is_ballot, is_cast_word, is_unused, is_voting, knows_secret_of, refusal_of, repeat_of, unless, void_refusal}
 use Rattle.sg_histories.specs.Histories.{Entry, fate_word}
 
-pub first_none : (o : Option Reply) (os : List (Option Reply)) → first_of (o ∷ os) ≡ None → (o ≡ None) × (first_of os ≡ None)
+pub first_none : (o : Option Reply) (os : List (Option Reply)) → first_reply (o ∷ os) ≡ None → (o ≡ None) × (first_reply os ≡ None)
 first_none None os e = (refl, e)
 first_none (Some x) os e = cc
 
@@ -55,14 +55,14 @@ early plan now told ballot e =
 pub record Voids (plan : Plan) (now : Phase) (told : FateWord) (scanner station ballot : ℕ) : Type 0 where
   pub voting : is_voting now ≡ true
   pub ballot_is : is_ballot plan ballot ≡ true
-  pub cast : is_cast told ≡ true
+  pub cast : is_cast_word told ≡ true
   pub other : (station == scanner) ≡ false
 
 pub voids : (plan : Plan) (now : Phase) (told : FateWord) (scanner station ballot : ℕ) → void_refusal plan now told scanner station ballot ≡ None → Voids plan now told scanner station ballot
 voids plan now told scanner station ballot e =
     let one = first_none (unless (is_voting now) (reply.Phase now)) _ e in
     let two = first_none (unless (is_ballot plan ballot) reply.Ballot) _ one.1 in
-    let three = first_none (unless (is_cast told) (reply.Fate told)) _ two.1 in
+    let three = first_none (unless (is_cast_word told) (reply.Fate told)) _ two.1 in
     let four = first_none (unless (not (station == scanner)) (reply.Station scanner)) _ three.1 in
     record { voting = unless_none _ _ one.0; ballot_is = unless_none _ _ two.0; cast = unless_none _ _ three.0; other = not_true (station == scanner) (unless_none _ _ four.0) }
   where

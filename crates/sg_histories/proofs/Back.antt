@@ -18,7 +18,7 @@ use Rattle.sg_acts.specs.declared.replies.Reply.TheVariants as reply
 use Rattle.sg_keeper.specs.declared.rows.DoneRow.{DoneRow}
 use Rattle.sg_keeper.specs.declared.setup.Setup.{Setup}
 use Rattle.sg_desks.specs.ActTexts.{act_text}
-use Rattle.sg_histories.specs.Answers.{first_of, knows_secret_of, refusal_of, repeat_of, unless}
+use Rattle.sg_histories.specs.Answers.{first_reply, knows_secret_of, refusal_of, repeat_of, unless}
 use Rattle.sg_histories.specs.Histories.{Entry, is_stamped}
 use Rattle.sg_histories.specs.KeptRows.{done_row, rows_of}
 use Rattle.sg_histories.specs.Lawful.{IsAccepted, IsAskable}
@@ -165,7 +165,7 @@ knows [] at h = absurd (omega (arith, h))
 knows (x ∷ xs) zero h = (bytes_eq-Decides x x).1 refl
 knows (x ∷ xs) (suc at) h = knows xs at (omega (arith, h))
 
-all_pass : (s : Bool) (o r : Option Reply) → s ≡ true → o ≡ None → r ≡ None → is_none (first_of (unless s reply.Secret ∷ o ∷ r ∷ [])) ≡ true
+all_pass : (s : Bool) (o r : Option Reply) → s ≡ true → o ≡ None → r ≡ None → is_none (first_reply (unless s reply.Secret ∷ o ∷ r ∷ [])) ≡ true
 all_pass true None None e f g = refl
 all_pass false o r e f g = cc
 all_pass true (Some x) r e f g = cc

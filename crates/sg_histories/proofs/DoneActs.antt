@@ -20,7 +20,7 @@ use Rattle.sg_acts.specs.declared.replies.Reply.TheVariants as reply
 use Rattle.sg_keeper.specs.declared.setup.Setup.{Setup}
 use Rattle.sg_desks.specs.ActTexts.{IsAct, act_text}
 use Rattle.sg_desks.proofs.ActsRead.{texts_differ}
-use Rattle.sg_histories.specs.Answers.{accepts, answer_of, body_of, early_refusal, entry_of, first_of, fits_draw, fits_races, is_ballot, is_cast, is_closed, is_done, is_drawn, is_unused, is_voting, knows_secret_of, next_history, refusal_of, repeat_of, same_act, unless}
+use Rattle.sg_histories.specs.Answers.{accepts, answer_of, body_of, early_refusal, entry_of, first_reply, fits_draw, fits_races, is_ballot, is_cast_word, is_closed, is_done, is_drawn, is_unused, is_voting, knows_secret_of, next_history, refusal_of, repeat_of, same_act, unless}
 use Rattle.sg_histories.specs.Histories.{Entry, act_of_stamp, claims_of, fate_of, fate_word, is_stamped, phase_of, scanner_of}
 use Rattle.sg_histories.specs.HistoryLaws.{ActsStay, DoneActsAreKept, DoneActsStand}
 use Rattle.sg_histories.specs.KeptRows.{done_row, rows_of}
@@ -43,7 +43,7 @@ unless_refuses : (test : Bool) (said : Reply) → is_done said ≡ false → Ref
 unless_refuses true said e = tt
 unless_refuses false said e = e
 
-first_refuses : (o : Option Reply) (os : List (Option Reply)) → Refuses o → Refuses (first_of os) → Refuses (first_of (o ∷ os))
+first_refuses : (o : Option Reply) (os : List (Option Reply)) → Refuses o → Refuses (first_reply os) → Refuses (first_reply (o ∷ os))
 first_refuses None os e rest = rest
 first_refuses (Some said) os e rest = e
 
@@ -80,7 +80,7 @@ refusal_refuses setup history station (act.Claim ballot race code) =
 refusal_refuses setup history station (act.Void ballot) =
     first_refuses (unless (is_voting (phase_of history)) (reply.Phase (phase_of history))) _ (unless_refuses (is_voting (phase_of history)) (reply.Phase (phase_of history)) refl)
     (first_refuses (unless (is_ballot setup.plan ballot) reply.Ballot) _ (unless_refuses (is_ballot setup.plan ballot) reply.Ballot refl)
-    (first_refuses (unless (is_cast (fate_word (fate_of history ballot))) (reply.Fate (fate_word (fate_of history ballot)))) _ (unless_refuses (is_cast (fate_word (fate_of history ballot))) (reply.Fate (fate_word (fate_of history ballot))) refl)
+    (first_refuses (unless (is_cast_word (fate_word (fate_of history ballot))) (reply.Fate (fate_word (fate_of history ballot)))) _ (unless_refuses (is_cast_word (fate_word (fate_of history ballot))) (reply.Fate (fate_word (fate_of history ballot))) refl)
     (first_refuses (unless (not (station == scanner_of history ballot)) (reply.Station (scanner_of history ballot))) [] (unless_refuses (not (station == scanner_of history ballot)) (reply.Station (scanner_of history ballot)) refl) tt)))
 
 -- REPEATS

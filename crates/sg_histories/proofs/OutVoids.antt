@@ -19,7 +19,7 @@ use Rattle.sg_keeper.specs.declared.rows.Rows.{Rows}
 use Rattle.sg_keeper.specs.declared.rows.VoidRow.{VoidRow}
 use Rattle.sg_keeper.specs.declared.setup.Setup.{Setup}
 use Rattle.sg_desks.specs.ActTexts.{act_text, codes_word, mark_word}
-use Rattle.sg_histories.specs.Answers.{is_ballot, is_cast, refusal_of}
+use Rattle.sg_histories.specs.Answers.{is_ballot, is_cast_word, refusal_of}
 use Rattle.sg_histories.specs.Histories.{Entry, claims_of, fate_after, fate_of, fate_word, phase_of, scanner_after, scanner_of}
 use Rattle.sg_histories.specs.KeptRows.{done_row, row_of_act, rows_of}
 use Rattle.sg_histories.specs.Lawful.{IsAskable, Lawful}
@@ -239,7 +239,7 @@ scan_here setup read text history ballot station row marks reads words by is fit
 void_here : (setup : Setup) (read : List ℕ → Option Act) (text : List ℕ) (history : List Entry) (ballot station : ℕ) (row : DoneRow) → ReadsActs setup read
     → row.act ≡ void_of setup ballot → row.station ≡ pos station → is_ballot setup.plan ballot ≡ true
     → (station == scanner_of history ballot) ≡ false
-    → (told : Fate) → is_cast (fate_word told) ≡ true
+    → (told : Fate) → is_cast_word (fate_word told) ≡ true
     → Before setup text history ballot told
     → Tell setup (rows_of setup text history).ballots (put done_before row (rows_of setup text history).dones) ballot (scanner_of history ballot) fate.Voided
 void_here setup read text history ballot station row reads words by known other fate.Unused cast old = cc
@@ -280,7 +280,7 @@ touched setup read text history ballot station row (act.Audit b paper) reads wor
 touched setup read text history ballot station row (act.Void b) reads words by is fit known r e old =
     let same : ballot ≡ b = same_numbers b ballot e in
     let v = voids setup.plan (phase_of history) (fate_word (fate_of history b)) (scanner_of history b) station b r in
-    let cast : is_cast (fate_word (fate_of history ballot)) ≡ true = ap (λ n. is_cast (fate_word (fate_of history n))) same ∙ v.cast in
+    let cast : is_cast_word (fate_word (fate_of history ballot)) ≡ true = ap (λ n. is_cast_word (fate_word (fate_of history n))) same ∙ v.cast in
     let other : (station == scanner_of history ballot) ≡ false = ap (λ n. station == scanner_of history n) same ∙ v.other in
     let text_is : row.act ≡ void_of setup ballot = words ∙ ap (void_of setup) (sym same) in
     subst (λ (t : Bool). Tell setup (rows_of setup text history).ballots (put done_before row (rows_of setup text history).dones) ballot (scanner_of history ballot) (cond t fate.Voided (fate_of history ballot))) (sym e)
@@ -359,8 +359,8 @@ voided_stays setup history station ballot done r v = by_touch (touches ballot do
     not_unused : (b : ℕ) → ballot ≡ b → fate_of history b ≡ fate.Unused → ⊥
     not_unused b same u = let k : fate.Voided ≡ fate.Unused = sym v ∙ (ap (fate_of history) same ∙ u) in (cc)
 
-    not_cast : (b : ℕ) → ballot ≡ b → is_cast (fate_word (fate_of history b)) ≡ true → ⊥
-    not_cast b same c = let k : is_cast (fate_word fate.Voided) ≡ true = ap (λ (f : Fate). is_cast (fate_word f)) (sym v ∙ ap (fate_of history) same) ∙ c in (cc)
+    not_cast : (b : ℕ) → ballot ≡ b → is_cast_word (fate_word (fate_of history b)) ≡ true → ⊥
+    not_cast b same c = let k : is_cast_word (fate_word fate.Voided) ≡ true = ap (λ (f : Fate). is_cast_word (fate_word f)) (sym v ∙ ap (fate_of history) same) ∙ c in (cc)
 
     clash : (other : Act) → refusal_of setup history station other ≡ None → touches ballot other ≡ true → ⊥
     clash (act.Scan b marks) k e = not_unused b (same_numbers b ballot e) (unused_is (fate_of history b) (early setup.plan (phase_of history) (fate_word (fate_of history b)) b (first_none _ _ k).0).unused)
@@ -416,7 +416,7 @@ voids_out setup text (entry ∷ history) lawful = by_act entry.act refl (voids_o
     by_act (act.Claim ballot race code) e old = kept old
     by_act (act.Void ballot) e old =
         let v = voids setup.plan (phase_of history) (fate_word (fate_of history ballot)) (scanner_of history ballot) lawful.0.stamp.station ballot (ap (refusal_of setup history lawful.0.stamp.station) (sym e) ∙ r) in
-        let not_yet : fate_of history ballot ≡ fate.Voided → ⊥ = λ f. (let k : is_cast (fate_word fate.Voided) ≡ true = ap (λ (g : Fate). is_cast (fate_word g)) (sym f) ∙ v.cast in (cc)) in
+        let not_yet : fate_of history ballot ≡ fate.Voided → ⊥ = λ f. (let k : is_cast_word (fate_word fate.Voided) ≡ true = ap (λ (g : Fate). is_cast_word (fate_word g)) (sym f) ∙ v.cast in (cc)) in
         let now : fate_of (entry ∷ history) ballot ≡ fate.Voided = ap (λ (a : Act). fate_after ballot a (fate_of history ballot)) e ∙ ap (λ t. cond t fate.Voided (fate_of history ballot)) (self ballot) in
         record {
           rise = put_rises void_before void_is void_order (record { ballot = pos ballot }) (rows_of setup text history).voids (new_void setup text history ballot lawful.1 not_yet) old.rise;

@@ -41,10 +41,10 @@ use Rattle.sg_histories.specs.Stories.{told_fates}
 -- REFUSALS
 
 -- the first refusal that is there
-abbrev pub first_of : List (Option Reply) → Option Reply
-first_of [] = None
-first_of (None ∷ refusals) = first_of refusals
-first_of (Some refusal ∷ refusals) = Some refusal
+abbrev pub first_reply : List (Option Reply) → Option Reply
+first_reply [] = None
+first_reply (None ∷ refusals) = first_reply refusals
+first_reply (Some refusal ∷ refusals) = Some refusal
 
 -- the refusal, unless the test holds
 abbrev pub unless : Bool → Reply → Option Reply
@@ -72,12 +72,12 @@ is_unused word.Spoiled = false
 is_unused word.Audited = false
 is_unused word.Voided = false
 
-abbrev pub is_cast : FateWord → Bool
-is_cast word.Unused = false
-is_cast word.Cast = true
-is_cast word.Spoiled = false
-is_cast word.Audited = false
-is_cast word.Voided = false
+abbrev pub is_cast_word : FateWord → Bool
+is_cast_word word.Unused = false
+is_cast_word word.Cast = true
+is_cast_word word.Spoiled = false
+is_cast_word word.Audited = false
+is_cast_word word.Voided = false
 
 -- the ballot is in the plan
 abbrev pub is_ballot : Plan → ℕ → Bool
@@ -97,7 +97,7 @@ fits_draw (draw.Public bytes) = nat_le 1 (length bytes) && nat_le (length bytes)
 
 -- of an act on a ballot that should have no fate yet
 abbrev pub early_refusal : Plan → Phase → FateWord → ℕ → Option Reply
-early_refusal plan now told ballot = first_of (
+early_refusal plan now told ballot = first_reply (
     unless (is_voting now) (reply.Phase now)
     ∷ unless (is_ballot plan ballot) reply.Ballot
     ∷ unless (is_unused told) (reply.Fate told)
@@ -105,7 +105,7 @@ early_refusal plan now told ballot = first_of (
 
 -- of a scan
 abbrev pub scan_refusal : Plan → Phase → FateWord → ℕ → List Mark → Option Reply
-scan_refusal plan now told ballot marks = first_of (
+scan_refusal plan now told ballot marks = first_reply (
     early_refusal plan now told ballot
     ∷ option_map reply.Race (first_bad (λ earlier mark. ballot_has plan ballot mark.race) [] marks)
     ∷ option_map reply.Candidate (first_bad (λ earlier mark. nat_lt mark.candidate (candidates_of plan mark.race)) [] marks)
@@ -114,34 +114,34 @@ scan_refusal plan now told ballot marks = first_of (
 
 -- of a print audit
 abbrev pub audit_refusal : Plan → Phase → FateWord → ℕ → List (List ℕ) → Option Reply
-audit_refusal plan now told ballot paper = first_of (
+audit_refusal plan now told ballot paper = first_reply (
     early_refusal plan now told ballot
     ∷ unless (fits_races plan (races_of_ballot plan ballot) paper) reply.Paper
     ∷ [])
 
 -- of a void by a station, of a ballot that another one scanned
 abbrev pub void_refusal : Plan → Phase → FateWord → ℕ → ℕ → ℕ → Option Reply
-void_refusal plan now told scanner station ballot = first_of (
+void_refusal plan now told scanner station ballot = first_reply (
     unless (is_voting now) (reply.Phase now)
     ∷ unless (is_ballot plan ballot) reply.Ballot
-    ∷ unless (is_cast told) (reply.Fate told)
+    ∷ unless (is_cast_word told) (reply.Fate told)
     ∷ unless (not (station == scanner)) (reply.Station scanner)
     ∷ [])
 
 -- of the close
 abbrev pub close_refusal : Phase → Option Reply
-close_refusal now = first_of (unless (is_voting now) (reply.Phase now) ∷ [])
+close_refusal now = first_reply (unless (is_voting now) (reply.Phase now) ∷ [])
 
 -- of the draw
 abbrev pub draw_refusal : Phase → Draw → Option Reply
-draw_refusal now drawn = first_of (
+draw_refusal now drawn = first_reply (
     unless (is_closed now) (reply.Phase now)
     ∷ unless (fits_draw drawn) reply.Draw
     ∷ [])
 
 -- of a claim, where so many are kept
 abbrev pub claim_refusal : Plan → Phase → ℕ → ℕ → ℕ → Option Reply
-claim_refusal plan now kept ballot race = first_of (
+claim_refusal plan now kept ballot race = first_reply (
     unless (is_drawn now) (reply.Phase now)
     ∷ unless (is_ballot plan ballot) reply.Ballot
     ∷ unless (ballot_has plan ballot race) (reply.Race 0)
@@ -194,7 +194,7 @@ repeat_of setup (entry ∷ history) stamp asked =
 
 -- the reply to an act, and nothing where it is new and accepted
 abbrev pub early_reply : Setup → List Entry → Stamp → Act → Option Reply
-early_reply setup history stamp asked = first_of (
+early_reply setup history stamp asked = first_reply (
     unless (knows_secret_of setup.secrets stamp) reply.Secret
     ∷ repeat_of setup history stamp asked
     ∷ refusal_of setup history stamp.station asked

@@ -8,7 +8,7 @@ use Rattle.sg_grammar.specs.Lines.{placed_of}
 use Rattle.sg_check.proofs.Judging.{bad_in-placed, bad_in-seal}
 use Rattle.sg_check.proofs.OneMore.{form_over, kind_over, still_fine}
 use Rattle.sg_check.specs.Judging.{AreOfPlan}
-use Rattle.sg_check.specs.Kinds.{bad_seal, bytes_of, first_bad}
+use Rattle.sg_check.specs.Kinds.{bad_seal, posted_bytes, first_bad}
 use Rattle.sg_check.specs.Verdict.{IsFirstBad, least_broken}
 use Rattle.sg_check.specs.declared.judged.Kind.{Kind}
 use Rattle.sg_check.specs.declared.judged.Kind.TheVariants as kind
@@ -31,9 +31,9 @@ use Rattle.sg_grammar.specs.Walk.{Next, Posted, Taken, headed, read_next, start,
 
 -- LINES WITH THEIR BYTES
 
-bytes_of-push : (lines : List Posted) (line : Posted) → bytes_of (lines ++ line ∷ []) ≡ bytes_of lines ++ line.bytes
-bytes_of-push [] line = append-nil line.bytes
-bytes_of-push (x ∷ lines) line = ap (λ (l : List ℕ). x.bytes ++ l) (bytes_of-push lines line) ∙ sym (append_assoc x.bytes (bytes_of lines) line.bytes)
+posted_bytes-push : (lines : List Posted) (line : Posted) → posted_bytes (lines ++ line ∷ []) ≡ posted_bytes lines ++ line.bytes
+posted_bytes-push [] line = append-nil line.bytes
+posted_bytes-push (x ∷ lines) line = ap (λ (l : List ℕ). x.bytes ++ l) (posted_bytes-push lines line) ∙ sym (append_assoc x.bytes (posted_bytes lines) line.bytes)
 
 pub placed_of-push : (lines : List Posted) (line : Posted) → placed_of (lines ++ line ∷ []) ≡ placed_of lines ++ line.line ∷ []
 placed_of-push lines line = map_push (λ (l : Posted). l.line) lines line
@@ -57,17 +57,17 @@ seal_plan-at expect said t before (Some making) e taken bad =
 
 -- a bad seal is the first bad line, in kind seal
 pub seal_stops : (expect : Next) (sealer : Sealer) (ledger : Option Ledger) (lines : List (List ℕ)) (bytes : List ℕ) (said : Said) (placed : Placed) → (stands : Stands expect sealer ledger lines)
-    → read_next expect bytes ≡ Some said → placed_next expect said ≡ Some placed → bad_seal (bytes_of stands.posted) placed ≡ true → IsFirstBad (lines ++ bytes ∷ []) (length lines + 1) kind.Seal
+    → read_next expect bytes ≡ Some said → placed_next expect said ≡ Some placed → bad_seal (posted_bytes stands.posted) placed ≡ true → IsFirstBad (lines ++ bytes ∷ []) (length lines + 1) kind.Seal
 seal_stops expect sealer ledger lines bytes said placed stands read place bad =
     let there = taken_there expect said placed place in
-    let bad_there : bad_seal (bytes_of stands.posted) there.0.placed ≡ true = ap (λ (p : Placed). bad_seal (bytes_of stands.posted) p) there.2 ∙ bad in
-    let same = seal_plan-at expect said there.0 (bytes_of stands.posted) (head_line expect.plan expect.head said) refl there.1 bad_there in
+    let bad_there : bad_seal (posted_bytes stands.posted) there.0.placed ≡ true = ap (λ (p : Placed). bad_seal (posted_bytes stands.posted) p) there.2 ∙ bad in
+    let same = seal_plan-at expect said there.0 (posted_bytes stands.posted) (head_line expect.plan expect.head said) refl there.1 bad_there in
     kind_over lines (record { posted = stands.posted; next = expect }) bytes there.0 kind.Seal stands.walks stands.fine (take_bytes-read expect bytes said read ∙ there.1) (inl same)
     (bad_in-seal there.0.next.plan stands.posted (record { bytes = bytes; line = there.0.placed }) bad_there)
 
 -- a line that is refused is the first bad line, in the kind in which it is bad
 pub kind_stops : (expect : Next) (sealer : Sealer) (ledger : Option Ledger) (lines : List (List ℕ)) (bytes : List ℕ) (said : Said) (placed : Placed) (k : Kind) → (stands : Stands expect sealer ledger lines)
-    → read_next expect bytes ≡ Some said → bad_seal (bytes_of stands.posted) placed ≡ false → IsRefused expect said placed (placed_of stands.posted) k → IsFirstBad (lines ++ bytes ∷ []) (length lines + 1) k
+    → read_next expect bytes ≡ Some said → bad_seal (posted_bytes stands.posted) placed ≡ false → IsRefused expect said placed (placed_of stands.posted) k → IsFirstBad (lines ++ bytes ∷ []) (length lines + 1) k
 kind_stops expect sealer ledger lines bytes said placed k stands read good refused =
     kind_over lines (record { posted = stands.posted; next = expect }) bytes (took placed refused.next) k stands.walks stands.fine (take_bytes-read expect bytes said read ∙ refused.takes) (inl refused.plan_stays)
     (bad_in-placed refused.next.plan stands.posted (record { bytes = bytes; line = placed }) good
@@ -77,7 +77,7 @@ kind_stops expect sealer ledger lines bytes said placed k stands read good refus
 
 -- a line that is taken leaves the lines fine, and all is kept of it
 pub still_stands : (expect new : Next) (sealer sealer' : Sealer) (ledger ledger' : Option Ledger) (lines : List (List ℕ)) (bytes : List ℕ) (said : Said) (placed : Placed)
-    → (stands : Stands expect sealer ledger lines) → read_next expect bytes ≡ Some said → bad_seal (bytes_of stands.posted) placed ≡ false
+    → (stands : Stands expect sealer ledger lines) → read_next expect bytes ≡ Some said → bad_seal (posted_bytes stands.posted) placed ≡ false
     → IsTaken expect new ledger' said placed (placed_of stands.posted) → ((before : List ℕ) → HasTaken sealer before → HasTaken sealer' (before ++ bytes))
     → Stands new sealer' ledger' (lines ++ bytes ∷ [])
 still_stands expect new sealer sealer' ledger ledger' lines bytes said placed stands read good taken adds =
@@ -88,7 +88,7 @@ still_stands expect new sealer sealer' ledger ledger' lines bytes said placed st
       walks = walk-push start lines (record { posted = stands.posted; next = expect }) bytes (took placed new) stands.walks takes;
       fine = still_fine lines (record { posted = stands.posted; next = expect }) bytes (took placed new) stands.walks stands.fine takes taken.known
           (bad_in-placed new.plan stands.posted line good ∙ taken.good);
-      sealed = subst (λ (all : List ℕ). HasTaken sealer' all) (sym (bytes_of-push stands.posted line)) (adds (bytes_of stands.posted) stands.sealed);
+      sealed = subst (λ (all : List ℕ). HasTaken sealer' all) (sym (posted_bytes-push stands.posted line)) (adds (posted_bytes stands.posted) stands.sealed);
       kept = subst (λ (all : List Placed). Keeps new.plan ledger' all) (sym (placed_of-push stands.posted line)) taken.kept;
     }
 
@@ -109,7 +109,7 @@ pub kind_advances : (expect : Next) (plan : Plan) (sealer : Sealer) (ledger : Le
     → ((before : List Placed) → Tells plan ledger before → found ≡ first_bad plan before placed) → found ≡ Some k
     → (lines : List (List ℕ)) → Stands expect sealer (Some ledger) lines → IsFirstBad (lines ++ bytes ∷ []) (length lines + 1) k
 kind_advances expect plan sealer ledger bytes said placed found k same named read place good judges is lines stands =
-    kind_stops expect sealer (Some ledger) lines bytes said placed k stands read (sym (good (bytes_of stands.posted) stands.sealed))
+    kind_stops expect sealer (Some ledger) lines bytes said placed k stands read (sym (good (posted_bytes stands.posted) stands.sealed))
     (found_refused expect plan ledger said placed found k same named place judges is (placed_of stands.posted) stands.kept)
 
 -- behind one that was found good the lines are fine
@@ -121,7 +121,7 @@ pub line_advances : (expect new : Next) (plan : Plan) (sealer sealer' : Sealer) 
     → ((before : List ℕ) → HasTaken sealer before → HasTaken sealer' (before ++ bytes))
     → (lines : List (List ℕ)) → Stands expect sealer (Some ledger) lines → Stands new sealer' (Some ledger') (lines ++ bytes ∷ [])
 line_advances expect new plan sealer sealer' ledger ledger' bytes said placed found same named read place stepped good judges keeps is adds lines stands =
-    still_stands expect new sealer sealer' (Some ledger) (Some ledger') lines bytes said placed stands read (sym (good (bytes_of stands.posted) stands.sealed))
+    still_stands expect new sealer sealer' (Some ledger) (Some ledger') lines bytes said placed stands read (sym (good (posted_bytes stands.posted) stands.sealed))
     (found_taken expect new plan ledger ledger' said placed found same named place stepped judges keeps is (placed_of stands.posted) stands.kept) adds
 
 -- a line that was found a bad seal is the first bad line
@@ -129,7 +129,7 @@ pub seal_advances : (expect : Next) (sealer : Sealer) (ledger : Option Ledger) (
     → read_next expect bytes ≡ Some said → placed_next expect said ≡ Some placed → ((before : List ℕ) → HasTaken sealer before → true ≡ bad_seal before placed)
     → (lines : List (List ℕ)) → Stands expect sealer ledger lines → IsFirstBad (lines ++ bytes ∷ []) (length lines + 1) kind.Seal
 seal_advances expect sealer ledger bytes said placed read place bad lines stands =
-    seal_stops expect sealer ledger lines bytes said placed stands read place (sym (bad (bytes_of stands.posted) stands.sealed))
+    seal_stops expect sealer ledger lines bytes said placed stands read place (sym (bad (posted_bytes stands.posted) stands.sealed))
 
 -- THE FIRST LINE BEHIND THE PLAN
 

@@ -1,8 +1,8 @@
 -- What is kept of the draw and of the last claim tells one more line, where it told the lines before.
 use Rattle.std.proofs.Common.{◌≡◌, ℕ, Bool, false, List, [], ◌∷◌, ◌++◌, Option, Some, None, is_some, refl, sym, ap, ◌∙◌}
 use Rattle.std.specs.Option.{option_map, option_map_or, option_or}
-use Rattle.sg_check.specs.Facts.{Claim, draws_digits, draws_full, first_given, is_full_draw, last_claim, public_bytes, shows_disputed}
-use Rattle.sg_forms.specs.Reading.{public_bytes as bytes_of_digits}
+use Rattle.sg_check.specs.Facts.{DisputedCode, draws_digits, draws_full, first_given, is_full_draw, last_claim, public_bytes, shows_disputed}
+use Rattle.sg_forms.specs.Reading.{bytes_of_digits}
 use Rattle.sg_ledger.proofs.Lists.{any-push, any-skip, given-push, given-skip, or-true}
 use Rattle.sg_ledger.specs.inside.Steps.{claim_after, coins_after, full_after, with_shown}
 use Rattle.sg_ledger.specs.Tells.{kept_of}
@@ -37,7 +37,7 @@ public_judged coins (Some bytes) are = ap (λ (c : Option (List ℕ)). is_some c
 
 -- THE CLAIM
 
-abbrev behind_more : Placed → Claim → Claim
+abbrev behind_more : Placed → DisputedCode → DisputedCode
 behind_more line claim = record { code = claim.code; answer = claim.answer; behind = claim.behind ++ line ∷ [] }
 
 -- the line is no claim
@@ -49,7 +49,7 @@ alone-none : (line : Placed) → IsNoClaim line → last_claim (line ∷ []) ≡
 alone-none (Disputed ballot race code word) quiet = absurd quiet
 alone-none line quiet = refl
 
-claim_behind : (later : Option Claim) (claim : Claim) (line : Placed)
+claim_behind : (later : Option DisputedCode) (claim : DisputedCode) (line : Placed)
     → option_map_or Some (option_map (behind_more line) later) (Some (behind_more line claim)) ≡ option_map (behind_more line) (option_map_or Some later (Some claim))
 claim_behind None claim line = refl
 claim_behind (Some x) claim line = refl
@@ -58,7 +58,7 @@ claim_behind (Some x) claim line = refl
 claim-push : (lines : List Placed) (line : Placed) → IsNoClaim line → last_claim (lines ++ line ∷ []) ≡ option_map (behind_more line) (last_claim lines)
 claim-push [] line quiet = alone-none line quiet
 claim-push (Disputed ballot race code word ∷ lines) line quiet =
-    ap (λ (o : Option Claim). option_map_or Some o (Some (record { code = code; answer = word; behind = lines ++ line ∷ [] }))) (claim-push lines line quiet)
+    ap (λ (o : Option DisputedCode). option_map_or Some o (Some (record { code = code; answer = word; behind = lines ++ line ∷ [] }))) (claim-push lines line quiet)
     ∙ claim_behind (last_claim lines) (record { code = code; answer = word; behind = lines }) line
 claim-push (x ∷ lines) line quiet = claim-push lines line quiet
 
@@ -66,15 +66,15 @@ claim-push (x ∷ lines) line quiet = claim-push lines line quiet
 claim-new : (lines : List Placed) (ballot race code : ℕ) (word : ClaimWord) → last_claim (lines ++ Disputed ballot race code word ∷ []) ≡ Some (record { code = code; answer = word; behind = [] })
 claim-new [] ballot race code word = refl
 claim-new (Disputed b r c w ∷ lines) ballot race code word =
-    ap (λ (o : Option Claim). option_map_or Some o (Some (record { code = c; answer = w; behind = lines ++ Disputed ballot race code word ∷ [] }))) (claim-new lines ballot race code word)
+    ap (λ (o : Option DisputedCode). option_map_or Some o (Some (record { code = c; answer = w; behind = lines ++ Disputed ballot race code word ∷ [] }))) (claim-new lines ballot race code word)
 claim-new (x ∷ lines) ballot race code word = claim-new lines ballot race code word
 
-kept-more : (claim : Option Claim) (line : Placed) (now : Claimed → Claimed) → ((c : Claim) → now (kept_of c) ≡ kept_of (behind_more line c))
+kept-more : (claim : Option DisputedCode) (line : Placed) (now : Claimed → Claimed) → ((c : DisputedCode) → now (kept_of c) ≡ kept_of (behind_more line c))
     → option_map now (option_map kept_of claim) ≡ option_map kept_of (option_map (behind_more line) claim)
 kept-more None line now same = refl
 kept-more (Some c) line now same = ap Some (same c)
 
-kept-same : (claim : Option Claim) (line : Placed) → ((code : ℕ) → shows_disputed code line ≡ false)
+kept-same : (claim : Option DisputedCode) (line : Placed) → ((code : ℕ) → shows_disputed code line ≡ false)
     → option_map kept_of claim ≡ option_map kept_of (option_map (behind_more line) claim)
 kept-same None line quiet = refl
 kept-same (Some c) line quiet = ap (λ (b : Bool). Some (record { code = c.code; answer = c.answer; shown = b })) (sym (any-skip (shows_disputed c.code) c.behind line (quiet c.code)))
@@ -83,12 +83,12 @@ abbrev pub TellsClaim : Option Claimed → List Placed → Type 0
 TellsClaim claim lines = claim ≡ option_map kept_of (last_claim lines)
 
 pub claim_step : (claim : Option Claimed) (lines : List Placed) (line : Placed) → TellsClaim claim lines → TellsClaim (claim_after claim line) (lines ++ line ∷ [])
-claim_step claim lines (Disputed ballot race code word) told = ap (λ (o : Option Claim). option_map kept_of o) (sym (claim-new lines ballot race code word))
+claim_step claim lines (Disputed ballot race code word) told = ap (λ (o : Option DisputedCode). option_map kept_of o) (sym (claim-new lines ballot race code word))
 claim_step claim lines (CodeAt block ballot race column code) told =
     let line = CodeAt block ballot race column code in
     ap (λ (o : Option Claimed). option_map (with_shown block code.code) o) told
     ∙ (kept-more (last_claim lines) line (with_shown block code.code)
     (λ c. ap (λ (b : Bool). record { code = c.code; answer = c.answer; shown = b }) (sym (any-push (shows_disputed c.code) c.behind line)))
-    ∙ ap (λ (o : Option Claim). option_map kept_of o) (sym (claim-push lines line tt)))
+    ∙ ap (λ (o : Option DisputedCode). option_map kept_of o) (sym (claim-push lines line tt)))
 claim_step claim lines line told =
-    told ∙ (kept-same (last_claim lines) line (λ code. refl) ∙ ap (λ (o : Option Claim). option_map kept_of o) (sym (claim-push lines line tt)))
+    told ∙ (kept-same (last_claim lines) line (λ code. refl) ∙ ap (λ (o : Option DisputedCode). option_map kept_of o) (sym (claim-push lines line tt)))

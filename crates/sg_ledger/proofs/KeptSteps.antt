@@ -4,7 +4,7 @@ use Rattle.std.proofs.lemmas.Bool.{and_from, and_left, and_parts, and_right, bot
 use Rattle.std.proofs.lemmas.List.Sums.{sum_by_push}
 use Rattle.std.specs.List.{list_any}
 use Rattle.sg_grammar.specs.Lines.{is_cast}
-use Rattle.sg_check.specs.Facts.{code_commitment, commits_code, commits_left, commits_right, is_marked, left_commitment, left_of, marks_ballot, marks_entry, opens_left, opens_right, points_to, right_commitment, right_of}
+use Rattle.sg_check.specs.Facts.{code_commitment, commits_code, commits_left, commits_right, is_marked, left_commitment, opened_left, marks_ballot, marks_entry, opens_left, opens_right, points_to, right_commitment, opened_right}
 use Rattle.sg_check.specs.Kinds.{clashes_with, shows_against}
 use Rattle.sg_commit.specs.declared.Digest.{Digest}
 use Rattle.sg_commit.specs.declared.Opening.{Opening}
@@ -227,13 +227,13 @@ seen_set plan table race instance (Some o) r i pointer old within within_i sized
 pub seen_lefts_step : (plan : Plan) (table : List Bool) (lines : List Placed) (line : Placed) → IsPlacedIn plan line → length table ≡ r_rows plan
     → TellsSeenLefts plan table lines → TellsSeenLefts plan (seen_lefts_after plan table line) (lines ++ line ∷ [])
 seen_lefts_step plan table lines (RowAt race instance number opening) placed sized told = λ r i pointer r_in i_in below.
-    seen_set plan table race instance (left_of opening) r i pointer (list_any (opens_left r i pointer) lines) placed.0 placed.1 sized i_in below (told r i pointer r_in i_in below)
+    seen_set plan table race instance (opened_left opening) r i pointer (list_any (opens_left r i pointer) lines) placed.0 placed.1 sized i_in below (told r i pointer r_in i_in below)
     ∙ sym (any-push (opens_left r i pointer) lines (RowAt race instance number opening))
 seen_lefts_step plan table lines line placed sized told = λ r i pointer r_in i_in below. told r i pointer r_in i_in below ∙ sym (any-skip (opens_left r i pointer) lines line refl)
 
 pub seen_rights_step : (plan : Plan) (table : List Bool) (lines : List Placed) (line : Placed) → IsPlacedIn plan line → length table ≡ r_rows plan
     → TellsSeenRights plan table lines → TellsSeenRights plan (seen_rights_after plan table line) (lines ++ line ∷ [])
 seen_rights_step plan table lines (RowAt race instance number opening) placed sized told = λ r i pointer r_in i_in below.
-    seen_set plan table race instance (right_of opening) r i pointer (list_any (opens_right r i pointer) lines) placed.0 placed.1 sized i_in below (told r i pointer r_in i_in below)
+    seen_set plan table race instance (opened_right opening) r i pointer (list_any (opens_right r i pointer) lines) placed.0 placed.1 sized i_in below (told r i pointer r_in i_in below)
     ∙ sym (any-push (opens_right r i pointer) lines (RowAt race instance number opening))
 seen_rights_step plan table lines line placed sized told = λ r i pointer r_in i_in below. told r i pointer r_in i_in below ∙ sym (any-skip (opens_right r i pointer) lines line refl)

@@ -1,7 +1,7 @@
 -- A ledger that tells lines tells one more; and what it judges.
 use Rattle.std.proofs.Common.{◌≡◌, ℕ, ◌<◌, nat_lt, if◌then◌else◌, Bool, true, false, List, [], ◌∷◌, ◌++◌, length, get_or, set, min, ◌+◌, Option, Some, None, refl, sym, ap, ◌∙◌, arith, length-set}
 use Rattle.sg_grammar.specs.Lines.{is_audit, is_cast}
-use Rattle.sg_check.specs.Facts.{is_both, left_of, right_of}
+use Rattle.sg_check.specs.Facts.{is_both, opened_left, opened_right}
 use Rattle.sg_check.specs.Kinds.{first_bad}
 use Rattle.sg_check.specs.Verdict.{total_on}
 use Rattle.sg_check.specs.declared.judged.Total.{Total}
@@ -76,11 +76,11 @@ seen_len plan table race instance None = refl
 seen_len plan table race instance (Some o) = choice_len (nat_lt o.value (entries_of plan race)) table (set table (row_place plan race instance o.value) true) (length-set table (row_place plan race instance o.value) true)
 
 seen_lefts_len : (plan : Plan) (table : List Bool) (line : Placed) → length (seen_lefts_after plan table line) ≡ length table
-seen_lefts_len plan table (RowAt race instance number opening) = seen_len plan table race instance (left_of opening)
+seen_lefts_len plan table (RowAt race instance number opening) = seen_len plan table race instance (opened_left opening)
 seen_lefts_len plan table line = refl
 
 seen_rights_len : (plan : Plan) (table : List Bool) (line : Placed) → length (seen_rights_after plan table line) ≡ length table
-seen_rights_len plan table (RowAt race instance number opening) = seen_len plan table race instance (right_of opening)
+seen_rights_len plan table (RowAt race instance number opening) = seen_len plan table race instance (opened_right opening)
 seen_rights_len plan table line = refl
 
 paths_len : (plan : Plan) (table : List (Option ℕ)) (line : Placed) → length (paths_after plan table line) ≡ length table

@@ -4,8 +4,8 @@ use Rattle.std.proofs.lemmas.Bool.{cases_lt}
 use Rattle.std.proofs.lemmas.List.{get_or-replicate, get_or_append_left, get_or_at, length-append, length-replicate}
 use Rattle.std.proofs.lemmas.Option.{get_or_from_slice_get, slice_get-get_or}
 use Rattle.std.specs.Option.{option_map}
-use Rattle.sg_forms.specs.Reading.{public_bytes as bytes_of_digits}
-use Rattle.sg_check.specs.Facts.{Claim, audits_entry, audits_race, commits_code, commits_left, commits_right, draws_digits, draws_full, flags_row, last_claim, marks_ballot, marks_entry, opens_both, opens_left, opens_right, sets_place, shows_paper, votes_for, votes_on}
+use Rattle.sg_forms.specs.Reading.{bytes_of_digits}
+use Rattle.sg_check.specs.Facts.{DisputedCode, audits_entry, audits_race, commits_code, commits_left, commits_right, draws_digits, draws_full, flags_row, last_claim, marks_ballot, marks_entry, opens_both, opens_left, opens_right, sets_place, shows_paper, votes_for, votes_on}
 use Rattle.sg_ledger.proofs.Lists.{of_plan-any, of_plan-given, of_plan-placed, of_plan-sum, of_plan-totals}
 use Rattle.sg_ledger.specs.inside.Tables.{most_marks, most_votes}
 use Rattle.sg_check.specs.Judging.{AreOfPlan, IsOfPlan}
@@ -204,7 +204,7 @@ made_tells plan ledger bounds made lines are = record {
     full = made.full ∙ sym (of_plan-any draws_full lines are no_full);
     coins = made.coins ∙ sym (ap (λ (o : Option (List ℕ)). option_map coin_seed (option_map bytes_of_digits o)) (of_plan-given draws_digits lines are no_digits));
   };
-  claim = made.claim ∙ sym (ap (λ (o : Option Claim). option_map kept_of o) (no_claim lines are));
+  claim = made.claim ∙ sym (ap (λ (o : Option DisputedCode). option_map kept_of o) (no_claim lines are));
   totals = made.totals ∙ sym (of_plan-totals lines are);
 }
 

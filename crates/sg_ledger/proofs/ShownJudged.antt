@@ -8,7 +8,7 @@ use Rattle.std.proofs.lemmas.Nat.{div-mul-add, mod-mul-add, mod_below}
 use Rattle.std.specs.List.{list_any}
 use Rattle.std.specs.Option.{option_map, option_map_or}
 use Rattle.sg_grammar.specs.Lines.{is_audit, is_cast, is_dispute}
-use Rattle.sg_check.specs.Facts.{Claim, audited_code, audited_entries, audits_entry, both_rows, is_audited, is_both, last_claim, left_of, marks_code, marks_entry, opens_left, paper_code}
+use Rattle.sg_check.specs.Facts.{DisputedCode, audited_code, audited_entries, audits_entry, both_rows, is_audited, is_both, last_claim, opened_left, marks_code, marks_entry, opens_left, paper_code}
 use Rattle.sg_check.specs.Kinds.{bad_dispute, differ, is_right, is_there, wrong_audit, wrong_number, wrong_paper}
 use Rattle.sg_commit.specs.declared.Opening.{Opening}
 use Rattle.sg_forms.specs.declared.line.CodeLine.{CodeLine}
@@ -73,12 +73,12 @@ first_same list count many is =
 
 -- a row is opened on one side and its entry audited, or on both and its entry not audited
 pub audit_judged : (plan : Plan) (audited : List Bool) (lines : List Placed) (race : ℕ) (opening : RowOpening) → race < length plan.races → TellsAudited plan audited lines
-    → option_map_or (λ (o : Opening). nat_lt o.value (entries_of plan race) && differ (is_both opening) (get_or audited (entry_place plan race o.value) false)) (left_of opening) false ≡ wrong_audit plan lines race opening
+    → option_map_or (λ (o : Opening). nat_lt o.value (entries_of plan race) && differ (is_both opening) (get_or audited (entry_place plan race o.value) false)) (opened_left opening) false ≡ wrong_audit plan lines race opening
 audit_judged plan audited lines race opening in_plan told =
-    flag_judged (entries_of plan race) (λ k. get_or audited (entry_place plan race k) false) (λ k. is_audited plan race k lines) (is_both opening) (left_of opening) (λ k below. told race k in_plan below)
+    flag_judged (entries_of plan race) (λ k. get_or audited (entry_place plan race k) false) (λ k. is_audited plan race k lines) (is_both opening) (opened_left opening) (λ k below. told race k in_plan below)
     ∙ as_said opening
   where
-    as_said : (opening : RowOpening) → option_map_or (λ (o : Opening). nat_lt o.value (entries_of plan race) && differ (is_both opening) (is_audited plan race o.value lines)) (left_of opening) false ≡ wrong_audit plan lines race opening
+    as_said : (opening : RowOpening) → option_map_or (λ (o : Opening). nat_lt o.value (entries_of plan race) && differ (is_both opening) (is_audited plan race o.value lines)) (opened_left opening) false ≡ wrong_audit plan lines race opening
     as_said (row.Left left) = refl
     as_said (row.Right right) = refl
     as_said (row.Both left right) = refl
@@ -187,7 +187,7 @@ posted_up plan known lines ballot race column code has below told is (CodeAt blo
 posted_up plan known lines ballot race column code has below told is line placed member marks = absurd (false≢true marks)
 
 -- what is kept of a claim judges its answer at the last code of its block
-pub answer_judged : (plan : Plan) (lines : List Placed) (block : Block) (ballot race column : ℕ) (code : CodeLine) (claim : Option Claim) (kept : Claimed) (marked wrong : Bool)
+pub answer_judged : (plan : Plan) (lines : List Placed) (block : Block) (ballot race column : ℕ) (code : CodeLine) (claim : Option DisputedCode) (kept : Claimed) (marked wrong : Bool)
     → is_dispute block ≡ true → column + 1 ≡ candidates_of plan race → last_claim lines ≡ claim → Some kept ≡ option_map kept_of claim
     → marked ≡ list_any (marks_code ballot race kept.code) lines → wrong ≡ not (is_right kept.answer marked (kept.shown || code.code == kept.code))
     → wrong ≡ bad_dispute plan lines (CodeAt block ballot race column code)

@@ -3,7 +3,7 @@ use Rattle.std.specs.Prelude.{◌≡◌, ℕ, zero, suc, ◌+◌, ◌*◌, ◌/�
 use Rattle.std.specs.List.{list_any}
 use Rattle.std.specs.Option.{option_map, option_map_or}
 use Rattle.sg_plan.specs.Limits.{most_candidates, most_instances}
-use Rattle.sg_check.specs.Facts.{Claim, code_commitment, left_commitment, right_commitment, is_marked, marks_ballot, audited_entries, is_audited, paper_code, is_flagged, is_set, votes_for, opens_left, opens_right, both_rows, is_full_draw, public_bytes, last_claim, shows_disputed}
+use Rattle.sg_check.specs.Facts.{DisputedCode, code_commitment, left_commitment, right_commitment, is_marked, marks_ballot, audited_entries, is_audited, paper_code, is_flagged, is_set, votes_for, opens_left, opens_right, both_rows, is_full_draw, public_bytes, last_claim, shows_disputed}
 use Rattle.sg_check.specs.Verdict.{total_on}
 use Rattle.sg_check.specs.declared.judged.Total.{Total}
 use Rattle.sg_forms.specs.Spelling.{AreDigits}
@@ -68,7 +68,7 @@ abbrev pub opened_lefts : Plan → ℕ → ℕ → List Placed → ℕ
 opened_lefts plan race instance lines = count_to (entries_of plan race) (λ pointer. list_any (opens_left race instance pointer) lines)
 
 -- what is kept of a claim: whether the block shows its code
-abbrev pub kept_of : Claim → Claimed
+abbrev pub kept_of : DisputedCode → Claimed
 kept_of claim = record { code = claim.code; answer = claim.answer; shown = list_any (shows_disputed claim.code) claim.behind }
 
 -- this value is there

@@ -1,6 +1,6 @@
 //! Commitments, and whether what is opened opens them.
 ghost use Rattle.std.specs.Prelude.{◌≡◌, ◌<◌, ◌^◌, ◌||◌, IfOk, not, length, replicate, slice_index_or};
-ghost use Rattle.sg_check.specs.Facts.{left_of, right_of};
+ghost use Rattle.sg_check.specs.Facts.{opened_left, opened_right};
 ghost use Rattle.sg_check.specs.Kinds.{bad_pointer_opening, code_opening, opens_digest};
 ghost use Rattle.sg_ledger.specs.inside.Tables.{with_first};
 
@@ -144,7 +144,7 @@ fn is_pointer_bad(
 
 /// The left pointer, where it is opened.
 pub fn left_opening(opening: &RowOpening) -> Option<Opening>
-    ensures { result ≡ left_of opening.now }
+    ensures { result ≡ opened_left opening.now }
 {
     match *opening {
         RowOpening::Left(left) => Some(left),
@@ -155,7 +155,7 @@ pub fn left_opening(opening: &RowOpening) -> Option<Opening>
 
 /// The right pointer, where it is opened.
 pub fn right_opening(opening: &RowOpening) -> Option<Opening>
-    ensures { result ≡ right_of opening.now }
+    ensures { result ≡ opened_right opening.now }
 {
     match *opening {
         RowOpening::Left(_) => None,

@@ -3,7 +3,7 @@ ghost use Rattle.std.specs.Prelude.{◌≡◌, ◌+◌, ◌<◌, ◌≤◌, ◌^
 ghost use Rattle.std.specs.Option.{option_map_or, option_or};
 ghost use Rattle.sg_check.specs.Facts.{is_both};
 ghost use Rattle.sg_check.specs.Kinds.{is_on_side};
-ghost use Rattle.sg_forms.specs.Reading.{public_bytes as bytes_of_digits};
+ghost use Rattle.sg_forms.specs.Reading.{bytes_of_digits};
 ghost use Rattle.sg_forms.specs.Spelling.{AreDigits};
 ghost use Rattle.sg_streams.specs.CoinSides.{coin_of, coin_seed};
 

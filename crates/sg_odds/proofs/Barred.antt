@@ -18,7 +18,7 @@ use Rattle.sg_grammar.specs.declared.state.Slot.TheVariants as slot
 use Rattle.sg_check.proofs.BoundLaws.{given_there}
 use Rattle.sg_check.proofs.Rows.{one_row, posted_row}
 use Rattle.sg_check.specs.Completions.{Completion, OpensNoneTwice, opened_on, posted_half, posts_half}
-use Rattle.sg_check.specs.Facts.{flags_row, is_flagged, is_marked, is_set, left_of, marks_entry, right_of, sets_place}
+use Rattle.sg_check.specs.Facts.{flags_row, is_flagged, is_marked, is_set, opened_left, marks_entry, opened_right, sets_place}
 use Rattle.sg_check.specs.Kinds.{bad_flag, differ, is_on_side, wrong_left_flag, wrong_right_flag}
 use Rattle.sg_odds.specs.Coins.{before_draw}
 use Rattle.sg_odds.specs.Odds.{half_of, no_opening}
@@ -81,9 +81,9 @@ module _ (plan : Plan) (lines : List Placed) (completion : Completion) (apart : 
       flag : is_flagged race instance row sections ≡ is_flagged race instance row among.0
       flag = sym (front_same (flags_row race instance row) (flags_early race instance row) lines among.0 among.1 race instance row opening apart among.2)
 
-      good : (wrong_left_flag plan among.0 race (is_flagged race instance row among.0) (left_of opening) ≡ false)
-          × (wrong_right_flag plan among.0 race (is_flagged race instance row among.0) (right_of opening) ≡ false)
-      good = or_parts (wrong_left_flag plan among.0 race (is_flagged race instance row among.0) (left_of opening)) (wrong_right_flag plan among.0 race (is_flagged race instance row among.0) (right_of opening))
+      good : (wrong_left_flag plan among.0 race (is_flagged race instance row among.0) (opened_left opening) ≡ false)
+          × (wrong_right_flag plan among.0 race (is_flagged race instance row among.0) (opened_right opening) ≡ false)
+      good = or_parts (wrong_left_flag plan among.0 race (is_flagged race instance row among.0) (opened_left opening)) (wrong_right_flag plan among.0 race (is_flagged race instance row among.0) (opened_right opening))
           (flags among.0 among.1 (RowAt race instance row opening) among.2)
 
       at_side : (c : Side) → (o : Opening) × (opened_on c opening ≡ Some o) → bars plan (before_draw lines) completion (slot.Row race instance row) c ≡ false

@@ -14,7 +14,7 @@ use Rattle.sg_plan.specs.declared.plan.Side.TheVariants as side
 use Rattle.sg_grammar.proofs.Filling.{Fills, StandsAs, is_slot_row_at, stands_as}
 use Rattle.sg_grammar.proofs.Lists.{none-append, none-numbered}
 use Rattle.sg_grammar.proofs.Parting.{AreFree, AreOfDisputes, Parted}
-use Rattle.sg_grammar.specs.Due.{each, flag_line, instance_flags, instance_rows, lines_for, place_line, race_places, race_results, race_rows, race_totals, results, row_opening, total_line}
+use Rattle.sg_grammar.specs.Due.{each, due_flags, instance_flags, instance_rows, lines_for, due_places, race_places, race_results, race_rows, race_totals, results, row_opening, due_totals}
 use Rattle.sg_grammar.specs.Lines.{IsAmong}
 use Rattle.sg_grammar.specs.Parting.{None_of}
 use Rattle.sg_grammar.specs.Placed.{Placed}
@@ -97,10 +97,10 @@ first_none plan =
     none-numbered is_row (race_results plan) 0 (length plan.races - 0) (λ race.
     none-append is_row (each (instance_flags plan race) 0 plan.instances) (race_places plan race ++ race_totals plan race)
     (none-numbered is_row (instance_flags plan race) 0 (plan.instances - 0) (λ instance.
-    none-numbered is_row (flag_line plan race instance) 0 (lines_for (entries_of plan race) - 0) (λ k. refl)))
+    none-numbered is_row (due_flags plan race instance) 0 (lines_for (entries_of plan race) - 0) (λ k. refl)))
     (none-append is_row (race_places plan race) (race_totals plan race)
-    (none-numbered is_row (place_line plan race) 0 (lines_for (entries_of plan race) - 0) (λ k. refl))
-    (none-numbered is_row (total_line race) 0 (candidates_of plan race - 0) (λ k. refl))))
+    (none-numbered is_row (due_places plan race) 0 (lines_for (entries_of plan race) - 0) (λ k. refl))
+    (none-numbered is_row (due_totals race) 0 (candidates_of plan race - 0) (λ k. refl))))
 
 rows_only : (plan : Plan) → None_of is_not_row (rows_due plan)
 rows_only plan =

@@ -14,7 +14,7 @@ use Rattle.sg_grammar.specs.Lines.{placed_of}
 use Rattle.sg_check.proofs.Bounding.{marked_is}
 use Rattle.sg_check.proofs.Counting.{count-same}
 use Rattle.sg_check.specs.Completions.{Completion, is_row_misprinted}
-use Rattle.sg_check.specs.Printings.{AreCodesDifferent, Printing, is_posted_for, marked_code, posted_codes}
+use Rattle.sg_check.specs.Printings.{AreCodesDifferent, Printing, is_posted_for, marked_code, posted_count}
 use Rattle.sg_odds.specs.Odds.{IsInstanceFull, LedIsPosted, is_led, led}
 use Rattle.sg_odds.proofs.Leading.{count-onto, has_half, pointer, pointer_is, pointers_once}
 
@@ -67,7 +67,7 @@ module _ (plan : Plan) (lines : List Placed) (completion : Completion) (printing
         rw (pointer_is plan completion race instance full side.Left row l, pointer_is plan completion race instance full side.Right row r)
         (alike row l.opening r.opening l.is r.is l.below r.below (none row less))
 
-    pub led_posted : led plan lines completion race instance candidate ≡ posted_codes plan lines printing race candidate
+    pub led_posted : led plan lines completion race instance candidate ≡ posted_count plan lines printing race candidate
     led_posted =
         count-same (is_led plan lines completion race instance candidate) (λ row. is_posted_for plan lines printing race candidate (pointer plan completion race instance full side.Left row)) (entries_of plan race) row_alike
         ∙ count-onto (pointer plan completion race instance full side.Left) (entries_of plan race) (is_posted_for plan lines printing race candidate) (pointers_once plan completion race instance full side.Left)

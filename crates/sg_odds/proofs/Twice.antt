@@ -22,7 +22,7 @@ use Rattle.sg_grammar.proofs.Lists.{none-append, none-left, none-numbered}
 use Rattle.sg_grammar.proofs.Parting.{AreFree, AreOfDisputes, Parted, parted}
 use Rattle.sg_grammar.proofs.Ranges.{lines_are_in_plan}
 use Rattle.sg_grammar.proofs.Wholes.{lines_stand_apart}
-use Rattle.sg_grammar.specs.Due.{each, flag_line, instance_flags, instance_rows, lines_for, place_line, race_places, race_results, race_rows, race_totals, results, row_opening, total_line}
+use Rattle.sg_grammar.specs.Due.{each, due_flags, instance_flags, instance_rows, lines_for, due_places, race_places, race_results, race_rows, race_totals, results, row_opening, due_totals}
 use Rattle.sg_grammar.specs.Lines.{IsAmong, placed_of}
 use Rattle.sg_grammar.specs.Parting.{Apart, None_of, clash}
 use Rattle.sg_grammar.specs.Placed.{Placed}
@@ -91,10 +91,10 @@ results_none plan =
     (none-numbered is_other (race_results plan) 0 (length plan.races - 0) (λ race.
     none-append is_other (each (instance_flags plan race) 0 plan.instances) (race_places plan race ++ race_totals plan race)
     (none-numbered is_other (instance_flags plan race) 0 (plan.instances - 0) (λ instance.
-    none-numbered is_other (flag_line plan race instance) 0 (lines_for (entries_of plan race) - 0) (λ k. refl)))
+    none-numbered is_other (due_flags plan race instance) 0 (lines_for (entries_of plan race) - 0) (λ k. refl)))
     (none-append is_other (race_places plan race) (race_totals plan race)
-    (none-numbered is_other (place_line plan race) 0 (lines_for (entries_of plan race) - 0) (λ k. refl))
-    (none-numbered is_other (total_line race) 0 (candidates_of plan race - 0) (λ k. refl)))))
+    (none-numbered is_other (due_places plan race) 0 (lines_for (entries_of plan race) - 0) (λ k. refl))
+    (none-numbered is_other (due_totals race) 0 (candidates_of plan race - 0) (λ k. refl)))))
     (none-append is_other (each (race_rows plan) 0 (length plan.races)) (slot.Seal 3 ∷ [])
     (none-numbered is_other (race_rows plan) 0 (length plan.races - 0) (λ race.
     none-numbered is_other (instance_rows plan race) 0 (plan.instances - 0) (λ instance.

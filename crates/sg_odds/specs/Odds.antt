@@ -14,7 +14,7 @@ use Rattle.sg_check.specs.Completions.{Completion, IsCompletion, OpensNoneTwice,
 use Rattle.sg_check.specs.Facts.{is_full_draw, is_marked, points_to, public_bytes}
 use Rattle.sg_check.specs.Kinds.{opens_digest}
 use Rattle.sg_check.specs.Laws.{IsAccepted}
-use Rattle.sg_check.specs.Printings.{AreCodesDifferent, Printing, count_below, posted_codes}
+use Rattle.sg_check.specs.Printings.{AreCodesDifferent, Printing, count_below, posted_count}
 use Rattle.sg_check.specs.declared.judged.Total.{Total}
 use Rattle.sg_facts.specs.Totals.{total_of}
 use Rattle.sg_odds.specs.Coins.{FewGetYes, GetsYes, before_draw, coins_of, rows_due}
@@ -79,7 +79,7 @@ LedIsPosted = (lines : List (List ℕ)) (walked : Walked) → walk start lines �
     → (printing : Printing) → AreCodesDifferent walked.next.plan printing
     → (race instance candidate : ℕ) → race < length walked.next.plan.races → instance < walked.next.plan.instances → candidate < candidates_of walked.next.plan race
     → ((row : ℕ) → row < entries_of walked.next.plan race → is_row_misprinted walked.next.plan (placed_of walked.posted) completion printing race instance row ≡ false)
-    → led walked.next.plan (placed_of walked.posted) completion race instance candidate ≡ posted_codes walked.next.plan (placed_of walked.posted) printing race candidate
+    → led walked.next.plan (placed_of walked.posted) completion race instance candidate ≡ posted_count walked.next.plan (placed_of walked.posted) printing race candidate
 
 -- THE EXPONENT
 

@@ -15,7 +15,7 @@ use Rattle.sg_acts.specs.declared.asks.Act.TheVariants as act
 use Rattle.sg_acts.specs.declared.asks.Stamp.{Stamp}
 use Rattle.sg_keeper.specs.declared.rows.BallotRow.{BallotRow}
 use Rattle.sg_keeper.specs.declared.rows.ClaimRow.{ClaimRow}
-use Rattle.sg_histories.specs.Answers.{accepts, entry_of, is_cast, is_closed, is_voting, refusal_of, unless}
+use Rattle.sg_histories.specs.Answers.{accepts, entry_of, is_cast_word, is_closed, is_voting, refusal_of, unless}
 use Rattle.sg_acts.specs.declared.replies.Reply.TheVariants as reply
 use Rattle.sg_histories.specs.Lawful.{Lawful}
 use Rattle.sg_histories.proofs.Accepted.{Passed, early, first_none, passed, unless_none, unused_is, voids}
@@ -74,7 +74,7 @@ new_claim setup text (entry ∷ history) number row is above = by_act entry.act 
 
 -- ALL ACTS
 
-not_cast : (told : Fate) → is_cast (fate_word told) ≡ true → told ≡ fate.Voided → ⊥
+not_cast : (told : Fate) → is_cast_word (fate_word told) ≡ true → told ≡ fate.Voided → ⊥
 not_cast fate.Unused e v = cc
 not_cast (fate.Cast marks) e v = cc
 not_cast fate.Spoiled e v = cc

@@ -15,7 +15,7 @@ use Rattle.sg_acts.specs.declared.replies.Phase.{Phase}
 use Rattle.sg_acts.specs.declared.replies.Reply.{Reply}
 use Rattle.sg_acts.specs.declared.replies.Reply.TheVariants as reply
 use Rattle.sg_keeper.specs.declared.setup.Setup.{Setup}
-use Rattle.sg_histories.specs.Answers.{body_of, early_refusal, early_reply, first_of, fits_draw, fits_races, is_ballot, is_cast, is_closed, is_drawn, is_unused, is_voting, knows_secret_of, refusal_of, repeat_of, same_act, unless}
+use Rattle.sg_histories.specs.Answers.{body_of, early_refusal, early_reply, first_reply, fits_draw, fits_races, is_ballot, is_cast_word, is_closed, is_drawn, is_unused, is_voting, knows_secret_of, refusal_of, repeat_of, same_act, unless}
 use Rattle.sg_histories.specs.Histories.{Entry, claims_of, fate_of, fate_word, is_stamped, phase_of, scanner_of}
 
 -- one of the replies of the orders before the keeper
@@ -28,7 +28,7 @@ abbrev pub is_clean : Option Reply → Bool
 is_clean None = true
 is_clean (Some r) = is_early r
 
-clean_first : (o : Option Reply) (os : List (Option Reply)) → is_clean o ≡ true → is_clean (first_of os) ≡ true → is_clean (first_of (o ∷ os)) ≡ true
+clean_first : (o : Option Reply) (os : List (Option Reply)) → is_clean o ≡ true → is_clean (first_reply os) ≡ true → is_clean (first_reply (o ∷ os)) ≡ true
 clean_first None os c cs = cs
 clean_first (Some r) os c cs = c
 
@@ -68,7 +68,7 @@ clean_refusal setup history station (act.Claim ballot race code) =
 clean_refusal setup history station (act.Void ballot) =
     clean_first (unless (is_voting (phase_of history)) (reply.Phase (phase_of history))) _ (clean_unless _ (reply.Phase (phase_of history)) refl)
     (clean_first (unless (is_ballot setup.plan ballot) reply.Ballot) _ (clean_unless _ reply.Ballot refl)
-    (clean_first (unless (is_cast (fate_word (fate_of history ballot))) (reply.Fate (fate_word (fate_of history ballot)))) _ (clean_unless _ (reply.Fate (fate_word (fate_of history ballot))) refl)
+    (clean_first (unless (is_cast_word (fate_word (fate_of history ballot))) (reply.Fate (fate_word (fate_of history ballot)))) _ (clean_unless _ (reply.Fate (fate_word (fate_of history ballot))) refl)
     (clean_first (unless (not (station == scanner_of history ballot)) (reply.Station (scanner_of history ballot))) [] (clean_unless _ (reply.Station (scanner_of history ballot)) refl) refl)))
 
 clean_repeat : (setup : Setup) (history : List Entry) (stamp : Stamp) (done : Act) → is_clean (repeat_of setup history stamp done) ≡ true

@@ -20,7 +20,7 @@ use Rattle.sg_acts.specs.declared.replies.Reply.{Reply}
 use Rattle.sg_acts.specs.declared.replies.Reply.TheVariants as reply
 use Rattle.sg_acts.specs.declared.replies.FateWord.TheVariants as word
 use Rattle.sg_acts.specs.declared.replies.Phase.TheVariants as phase
-use Rattle.sg_histories.specs.Answers.{early_refusal, first_of, fits_races, is_ballot}
+use Rattle.sg_histories.specs.Answers.{early_refusal, first_reply, fits_races, is_ballot}
 use Rattle.sg_histories.specs.ValidRows.{fits}
 
 -- TESTS
@@ -29,19 +29,19 @@ map_none : {A B : Type 0} (f : A → B) (o : Option A) → is_none (option_map f
 map_none f None = refl
 map_none f (Some x) = refl
 
-four : (e a b c : Option Reply) → is_none (first_of (e ∷ a ∷ b ∷ c ∷ [])) ≡ (is_none e && (is_none a && (is_none b && is_none c)))
+four : (e a b c : Option Reply) → is_none (first_reply (e ∷ a ∷ b ∷ c ∷ [])) ≡ (is_none e && (is_none a && (is_none b && is_none c)))
 four (Some x) a b c = refl
 four None (Some x) b c = refl
 four None None (Some x) c = refl
 four None None None (Some x) = refl
 four None None None None = refl
 
-two : (e a : Option Reply) → is_none (first_of (e ∷ a ∷ [])) ≡ (is_none e && is_none a)
+two : (e a : Option Reply) → is_none (first_reply (e ∷ a ∷ [])) ≡ (is_none e && is_none a)
 two (Some x) a = refl
 two None (Some x) = refl
 two None None = refl
 
-early_is : (test : Bool) → is_none (first_of (None ∷ cond test None (Some reply.Ballot) ∷ None ∷ [])) ≡ test
+early_is : (test : Bool) → is_none (first_reply (None ∷ cond test None (Some reply.Ballot) ∷ None ∷ [])) ≡ test
 early_is true = refl
 early_is false = refl
 

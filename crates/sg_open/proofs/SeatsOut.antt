@@ -18,7 +18,7 @@ use Rattle.sg_keeper.specs.declared.rows.BallotRow.{BallotRow}
 use Rattle.sg_keeper.specs.declared.rows.VoidRow.{VoidRow}
 use Rattle.sg_keeper.specs.declared.rows.Rows.{Rows}
 use Rattle.sg_keeper.specs.declared.setup.Setup.{Setup}
-use Rattle.sg_histories.specs.Answers.{is_ballot, is_cast, refusal_of}
+use Rattle.sg_histories.specs.Answers.{is_ballot, is_cast_word, refusal_of}
 use Rattle.sg_histories.specs.Histories.{Entry, claims_of, fate_after, fate_of, fate_word, phase_of, scanner_after, scanner_of}
 use Rattle.sg_histories.specs.KeptRows.{row_of_act, rows_of}
 use Rattle.sg_histories.specs.Lawful.{IsAskable, Lawful}
@@ -194,7 +194,7 @@ audit_here setup stations text history ballot station paper reads askable f long
     subst (λ (t : Bool). Seats setup stations (put ballot_before row (rows_of setup text history).ballots) (rows_of setup text history).voids ballot (scanner_of history ballot) (cond t (fate.Audited paper) (fate_of history ballot)))
     (sym (self ballot)) (sat, told.1)
 
-void_here : (setup : Setup) (stations : List ℕ → Option ℤ) (text : List ℕ) (history : List Entry) (ballot : ℕ) (told : Fate) → is_cast (fate_word told) ≡ true
+void_here : (setup : Setup) (stations : List ℕ → Option ℤ) (text : List ℕ) (history : List Entry) (ballot : ℕ) (told : Fate) → is_cast_word (fate_word told) ≡ true
     → Before setup stations text history ballot told → Tell setup (rows_of setup text history).ballots (rows_of setup text history).dones ballot (scanner_of history ballot) told
     → Seats setup stations (rows_of setup text history).ballots (put void_before (record { ballot = pos ballot }) (rows_of setup text history).voids) ballot (scanner_of history ballot) fate.Voided
 void_here setup stations text history ballot fate.Unused cast old tell = cc
@@ -235,7 +235,7 @@ touched setup stations text history ballot station (act.Audit b paper) reads rac
 touched setup stations text history ballot station (act.Void b) reads races askable f known r e old tell =
     let same : ballot ≡ b = same_numbers b ballot e in
     let v = voids setup.plan (phase_of history) (fate_word (fate_of history b)) (scanner_of history b) station b r in
-    let cast : is_cast (fate_word (fate_of history ballot)) ≡ true = ap (λ n. is_cast (fate_word (fate_of history n))) same ∙ v.cast in
+    let cast : is_cast_word (fate_word (fate_of history ballot)) ≡ true = ap (λ n. is_cast_word (fate_word (fate_of history n))) same ∙ v.cast in
     subst (λ (n : ℕ). After setup stations text history ballot station (act.Void n)) same
     (subst (λ (t : Bool). Seats setup stations (rows_of setup text history).ballots (put void_before (record { ballot = pos ballot }) (rows_of setup text history).voids) ballot (scanner_of history ballot) (cond t fate.Voided (fate_of history ballot))) (sym (self ballot))
     (void_here setup stations text history ballot (fate_of history ballot) cast old tell))

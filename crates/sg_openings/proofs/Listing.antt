@@ -1,7 +1,7 @@
 -- The lines that are written row by row are those of the text.
-use Rattle.std.proofs.Common.{◌≡◌, ℕ, ◌+◌, ◌≤◌, List, [], ◌∷◌, ◌++◌, length, map, Option, Result, Ok, Err, refl, ap, ◌∙◌, arith}
+use Rattle.std.proofs.Common.{◌≡◌, ℕ, ◌≤◌, List, [], ◌∷◌, ◌++◌, length, map, Option, Result, Ok, Err, refl, ap, ◌∙◌, arith}
 use Rattle.std.specs.Io.KnownBytes.{Appends}
-use Rattle.std.specs.List.{concat, flat_map}
+use Rattle.std.specs.List.{concat}
 use Rattle.sg_outside.specs.Faults.{HasCause}
 use Rattle.sg_outside.specs.Streams.{PutAppends}
 use Rattle.sg_outside.proofs.StreamLemmas.{Appends-trans, AppendsFront-trans}
@@ -11,7 +11,6 @@ use Rattle.sg_streams.specs.Numbers.{numbers_below}
 use Rattle.sg_forms.specs.Said.Said.{Row}
 use Rattle.sg_forms.specs.Spelling.{spelling}
 use Rattle.sg_forms.specs.declared.line.RowOpening.{RowOpening}
-use Rattle.sg_grammar.specs.Due.{each}
 use Rattle.sg_post.specs.Posted.{both_sides}
 use Rattle.sg_post.proofs.Numbered.{flat-numbers, flat-same, map-flat, map-single, map-twice}
 use Rattle.sg_record.specs.Writing.{text_in}

@@ -9,8 +9,7 @@ ghost use Rattle.sg_parts.specs.inside.Checks.{FirstBelow, FirstPair, FirstRow, 
 ghost use Rattle.sg_plan.specs.Ballots.{entries_of};
 ghost use Rattle.sg_plan.specs.Limits.{fault_of};
 
-use crate::cutting::is_same;
-use crate::looks::{Half, entry_code, given_half, posted_half, printed_code, row_at};
+use crate::looks::{Half, entry_code, given_half, is_same, posted_half, printed_code, row_at};
 use crate::parts::RowGiven;
 use sg_commit::{CommitKind, Digest, Opening, opens};
 use sg_forms::RowOpening;

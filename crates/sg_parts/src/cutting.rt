@@ -1,42 +1,75 @@
-//! Where the record ends in the text, and which bytes are a line.
-ghost use Rattle.std.specs.Prelude.{◌≡◌, ◌≤◌, bytes_eq, drop, length, take};
-ghost use Rattle.sg_outside.specs.TextLines.{lines_of};
-ghost use Rattle.sg_parts.specs.Faults.{lines_behind, record_lines};
+//! Rows that were read one after another, cut into races and instances.
+ghost use Rattle.std.specs.Prelude.{◌≡◌, ◌*◌, IfOk, None, length};
+ghost use Rattle.sg_parts.specs.inside.Cutting.{AreCut, AreInstances};
+ghost use Rattle.sg_plan.specs.Ballots.{r_rows};
+ghost use Rattle.sg_plan.specs.Limits.{fault_of};
 
-use sg_outside::line_end;
+use crate::parts::RowGiven;
+use sg_plan::{Items, NoMemory, Plan};
+use std::alloc::Global;
 
-/// Where the record ends.
-#[derive(Clone, Copy, Debug, PartialEq, Eq)]
-pub(crate) struct Split {
-    /// How many bytes it has.
-    pub end: usize,
-    /// How many lines it has.
-    pub lines: usize,
-}
-
-/// The bytes are the same.
-pub(crate) fn is_same(bytes: &[u8], other: &[u8]) -> bool
-    ensures { result ≡ bytes_eq bytes.now other.now }
+/// How many rows a completion has.
+pub(crate) fn count_rows(plan: &Plan) -> u32
+    requires { fault_of plan.now ≡ None }
+    ensures { result ≡ r_rows plan.now }
 {
-    bytes == other
-}
-
-/// Where the first line `printing` begins, or the bytes end.
-pub(crate) fn split_record(bytes: &[u8]) -> Split
-    ensures within { result.end ≤ length bytes.now }
-    ensures front { lines_of (take result.end bytes.now) ≡ record_lines (lines_of bytes.now) }
-    ensures behind { lines_of (drop result.end bytes.now) ≡ lines_behind (lines_of bytes.now) }
-    ensures lines { result.lines ≡ length (record_lines (lines_of bytes.now)) }
-{
-    let mut end = 0;
-    let mut lines = 0;
-    while end < bytes.len() {
-        let next = line_end(bytes, end);
-        if is_same(&bytes[end..next], b"printing\n") {
-            return Split { end, lines };
-        }
-        end = next;
-        lines += 1;
+    sg_plan::laws::bounds_law();
+    let mut entries = 0;
+    for race in 0..plan.races.len() as u32 {
+        entries += plan.entries(race);
     }
-    Split { end, lines }
+    plan.instances * entries
+}
+
+/// A list of these rows.
+fn copy_rows(alloc: Global, rows: &[RowGiven]) -> Result<Items<RowGiven>, NoMemory>
+    ensures { IfOk result (λ list. list ≡ rows.now) }
+{
+    let mut list = Items::with_room(alloc, rows.len())?;
+    list.extend(rows)?;
+    Ok(list)
+}
+
+/// The rows of so many instances, of so many rows each.
+fn cut_instances(
+    alloc: Global,
+    rows: &[RowGiven],
+    instances: usize,
+    count: usize,
+) -> Result<Items<Items<RowGiven>>, NoMemory>
+    requires { length rows.now ≡ instances * count }
+    ensures { IfOk result (AreInstances instances count rows.now) }
+{
+    let mut cut = Items::with_room(alloc, instances)?;
+    let mut done = 0;
+    for _at in 0..instances {
+        let next = done + count;
+        let here = copy_rows(alloc, &rows[done..next])?;
+        cut.push(here)?;
+        done = next;
+    }
+    Ok(cut)
+}
+
+/// The rows of all races.
+pub(crate) fn cut_races(
+    alloc: Global,
+    plan: &Plan,
+    rows: &[RowGiven],
+) -> Result<Items<Items<Items<RowGiven>>>, NoMemory>
+    requires good { fault_of plan.now ≡ None }
+    requires all { length rows.now ≡ r_rows plan.now }
+    ensures { IfOk result (AreCut plan.now rows.now) }
+{
+    let instances = plan.instances as usize;
+    let mut cut = Items::with_room(alloc, plan.races.len())?;
+    let mut done = 0;
+    for race in 0..plan.races.len() {
+        let count = plan.entries(race as u32) as usize;
+        let next = done + instances * count;
+        let here = cut_instances(alloc, &rows[done..next], instances, count)?;
+        cut.push(here)?;
+        done = next;
+    }
+    Ok(cut)
 }

@@ -1,6 +1,6 @@
 //! Items of nested lists, where there are such, and what they say of a half.
 ghost use Rattle.std.specs.Option.{option_and_then, option_map_or};
-ghost use Rattle.std.specs.Prelude.{◌≡◌, None};
+ghost use Rattle.std.specs.Prelude.{◌≡◌, None, bytes_eq};
 ghost use Rattle.sg_check.specs.Completions.{opened_on};
 ghost use Rattle.sg_facts.specs.Items.{item_in, row_in};
 ghost use Rattle.sg_parts.specs.Given.{completion_of, half_given, printing_of};
@@ -11,6 +11,13 @@ use sg_commit::Opening;
 use sg_forms::RowOpening;
 use sg_plan::{Items, Side};
 use sg_record::Record;
+
+/// The bytes are the same.
+pub(crate) fn is_same(bytes: &[u8], other: &[u8]) -> bool
+    ensures { result ≡ bytes_eq bytes.now other.now }
+{
+    bytes == other
+}
 
 /// A half of a row.
 #[derive(Clone, Copy, Debug, PartialEq, Eq)]

@@ -1,23 +1,12 @@
-//! The printer's sheet, read from the text.
+//! The codes that a line of the printer's sheet has.
 ghost use Rattle.std.specs.List.{list_any};
-ghost use Rattle.std.specs.Prelude.{◌≡◌, ℕ, ◌<◌, ◌≤◌, ◌==◌, [], IfOk, OnOk, Some, drop, length, replicate, slice_get, true};
+ghost use Rattle.std.specs.Prelude.{◌≡◌, ◌<◌, ◌==◌, [], IfOk, OnOk, length, replicate, true};
 ghost use Rattle.sg_check.specs.Kinds.{has_repeat};
-ghost use Rattle.sg_outside.specs.TextLines.{lines_of};
-ghost use Rattle.sg_parts.specs.inside.Filling.{ReadsSheet, TakesCodes, TakesLine, is_race_due, with_list};
-ghost use Rattle.sg_sheet.specs.declared.due.Due.{Due as DueSeen};
+ghost use Rattle.sg_parts.specs.inside.Filling.{TakesCodes, TakesLine, is_race_due, with_list};
 
-use sg_outside::line_end;
 use sg_plan::{Items, NoMemory, Plan};
 use sg_sheet::{Due, is_ballot_line, read_codes};
 use std::alloc::Global;
-
-/// What was read of a sheet.
-pub(crate) enum SheetRead {
-    /// The codes by race, ballot row and candidate, and where the sheet ends.
-    Good(Items<Items<Items<u16>>>, usize),
-    /// The number, from 0, of the first line that isn't the sheet's.
-    Off(usize),
-}
 
 /// The code is one of these.
 fn stands_in(codes: &[u16], code: u16) -> bool
@@ -78,7 +67,7 @@ fn take_codes(
 }
 
 /// Reads a line that is due, and answers whether it is this one.
-fn take_line(
+pub(crate) fn take_line(
     alloc: Global,
     plan: &Plan,
     lists: &mut Items<Items<Items<u16>>>,
@@ -95,7 +84,7 @@ fn take_line(
 }
 
 /// A list for each race, with no codes yet.
-fn blank_lists(alloc: Global, plan: &Plan) -> Result<Items<Items<Items<u16>>>, NoMemory>
+pub(crate) fn blank_lists(alloc: Global, plan: &Plan) -> Result<Items<Items<Items<u16>>>, NoMemory>
     ensures { IfOk result (λ lists. lists ≡ replicate (length plan.now.races) []) }
 {
     let mut lists = Items::with_room(alloc, plan.races.len())?;
@@ -103,31 +92,4 @@ fn blank_lists(alloc: Global, plan: &Plan) -> Result<Items<Items<Items<u16>>>, N
         lists.push(Items::new(alloc))?;
     }
     Ok(lists)
-}
-
-/// Reads the lines that are due, from `start` on.
-pub(crate) fn read_sheet(
-    alloc: Global,
-    plan: &Plan,
-    due: &Items<Due>,
-    bytes: &[u8],
-    start: usize,
-) -> Result<SheetRead, NoMemory>
-    requires races { (at : ℕ) (one : DueSeen) → slice_get due.now at ≡ Some one → is_race_due (length plan.now.races) one ≡ true }
-    requires start { start ≤ length bytes.now }
-    ensures { IfOk result (λ read. ReadsSheet plan.now due.now bytes.now (lines_of (drop start bytes.now)) read) }
-{
-    let mut lists = blank_lists(alloc, plan)?;
-    let mut end = start;
-    for at in 0..due.len() {
-        if end >= bytes.len() {
-            return Ok(SheetRead::Off(at));
-        }
-        let next = line_end(bytes, end);
-        if !take_line(alloc, plan, &mut lists, due.get(at), &bytes[end..next])? {
-            return Ok(SheetRead::Off(at));
-        }
-        end = next;
-    }
-    Ok(SheetRead::Good(lists, end))
 }

@@ -4,7 +4,7 @@ use Rattle.std.proofs.lemmas.Bool.{and_from, and_parts, cases_Bool, cases_eq, eq
 use Rattle.sg_plan.proofs.PlanLaws.{rows_are_one}
 use Rattle.sg_plan.specs.Ballots.{ballot_has, ballot_row, candidates_of}
 use Rattle.sg_plan.specs.declared.plan.Plan.{Plan}
-use Rattle.sg_post.specs.Marks.{is_audit, is_audited, is_entry_of, told_audits}
+use Rattle.sg_post.specs.Marks.{is_audit_fate, is_entry_audited, is_entry_of, told_audits}
 use Rattle.sg_post.specs.Posting.{is_audited_ballot}
 use Rattle.sg_post.specs.declared.story.Told.{Told}
 
@@ -28,9 +28,9 @@ one_ballot plan race entry ballot other has row =
     ]
 
 pub audited-entry : (plan : Plan) (fates : List Told) (race entry ballot : ℕ) → ballot_has plan ballot race ≡ true → ballot_row plan race ballot ≡ entry / candidates_of plan race
-    → is_audited_ballot fates ballot ≡ is_audited plan fates race entry
-unfolding is_audited
+    → is_audited_ballot fates ballot ≡ is_entry_audited plan fates race entry
+unfolding is_entry_audited
 audited-entry plan [] race entry ballot has row = refl
 audited-entry plan (told ∷ fates) race entry ballot has row =
-    ap (λ (b : Bool). (b && is_audit told.fate) || is_audited_ballot fates ballot) (one_ballot plan race entry ballot told.ballot has row)
+    ap (λ (b : Bool). (b && is_audit_fate told.fate) || is_audited_ballot fates ballot) (one_ballot plan race entry ballot told.ballot has row)
     ∙ ap (λ (b : Bool). told_audits plan race entry told || b) (audited-entry plan fates race entry ballot has row)

@@ -7,7 +7,7 @@ use Rattle.sg_plan.specs.declared.plan.Mark.{Mark}
 use Rattle.sg_plan.specs.declared.plan.Plan.{Plan}
 use Rattle.sg_streams.specs.Numbers.{numbers_below}
 use Rattle.sg_forms.specs.declared.line.CodeLine.{CodeLine}
-use Rattle.sg_grammar.specs.Walk.{in_order, is_column}
+use Rattle.sg_grammar.specs.Walk.{follows_in_order, is_column}
 use Rattle.sg_record.proofs.CastLines.{marks-earlier}
 use Rattle.sg_plan.specs.Codes.{is_code}
 use Rattle.sg_record.specs.Formed.{are_marks}
@@ -19,8 +19,8 @@ pub record MarksFit (plan : Plan) (seed : List ℕ) (marks : List Mark) (ballot 
   pub has : (race column : ℕ) → shows_mark plan seed marks ballot race column ≡ true → ballot_has plan ballot race ≡ true
   pub code : (race column : ℕ) → race < length plan.races → column < candidates_of plan race → is_code plan (code_line_of plan seed ballot race column).code ≡ true
 
-in_order-same : (race least column : ℕ) → least ≤ column → in_order race least race column ≡ true
-in_order-same race least column low = rw (eq-eqb race race refl, le-leb least column low) (or_true (nat_lt race race))
+follows_in_order-same : (race least column : ℕ) → least ≤ column → follows_in_order race least race column ≡ true
+follows_in_order-same race least column low = rw (eq-eqb race race refl, le-leb least column low) (or_true (nat_lt race race))
   where
     or_true : (b : Bool) → (b || true) ≡ true
     or_true true = refl
@@ -42,11 +42,11 @@ race-marks plan seed marks ballot race least column (suc count) rest fit within 
         → are_marks plan ballot race least (map (code_line_of plan seed ballot race) (filter (shows_mark plan seed marks ballot race) (range_with_len (column + 1) count)) ++ rest) ≡ true
         → are_marks plan ballot race least (map (code_line_of plan seed ballot race) (cond b (column ∷ filter (shows_mark plan seed marks ballot race) (range_with_len (column + 1) count)) (filter (shows_mark plan seed marks ballot race) (range_with_len (column + 1) count))) ++ rest) ≡ true
     at_column true shows on skip =
-        and_from ((is_column plan ballot race column && in_order race least race column) && is_code plan (code_line_of plan seed ballot race column).code) _
-        (and_from (is_column plan ballot race column && in_order race least race column) (is_code plan (code_line_of plan seed ballot race column).code)
-        (and_from (is_column plan ballot race column) (in_order race least race column)
+        and_from ((is_column plan ballot race column && follows_in_order race least race column) && is_code plan (code_line_of plan seed ballot race column).code) _
+        (and_from (is_column plan ballot race column && follows_in_order race least race column) (is_code plan (code_line_of plan seed ballot race column).code)
+        (and_from (is_column plan ballot race column) (follows_in_order race least race column)
         (and_from (ballot_has plan ballot race) (nat_lt column (candidates_of plan race)) (fit.has race column shows) (lt-ltb column (candidates_of plan race) (omega (arith, high))))
-        (in_order-same race least column low))
+        (follows_in_order-same race least column low))
         (fit.code race column within (omega (arith, high)))) on
     at_column false shows on skip = skip
 

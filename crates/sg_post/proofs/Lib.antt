@@ -20,4 +20,3 @@ pub mod RowMarking
 pub mod Sealing
 pub mod Stories
 pub mod StoryFits
-pub mod StoryLines

@@ -1,69 +1,48 @@
 -- The lines as they are written are those of the record.
-use Rattle.std.proofs.Common.{◌≡◌, ℕ, ◌<◌, ◌==◌, Bool, true, false, cond, List, [], ◌∷◌, ◌++◌, length, map, filter, refl, sym, ap, ◌∙◌, append-nil}
+use Rattle.std.proofs.Common.{◌≡◌, ℕ, ◌<◌, ◌==◌, Bool, true, false, cond, List, [], ◌∷◌, ◌++◌, length, map, filter, get_or, refl, sym, ap, ◌∙◌, append-nil}
 use Rattle.std.specs.List.{flat_map, list_any}
-use Rattle.sha2.specs.Sha256.{sha256}
 use Rattle.sg_plan.specs.Ballots.{ballot_row, candidates_of, entries_of, races_of_ballot}
 use Rattle.sg_plan.specs.declared.plan.Draw.{Draw}
-use Rattle.sg_plan.specs.declared.plan.Draw.TheVariants as drawn
 use Rattle.sg_plan.specs.declared.plan.Fate.{Fate}
 use Rattle.sg_plan.specs.declared.plan.Fate.TheVariants as fate
 use Rattle.sg_plan.specs.declared.plan.Mark.{Mark}
 use Rattle.sg_plan.specs.declared.plan.Plan.{Plan}
-use Rattle.sg_commit.specs.declared.Digest.{Digest}
 use Rattle.sg_streams.specs.Numbers.{numbers_below}
+use Rattle.sg_tables.proofs.Lists.{get_or-map_below}
 use Rattle.sg_tables.specs.Posts.{column_marked, is_void, marked_columns, void_races}
-use Rattle.sg_forms.specs.Said.{Said}
-use Rattle.sg_forms.specs.Said.Said.{Audited, Cast, Code, Dispute, Over, Seal, Spoiled, Voided}
+use Rattle.sg_forms.specs.Said.Said.{Audited, Cast, Code, Dispute, Over, Spoiled, Voided}
 use Rattle.sg_forms.specs.declared.line.CodeLine.{CodeLine}
 use Rattle.sg_grammar.specs.Due.{each}
-use Rattle.sg_record.specs.Lines.{block_lines, cast_race_lines, code_commit_line, dispute_lines, draw_line, fate_lines, indexed, instance_row_commit_lines, instance_row_lines, opening_lines, paper_lines, plan_lines, race_code_commit_lines, race_result_lines, race_row_commit_lines, race_row_lines, result_lines, row_commit_line, row_line}
-use Rattle.sg_record.specs.Writing.{text_in}
+use Rattle.sg_record.specs.Lines.{block_lines, cast_race_lines, code_commit_line, dispute_lines, fate_lines, instance_row_commit_lines, instance_row_lines, paper_lines, race_code_commit_lines, row_commit_line, row_line}
 use Rattle.sg_record.specs.declared.record.BlockFate.TheVariants as block
-use Rattle.sg_post.specs.Marks.{flag_of, is_set}
-use Rattle.sg_post.specs.Posted.{audited_codes, audited_race_codes, by_entry, by_row, cast_codes, code_commit_of, code_in_row, dispute_of, first_lines, marked_codes, opened_row, posted_record, race_codes_of, row_commit_of, seal_1, seal_2, seal_3, second_lines, third_lines, told_blocks}
-use Rattle.sg_post.specs.Posting.{IsPosting}
-use Rattle.sg_post.specs.inside.Lines.{audited_block, audited_race, cast_block, cast_race, claim_lines, code_commits, instance_openings, instance_row_commits, marked_code, marked_row_codes, race_commits, race_openings, race_results, race_row_commits, row_code, row_codes, row_commits, section_1, section_2, section_3, told_lines, void_line}
-use Rattle.sg_post.specs.declared.posting.Posting.{Posting}
+use Rattle.sg_post.specs.Posted.{audited_codes, audited_race_codes, by_entry, by_row, cast_codes, code_commit_of, code_in_row, dispute_of, marked_codes, opened_row, race_codes_of, row_commit_of, told_blocks}
+use Rattle.sg_post.specs.inside.Lines.{audited_block, audited_race, cast_block, cast_race, claim_lines, instance_openings, instance_row_commits, marked_code, marked_row_codes, race_commits, row_code, row_codes, told_lines, void_line}
 use Rattle.sg_post.specs.declared.story.Claimed.{Claimed}
 use Rattle.sg_post.specs.declared.story.Told.{Told}
 use Rattle.sg_post.proofs.Claims.{PostsNothing}
+use Rattle.sg_post.proofs.Made.{race-list}
 use Rattle.sg_post.proofs.Numbered.{any-passing, codes-of, each-no, each-same, flat-map, flat-numbers, flat-same, flat-twice, indexed-numbers, map-flat, map-passing, map-single, map-twice, own-codes}
 
 -- COMMITMENTS
 
-pub codes-are : (plan : Plan) (seed : List ℕ) → indexed race_code_commit_lines 0 (by_entry plan (code_commit_of plan seed)) ≡ code_commits plan seed
-codes-are plan seed =
-    indexed-numbers race_code_commit_lines (λ race. map (code_commit_of plan seed race) (numbers_below (entries_of plan race))) (length plan.races)
-    ∙ each-same (λ race. race_code_commit_lines race (map (code_commit_of plan seed race) (numbers_below (entries_of plan race)))) (race_commits plan seed) (length plan.races)
-    (λ race within. indexed-numbers (code_commit_line race) (code_commit_of plan seed race) (entries_of plan race))
+pub codes-are : (plan : Plan) (seed : List ℕ) (race : ℕ) → race < length plan.races
+    → race_code_commit_lines race (get_or (by_entry plan (code_commit_of plan seed)) race []) ≡ race_commits plan seed race
+codes-are plan seed race within =
+    ap (race_code_commit_lines race) (race-list plan (code_commit_of plan seed) race within) ∙ indexed-numbers (code_commit_line race) (code_commit_of plan seed race) (entries_of plan race)
 
-pub rows-are : (plan : Plan) (seed : List ℕ) → indexed race_row_commit_lines 0 (by_row plan (row_commit_of plan seed)) ≡ row_commits plan seed
-rows-are plan seed =
-    indexed-numbers race_row_commit_lines (λ race. map (λ instance. map (row_commit_of plan seed race instance) (numbers_below (entries_of plan race))) (numbers_below plan.instances)) (length plan.races)
-    ∙ each-same (λ race. race_row_commit_lines race (map (λ instance. map (row_commit_of plan seed race instance) (numbers_below (entries_of plan race))) (numbers_below plan.instances))) (race_row_commits plan seed) (length plan.races)
-    (λ race within.
-    indexed-numbers (instance_row_commit_lines race) (λ instance. map (row_commit_of plan seed race instance) (numbers_below (entries_of plan race))) plan.instances
-    ∙ each-same (λ instance. instance_row_commit_lines race instance (map (row_commit_of plan seed race instance) (numbers_below (entries_of plan race)))) (instance_row_commits plan seed race) plan.instances
-    (λ instance less. indexed-numbers (row_commit_line race instance) (row_commit_of plan seed race instance) (entries_of plan race)))
+-- the rows of an instance
+instance-list : {A : Type 0} (plan : Plan) (value : ℕ → ℕ → ℕ → A) (race instance : ℕ) → race < length plan.races → instance < plan.instances
+    → get_or (get_or (by_row plan value) race []) instance [] ≡ map (value race instance) (numbers_below (entries_of plan race))
+instance-list {A} plan value race instance within less =
+    let list : ℕ → ℕ → List A = λ r i. map (value r i) (numbers_below (entries_of plan r)) in
+    ap (λ (l : List (List A)). get_or l instance []) (get_or-map_below (λ r. map (list r) (numbers_below plan.instances)) (length plan.races) race [] within)
+    ∙ get_or-map_below (list race) plan.instances instance [] less
 
--- the lines of section 1 with these of the seal
-commits-with : (plan : Plan) (seed : List ℕ) (seals : List Said)
-    → plan_lines plan ++ (indexed race_code_commit_lines 0 (by_entry plan (code_commit_of plan seed)) ++ (indexed race_row_commit_lines 0 (by_row plan (row_commit_of plan seed)) ++ seals))
-    ≡ plan_lines plan ++ (code_commits plan seed ++ (row_commits plan seed ++ seals))
-commits-with plan seed seals =
-    ap (λ l. plan_lines plan ++ (l ++ (indexed race_row_commit_lines 0 (by_row plan (row_commit_of plan seed)) ++ seals))) (codes-are plan seed)
-    ∙ ap (λ l. plan_lines plan ++ (code_commits plan seed ++ (l ++ seals))) (rows-are plan seed)
-
-pub section_1-is : (plan : Plan) (seed : List ℕ) (fates : List Told) (draw : Draw) (claims : List Claimed) → first_lines (posted_record plan seed fates draw claims) ≡ section_1 plan seed
-unfolding section_1
-section_1-is plan seed fates draw claims = commits-with plan seed (Seal 1 (seal_1 plan seed) ∷ [])
-
--- the first seal is over what is written before it
-pub seal_1-is : (plan : Plan) (seed : List ℕ) → seal_1 plan seed ≡ record { 0 = sha256 (text_in plan.version (plan_lines plan ++ (code_commits plan seed ++ row_commits plan seed))) }
-unfolding seal_1
-seal_1-is plan seed =
-    ap (λ (l : List Said). let digest : Digest = record { 0 = sha256 (text_in plan.version l) } in digest)
-    (commits-with plan seed [] ∙ ap (λ l. plan_lines plan ++ (code_commits plan seed ++ l)) (append-nil (row_commits plan seed)))
+pub commits-are : (plan : Plan) (seed : List ℕ) (race instance : ℕ) → race < length plan.races → instance < plan.instances
+    → instance_row_commit_lines race instance (get_or (get_or (by_row plan (row_commit_of plan seed)) race []) instance []) ≡ instance_row_commits plan seed race instance
+commits-are plan seed race instance within less =
+    ap (instance_row_commit_lines race instance) (instance-list plan (row_commit_of plan seed) race instance within less)
+    ∙ indexed-numbers (row_commit_line race instance) (row_commit_of plan seed race instance) (entries_of plan race)
 
 -- BALLOTS
 
@@ -130,76 +109,17 @@ cast_race-none plan seed ballot race what nothing =
     (each-no (marked_code plan seed race row what) (candidates_of plan race) (λ column. ap (λ (b : Bool). cond b (row_code plan seed race row column) []) (nothing.marks _)))
     ∙ ap (λ (b : Bool). cond b (Over race ∷ []) []) nothing.void
 
-ballots-are : (plan : Plan) (seed : List ℕ) (fates : List Told) → flat_map (block_lines plan) (flat_map (told_blocks plan seed) fates) ≡ flat_map (told_lines plan seed) fates
+pub ballots-are : (plan : Plan) (seed : List ℕ) (fates : List Told) → flat_map (block_lines plan) (flat_map (told_blocks plan seed) fates) ≡ flat_map (told_lines plan seed) fates
 unfolding told_lines
 ballots-are plan seed fates = flat-twice (block_lines plan) (told_blocks plan seed) fates
 
--- RESULTS
-
-results-are : (plan : Plan) (seed : List ℕ) (fates : List Told) (draw : Draw) (claims : List Claimed) (posting : Posting) → IsPosting plan seed fates posting
-    → each (race_result_lines (posted_record plan seed fates draw claims)) 0 (length plan.races) ≡ each (race_results posting) 0 (length plan.races)
-results-are plan seed fates draw claims posting is =
-    sym (ap (λ (f : List (List (List Bool))). each (race_results (record posting { flags = f })) 0 (length plan.races)) is.flags
-    ∙ ap (λ (p : List (List Bool)). each (race_results (record posting { flags = by_row plan (flag_of plan seed fates); places = p })) 0 (length plan.races)) is.places
-    ∙ ap (λ (t : List (List ℕ)). each (race_results (record posting { flags = by_row plan (flag_of plan seed fates); places = by_entry plan (is_set plan seed fates); totals = t })) 0 (length plan.races)) is.totals)
-
--- the second section with these lines of the seal
-results-with : (plan : Plan) (seed : List ℕ) (fates : List Told) (draw : Draw) (claims : List Claimed) (posting : Posting) (seals : List Said) → IsPosting plan seed fates posting
-    → flat_map (block_lines plan) (flat_map (told_blocks plan seed) fates) ++ (each (race_result_lines (posted_record plan seed fates draw claims)) 0 (length plan.races) ++ seals)
-    ≡ flat_map (told_lines plan seed) fates ++ (each (race_results posting) 0 (length plan.races) ++ seals)
-results-with plan seed fates draw claims posting seals is =
-    ap (λ l. l ++ (each (race_result_lines (posted_record plan seed fates draw claims)) 0 (length plan.races) ++ seals)) (ballots-are plan seed fates)
-    ∙ ap (λ l. flat_map (told_lines plan seed) fates ++ (l ++ seals)) (results-are plan seed fates draw claims posting is)
-
-pub section_2-is : (plan : Plan) (seed : List ℕ) (fates : List Told) (draw : Draw) (claims : List Claimed) (posting : Posting) → IsPosting plan seed fates posting
-    → second_lines (posted_record plan seed fates draw claims) ≡ section_1 plan seed ++ section_2 plan seed fates posting
-unfolding section_2
-section_2-is plan seed fates draw claims posting is =
-    ap (λ l. l ++ (flat_map (block_lines plan) (flat_map (told_blocks plan seed) fates) ++ result_lines (posted_record plan seed fates draw claims))) (section_1-is plan seed fates draw claims)
-    ∙ ap (λ l. section_1 plan seed ++ l) (results-with plan seed fates draw claims posting (Seal 2 (seal_2 plan seed fates) ∷ []) is)
-
--- the second seal is over what is written before it
-pub seal_2-is : (plan : Plan) (seed : List ℕ) (fates : List Told) (posting : Posting) → IsPosting plan seed fates posting
-    → seal_2 plan seed fates ≡ record { 0 = sha256 (text_in plan.version (section_1 plan seed ++ (flat_map (told_lines plan seed) fates ++ each (race_results posting) 0 (length plan.races)))) }
-unfolding seal_2
-seal_2-is plan seed fates posting is =
-    ap (λ (l : List Said). let digest : Digest = record { 0 = sha256 (text_in plan.version l) } in digest)
-    (ap (λ l. l ++ (flat_map (block_lines plan) (flat_map (told_blocks plan seed) fates) ++ (each (race_result_lines (posted_record plan seed fates drawn.Full [])) 0 (length plan.races) ++ []))) (section_1-is plan seed fates drawn.Full [])
-    ∙ ap (λ l. section_1 plan seed ++ l) (results-with plan seed fates drawn.Full [] posting [] is)
-    ∙ ap (λ l. section_1 plan seed ++ (flat_map (told_lines plan seed) fates ++ l)) (append-nil (each (race_results posting) 0 (length plan.races))))
-
 -- OPENINGS
 
-pub openings-are : (plan : Plan) (seed : List ℕ) (fates : List Told) (draw : Draw) → indexed race_row_lines 0 (by_row plan (opened_row plan seed fates draw)) ≡ each (race_openings plan seed fates draw) 0 (length plan.races)
-openings-are plan seed fates draw =
-    indexed-numbers race_row_lines (λ race. map (λ instance. map (opened_row plan seed fates draw race instance) (numbers_below (entries_of plan race))) (numbers_below plan.instances)) (length plan.races)
-    ∙ each-same (λ race. race_row_lines race (map (λ instance. map (opened_row plan seed fates draw race instance) (numbers_below (entries_of plan race))) (numbers_below plan.instances))) (race_openings plan seed fates draw) (length plan.races)
-    (λ race within.
-    indexed-numbers instance_row_lines (λ instance. map (opened_row plan seed fates draw race instance) (numbers_below (entries_of plan race))) plan.instances
-    ∙ each-same (λ instance. instance_row_lines instance (map (opened_row plan seed fates draw race instance) (numbers_below (entries_of plan race)))) (instance_openings plan seed fates draw race) plan.instances
-    (λ instance less. indexed-numbers row_line (opened_row plan seed fates draw race instance) (entries_of plan race)))
-
-openings-with : (plan : Plan) (seed : List ℕ) (fates : List Told) (draw : Draw) (seals : List Said)
-    → draw_line draw ∷ (indexed race_row_lines 0 (by_row plan (opened_row plan seed fates draw)) ++ seals) ≡ draw_line draw ∷ (each (race_openings plan seed fates draw) 0 (length plan.races) ++ seals)
-openings-with plan seed fates draw seals = ap (λ l. draw_line draw ∷ (l ++ seals)) (openings-are plan seed fates draw)
-
-pub section_3-is : (plan : Plan) (seed : List ℕ) (fates : List Told) (draw : Draw) (claims : List Claimed) (posting : Posting) → IsPosting plan seed fates posting
-    → third_lines (posted_record plan seed fates draw claims) ≡ (section_1 plan seed ++ section_2 plan seed fates posting) ++ section_3 plan seed fates draw
-unfolding section_3
-section_3-is plan seed fates draw claims posting is =
-    ap (λ l. l ++ opening_lines (posted_record plan seed fates draw claims)) (section_2-is plan seed fates draw claims posting is)
-    ∙ ap (λ l. (section_1 plan seed ++ section_2 plan seed fates posting) ++ l) (openings-with plan seed fates draw (Seal 3 (seal_3 plan seed fates draw) ∷ []))
-
--- the third seal is over what is written before it
-pub seal_3-is : (plan : Plan) (seed : List ℕ) (fates : List Told) (draw : Draw) (posting : Posting) → IsPosting plan seed fates posting
-    → seal_3 plan seed fates draw
-    ≡ record { 0 = sha256 (text_in plan.version ((section_1 plan seed ++ section_2 plan seed fates posting) ++ (draw_line draw ∷ each (race_openings plan seed fates draw) 0 (length plan.races)))) }
-unfolding seal_3
-seal_3-is plan seed fates draw posting is =
-    ap (λ (l : List Said). let digest : Digest = record { 0 = sha256 (text_in plan.version l) } in digest)
-    (ap (λ l. l ++ (draw_line draw ∷ (indexed race_row_lines 0 (by_row plan (opened_row plan seed fates draw)) ++ []))) (section_2-is plan seed fates draw [] posting is)
-    ∙ ap (λ l. (section_1 plan seed ++ section_2 plan seed fates posting) ++ l) (openings-with plan seed fates draw [])
-    ∙ ap (λ l. (section_1 plan seed ++ section_2 plan seed fates posting) ++ (draw_line draw ∷ l)) (append-nil (each (race_openings plan seed fates draw) 0 (length plan.races))))
+pub openings-are : (plan : Plan) (seed : List ℕ) (fates : List Told) (draw : Draw) (race instance : ℕ) → race < length plan.races → instance < plan.instances
+    → instance_row_lines instance (get_or (get_or (by_row plan (opened_row plan seed fates draw)) race []) instance []) ≡ instance_openings plan seed fates draw race instance
+openings-are plan seed fates draw race instance within less =
+    ap (instance_row_lines instance) (instance-list plan (opened_row plan seed fates draw) race instance within less)
+    ∙ indexed-numbers row_line (opened_row plan seed fates draw race instance) (entries_of plan race)
 
 -- CLAIMS
 

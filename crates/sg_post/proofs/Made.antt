@@ -15,17 +15,16 @@ use Rattle.sg_streams.specs.Numbers.{numbers_below}
 use Rattle.sg_tables.proofs.Lists.{get_or-map_below, length-map_below}
 use Rattle.sg_tables.proofs.Values.{left_of-below}
 use Rattle.sg_tables.specs.Tables.{left_of, path_of}
-use Rattle.sg_post.specs.Marks.{flag_of, is_audit, is_marked, is_set, total_of}
+use Rattle.sg_post.specs.Marks.{flag_of, is_audit_fate, is_entry_marked, is_place_set, total_of}
 use Rattle.sg_post.specs.Posted.{by_candidate, by_entry, by_row}
-use Rattle.sg_post.specs.Posting.{IsPosting, is_audited_ballot}
+use Rattle.sg_post.specs.Posting.{is_audited_ballot}
 use Rattle.sg_post.specs.inside.Making.{HaveEntries, flags_by, has_bit, is_vote, leads_to, of_race, race_flags_by, race_places_by, race_totals_by, total_by, votes_by}
-use Rattle.sg_post.specs.declared.posting.Posting.{Posting}
 use Rattle.sg_post.specs.declared.story.Told.{Told}
 use Rattle.sg_post.proofs.Kept.{map-same}
 use Rattle.sg_post.proofs.Marking.{set-bit}
 
 -- the list of a race
-race-list : {A : Type 0} (plan : Plan) (value : ℕ → ℕ → A) (race : ℕ) → race < length plan.races
+pub race-list : {A : Type 0} (plan : Plan) (value : ℕ → ℕ → A) (race : ℕ) → race < length plan.races
     → slice_index_or (by_entry plan value) race [] ≡ map (value race) (numbers_below (entries_of plan race))
 race-list plan value race within = get_or-map_below (λ race. map (value race) (numbers_below (entries_of plan race))) (length plan.races) race [] within
 
@@ -42,16 +41,16 @@ race-bit plan value race at within below =
     ap (λ (l : List Bool). has_bit l at) (race-list plan value race within) ∙ get_or-map_below (value race) (entries_of plan race) at false below
 
 -- the flags
-pub flags-are : (plan : Plan) (seed : List ℕ) (fates : List Told) → map (race_flags_by plan seed (by_entry plan (is_marked plan seed fates))) (numbers_below (length plan.races)) ≡ by_row plan (flag_of plan seed fates)
+pub flags-are : (plan : Plan) (seed : List ℕ) (fates : List Told) → map (race_flags_by plan seed (by_entry plan (is_entry_marked plan seed fates))) (numbers_below (length plan.races)) ≡ by_row plan (flag_of plan seed fates)
 unfolding flag_of
 flags-are plan seed fates =
-    let marks : List (List Bool) = by_entry plan (is_marked plan seed fates) in
+    let marks : List (List Bool) = by_entry plan (is_entry_marked plan seed fates) in
     map-same (race_flags_by plan seed marks) (λ race. map (λ instance. map (flag_of plan seed fates race instance) (numbers_below (entries_of plan race))) (numbers_below plan.instances)) (length plan.races) []
     (λ race within.
     map-same (flags_by plan seed race (of_race marks race)) (λ instance. map (flag_of plan seed fates race instance) (numbers_below (entries_of plan race))) plan.instances []
     (λ instance less.
     map-same (λ row. has_bit (of_race marks race) (left_of plan seed race instance row)) (flag_of plan seed fates race instance) (entries_of plan race) false
-    (λ row below. race-bit plan (is_marked plan seed fates) race (left_of plan seed race instance row) within (left_of-below plan seed race instance row below))))
+    (λ row below. race-bit plan (is_entry_marked plan seed fates) race (left_of plan seed race instance row) within (left_of-below plan seed race instance row below))))
 
 -- tests that agree on the numbers below a number
 any-range : (f g : ℕ → Bool) (at count : ℕ) → ((k : ℕ) → k < at + count → f k ≡ g k) → list_any f (range_with_len at count) ≡ list_any g (range_with_len at count)
@@ -81,29 +80,29 @@ unfolding numbers_below
 count-same f g count same = count-range f g 0 count (λ k less. same k (omega (arith, less)))
 
 -- the places
-pub places-are : (plan : Plan) (seed : List ℕ) (fates : List Told) → map (race_places_by plan seed (by_entry plan (is_marked plan seed fates))) (numbers_below (length plan.races)) ≡ by_entry plan (is_set plan seed fates)
-unfolding is_set
+pub places-are : (plan : Plan) (seed : List ℕ) (fates : List Told) → map (race_places_by plan seed (by_entry plan (is_entry_marked plan seed fates))) (numbers_below (length plan.races)) ≡ by_entry plan (is_place_set plan seed fates)
+unfolding is_place_set
 places-are plan seed fates =
-    let marks : List (List Bool) = by_entry plan (is_marked plan seed fates) in
-    map-same (race_places_by plan seed marks) (λ race. map (is_set plan seed fates race) (numbers_below (entries_of plan race))) (length plan.races) []
+    let marks : List (List Bool) = by_entry plan (is_entry_marked plan seed fates) in
+    map-same (race_places_by plan seed marks) (λ race. map (is_place_set plan seed fates race) (numbers_below (entries_of plan race))) (length plan.races) []
     (λ race within.
-    map-same (λ place. list_any (leads_to plan seed race (of_race marks race) place) (numbers_below (entries_of plan race))) (is_set plan seed fates race) (entries_of plan race) false
+    map-same (λ place. list_any (leads_to plan seed race (of_race marks race) place) (numbers_below (entries_of plan race))) (is_place_set plan seed fates race) (entries_of plan race) false
     (λ place below.
-    any-same (leads_to plan seed race (of_race marks race) place) (λ entry. path_of plan seed race entry == place && is_marked plan seed fates race entry) (entries_of plan race)
-    (λ entry less. ap (λ (b : Bool). path_of plan seed race entry == place && b) (race-bit plan (is_marked plan seed fates) race entry within less))))
+    any-same (leads_to plan seed race (of_race marks race) place) (λ entry. path_of plan seed race entry == place && is_entry_marked plan seed fates race entry) (entries_of plan race)
+    (λ entry less. ap (λ (b : Bool). path_of plan seed race entry == place && b) (race-bit plan (is_entry_marked plan seed fates) race entry within less))))
 
 -- the totals
-pub totals-are : (plan : Plan) (seed : List ℕ) (fates : List Told) → map (race_totals_by plan (by_entry plan (is_set plan seed fates))) (numbers_below (length plan.races)) ≡ by_candidate plan (total_of plan seed fates)
+pub totals-are : (plan : Plan) (seed : List ℕ) (fates : List Told) → map (race_totals_by plan (by_entry plan (is_place_set plan seed fates))) (numbers_below (length plan.races)) ≡ by_candidate plan (total_of plan seed fates)
 unfolding total_of
 totals-are plan seed fates =
-    let places : List (List Bool) = by_entry plan (is_set plan seed fates) in
+    let places : List (List Bool) = by_entry plan (is_place_set plan seed fates) in
     map-same (race_totals_by plan places) (λ race. map (total_of plan seed fates race) (numbers_below (candidates_of plan race))) (length plan.races) []
     (λ race within.
     map-same (total_by (of_race places race) (candidates_of plan race)) (total_of plan seed fates race) (candidates_of plan race) 0
     (λ candidate less.
-    ap (λ n. count_by (is_vote (of_race places race) (candidates_of plan race) candidate) (numbers_below n)) ((have_entries plan (is_set plan seed fates)).each race within)
-    ∙ count-same (is_vote (of_race places race) (candidates_of plan race) candidate) (λ place. place % candidates_of plan race == candidate && is_set plan seed fates race place) (entries_of plan race)
-    (λ place below. ap (λ (b : Bool). place % candidates_of plan race == candidate && b) (race-bit plan (is_set plan seed fates) race place within below))))
+    ap (λ n. count_by (is_vote (of_race places race) (candidates_of plan race) candidate) (numbers_below n)) ((have_entries plan (is_place_set plan seed fates)).each race within)
+    ∙ count-same (is_vote (of_race places race) (candidates_of plan race) candidate) (λ place. place % candidates_of plan race == candidate && is_place_set plan seed fates race place) (entries_of plan race)
+    (λ place below. ap (λ (b : Bool). place % candidates_of plan race == candidate && b) (race-bit plan (is_place_set plan seed fates) race place within below))))
 
 -- VOTES, place after place
 
@@ -172,15 +171,15 @@ or_false false = refl
 eqb-turned : (a b : ℕ) → (a == b) ≡ (b == a)
 eqb-turned a b = grind (arith, nat_tests)
 
-pub audited-next : (fates : List Told) (told : Told) (n : ℕ) (is_wanted : Bool) → is_wanted ≡ is_audit told.fate → told.ballot < n
+pub audited-next : (fates : List Told) (told : Told) (n : ℕ) (is_wanted : Bool) → is_wanted ≡ is_audit_fate told.fate → told.ballot < n
     → cond is_wanted (set (map (is_audited_ballot fates) (numbers_below n)) told.ballot true) (map (is_audited_ballot fates) (numbers_below n))
     ≡ map (is_audited_ballot (fates ++ told ∷ [])) (numbers_below n)
 audited-next fates told n true is below =
     set-bit (is_audited_ballot fates) n told.ballot below
     ∙ map-same (λ k. is_audited_ballot fates k || k == told.ballot) (is_audited_ballot (fates ++ told ∷ [])) n false
     (λ k less.
-    ap (λ (b : Bool). is_audited_ballot fates k || b) (eqb-turned k told.ballot ∙ sym (and_true (told.ballot == k)) ∙ ap (λ (b : Bool). told.ballot == k && b) is ∙ sym (or_false (told.ballot == k && is_audit told.fate)))
-    ∙ sym (list_any-append (λ (t : Told). t.ballot == k && is_audit t.fate) fates (told ∷ [])))
+    ap (λ (b : Bool). is_audited_ballot fates k || b) (eqb-turned k told.ballot ∙ sym (and_true (told.ballot == k)) ∙ ap (λ (b : Bool). told.ballot == k && b) is ∙ sym (or_false (told.ballot == k && is_audit_fate told.fate)))
+    ∙ sym (list_any-append (λ (t : Told). t.ballot == k && is_audit_fate t.fate) fates (told ∷ [])))
   where
     and_true : (b : Bool) → (b && true) ≡ b
     and_true true = refl
@@ -188,7 +187,7 @@ audited-next fates told n true is below =
 audited-next fates told n false is below =
     map-same (is_audited_ballot fates) (is_audited_ballot (fates ++ told ∷ [])) n false
     (λ k less.
-    sym (list_any-append (λ (t : Told). t.ballot == k && is_audit t.fate) fates (told ∷ [])
+    sym (list_any-append (λ (t : Told). t.ballot == k && is_audit_fate t.fate) fates (told ∷ [])
     ∙ ap (λ (b : Bool). is_audited_ballot fates k || ((told.ballot == k && b) || false)) (sym is)
     ∙ ap (λ (b : Bool). is_audited_ballot fates k || (b || false)) (and_false (told.ballot == k))
     ∙ or_false (is_audited_ballot fates k)))
@@ -197,32 +196,6 @@ pub audited-none : (n : ℕ) → replicate n false ≡ map (is_audited_ballot []
 audited-none n =
     same_lists (replicate n false) (map (is_audited_ballot []) (numbers_below n)) (length-replicate n false ∙ sym (length-map_below (is_audited_ballot []) n))
     (λ k d inside. let less : k < n = omega (arith, inside, length-replicate n false) in get_or-replicate n k false d less ∙ sym (get_or-map_below (is_audited_ballot []) n k d less))
-
--- THE LISTS OF A POSTING
-
-pub record PostingLists (plan : Plan) (posting : Posting) : Type 0 where
-  pub flags : length posting.flags ≡ length plan.races
-  pub places : length posting.places ≡ length plan.races
-  pub totals : length posting.totals ≡ length plan.races
-  pub each_flags : (race : ℕ) → race < length plan.races → length (slice_index_or posting.flags race []) ≡ plan.instances
-  pub each_totals : (race : ℕ) → race < length plan.races → length (slice_index_or posting.totals race []) ≡ candidates_of plan race
-
-pub posting-lists : (plan : Plan) (seed : List ℕ) (fates : List Told) (posting : Posting) → IsPosting plan seed fates posting → PostingLists plan posting
-posting-lists plan seed fates posting is =
-    let flags : ℕ → List (List Bool) = λ race. map (λ instance. map (flag_of plan seed fates race instance) (numbers_below (entries_of plan race))) (numbers_below plan.instances) in
-    let totals : ℕ → List ℕ = λ race. map (total_of plan seed fates race) (numbers_below (candidates_of plan race)) in
-    record {
-      flags = ap length is.flags ∙ length-map_below flags (length plan.races);
-      places = ap length is.places ∙ (have_entries plan (is_set plan seed fates)).many;
-      totals = ap length is.totals ∙ length-map_below totals (length plan.races);
-      each_flags = λ race within.
-          ap (λ (l : List (List (List Bool))). length (slice_index_or l race [])) is.flags
-          ∙ (ap length (get_or-map_below flags (length plan.races) race [] within)
-          ∙ length-map_below (λ instance. map (flag_of plan seed fates race instance) (numbers_below (entries_of plan race))) plan.instances);
-      each_totals = λ race within.
-          ap (λ (l : List (List ℕ)). length (slice_index_or l race [])) is.totals
-          ∙ (ap length (get_or-map_below totals (length plan.races) race [] within) ∙ length-map_below (total_of plan seed fates race) (candidates_of plan race));
-    }
 
 -- no candidate has more votes than there were places
 pub votes-few : (places : List Bool) (candidates place at : ℕ) → at < candidates → get_or (votes_by places candidates place) at 0 ≤ place

@@ -12,7 +12,7 @@ use Rattle.sg_streams.specs.Numbers.{numbers_below}
 use Rattle.sg_tables.proofs.Lists.{length-map_below}
 use Rattle.sg_record.specs.Formed.{each_passes, has_candidates, has_entries, has_rows, is_draw, is_formed}
 use Rattle.sg_post.specs.Fits.{claim_fits, fates_fit, stage_fits}
-use Rattle.sg_post.specs.Marks.{flag_of, is_set, total_of}
+use Rattle.sg_post.specs.Marks.{flag_of, is_place_set, total_of}
 use Rattle.sg_post.specs.Posted.{by_candidate, by_entry, by_row, code_commit_of, dispute_of, opened_row, posted_record, row_commit_of}
 use Rattle.sg_post.specs.declared.story.Claimed.{Claimed}
 use Rattle.sg_post.specs.declared.story.Told.{Told}
@@ -73,7 +73,7 @@ posted-formed plan seed fates draw claims fine fit fits claimed =
       rows-are plan (row_commit_of plan seed),
       fates-blocks plan seed 0 fates fine fit,
       rows-are plan (flag_of plan seed fates),
-      entries-are plan (is_set plan seed fates),
+      entries-are plan (is_place_set plan seed fates),
       candidates-are plan (total_of plan seed fates),
       parts.0,
       rows-are plan (opened_row plan seed fates draw),

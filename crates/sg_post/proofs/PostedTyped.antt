@@ -30,7 +30,7 @@ use Rattle.sg_record.specs.declared.record.BallotBlock.{BallotBlock}
 use Rattle.sg_record.specs.declared.record.BlockFate.{BlockFate}
 use Rattle.sg_record.specs.declared.record.BlockFate.TheVariants as blocked
 use Rattle.sg_post.specs.Fits.{claim_fits, fates_fit, stage_fits}
-use Rattle.sg_post.specs.Marks.{is_audited, is_set, total_of}
+use Rattle.sg_post.specs.Marks.{is_entry_audited, is_place_set, total_of}
 use Rattle.sg_post.specs.Posted.{both_sides, code_commit_of, code_in_row, dispute_of, fate_blocks, one_side, opened_row, posted_record, row_commit_of, seal_1, seal_2, seal_3, told_blocks}
 use Rattle.sg_post.specs.declared.story.Claimed.{Claimed}
 use Rattle.sg_post.specs.declared.story.Told.{Told}
@@ -93,7 +93,7 @@ claims-keys plan seed (claimed ∷ claims) fine fit =
 total-few : (plan : Plan) (seed : List ℕ) (fates : List Told) (race candidate : ℕ) → total_of plan seed fates race candidate ≤ entries_of plan race
 unfolding total_of
 total-few plan seed fates race candidate =
-    omega (arith, count_by-le-length (λ place. place % candidates_of plan race == candidate && is_set plan seed fates race place) (numbers_below (entries_of plan race)), length-numbers_below (entries_of plan race))
+    omega (arith, count_by-le-length (λ place. place % candidates_of plan race == candidate && is_place_set plan seed fates race place) (numbers_below (entries_of plan race)), length-numbers_below (entries_of plan race))
 
 -- ROWS
 
@@ -117,7 +117,7 @@ row-in : (plan : Plan) (seed : List ℕ) (fates : List Told) (draw : Draw) (race
     → IsRow (opened_row plan seed fates draw race instance number)
 unfolding opened_row
 row-in plan seed fates drawn.Full race instance number fine within below = (left-in plan seed race instance number fine within below, right-in plan seed race instance number fine within below)
-row-in plan seed fates (drawn.Public bytes) race instance number fine within below = at_test (is_audited plan fates race (left_of plan seed race instance number)) (coin_of (coin_seed bytes) race instance number)
+row-in plan seed fates (drawn.Public bytes) race instance number fine within below = at_test (is_entry_audited plan fates race (left_of plan seed race instance number)) (coin_of (coin_seed bytes) race instance number)
   where
     at_test : (b : Bool) (s : Side) → IsRow (cond b (both_sides plan seed race instance number) (one_side plan seed race instance number s))
     at_test true s = (left-in plan seed race instance number fine within below, right-in plan seed race instance number fine within below)

@@ -19,11 +19,10 @@ use Rattle.sg_plan.specs.Fates.{detail_fits, fate_fits, has_mark, is_in, mark_fi
 use Rattle.sg_plan.specs.Names.{is_within}
 use Rattle.sg_tables.specs.Posts.{fate_marks}
 use Rattle.sg_post.specs.Fits.{fates_fit}
-use Rattle.sg_post.specs.Marks.{is_entry_of, is_marked, told_marks}
+use Rattle.sg_post.specs.Marks.{is_entry_of, is_entry_marked, told_marks}
 use Rattle.sg_post.specs.inside.Making.{has_bit}
 use Rattle.sg_post.specs.inside.RowMarks.{cast_marks_entry, marked_cast, marked_fates, marked_row, row_marks}
 use Rattle.sg_post.specs.declared.story.Told.{Told}
-use Rattle.sg_plan.specs.declared.plan.Fate.{Fate}
 use Rattle.sg_post.proofs.Kept.{map-same}
 use Rattle.sg_post.proofs.Marking.{entry-test, set-bit}
 
@@ -143,14 +142,6 @@ fate-none plan seed race told bits long never =
     marked-none (λ entry. told_marks plan seed race entry told || false) (entries_of plan race) bits long
     (λ entry. ap (λ (b : Bool). (is_entry_of plan race entry told.ballot && b) || false) (never (shown_by plan seed race entry)) ∙ ap (λ (b : Bool). b || false) (and_false (is_entry_of plan race entry told.ballot)))
 
-pub fate-cast : (plan : Plan) (seed : List ℕ) (race : ℕ) (told : Told) (marks : List Mark) (bits : List Bool) → told.fate ≡ fate.Cast marks
-    → marked_cast plan seed race told.ballot marks bits ≡ marked_fates plan seed race (told ∷ []) bits
-fate-cast plan seed race told marks bits is =
-    map-same (λ entry. has_bit bits entry || cast_marks_entry plan seed race told.ballot marks entry) (λ entry. has_bit bits entry || list_any (told_marks plan seed race entry) (told ∷ [])) (entries_of plan race) false
-    (λ entry within. ap (λ (b : Bool). has_bit bits entry || b)
-    (ap (λ (f : Fate). is_entry_of plan race entry told.ballot && fate_marks plan race (shown_by plan seed race entry) f) (sym is)
-    ∙ sym (or_false (is_entry_of plan race entry told.ballot && fate_marks plan race (shown_by plan seed race entry) told.fate))))
-
 pub marked_fates-none : (plan : Plan) (seed : List ℕ) (race : ℕ) (bits : List Bool) → length bits ≡ entries_of plan race → bits ≡ marked_fates plan seed race [] bits
 marked_fates-none plan seed race bits long = marked-none (λ entry. false) (entries_of plan race) bits long (λ entry. refl)
 
@@ -188,8 +179,8 @@ each-fits plan last (told ∷ fates) fit =
     All-cons (FitsIn plan) told fates (fits-in plan last told parts.0) (each-fits plan told.ballot fates parts.1)
 
 -- from no bit on they are the marked entries
-pub marked-all : (plan : Plan) (seed : List ℕ) (race : ℕ) (fates : List Told) → marked_fates plan seed race fates (replicate (entries_of plan race) false) ≡ map (is_marked plan seed fates race) (numbers_below (entries_of plan race))
-unfolding is_marked
+pub marked-all : (plan : Plan) (seed : List ℕ) (race : ℕ) (fates : List Told) → marked_fates plan seed race fates (replicate (entries_of plan race) false) ≡ map (is_entry_marked plan seed fates race) (numbers_below (entries_of plan race))
+unfolding is_entry_marked
 marked-all plan seed race fates =
-    map-same (λ entry. has_bit (replicate (entries_of plan race) false) entry || list_any (told_marks plan seed race entry) fates) (is_marked plan seed fates race) (entries_of plan race) false
+    map-same (λ entry. has_bit (replicate (entries_of plan race) false) entry || list_any (told_marks plan seed race entry) fates) (is_entry_marked plan seed fates race) (entries_of plan race) false
     (λ entry within. ap (λ (b : Bool). b || list_any (told_marks plan seed race entry) fates) (get_or-replicate (entries_of plan race) entry false false within))

@@ -1,20 +1,49 @@
--- The running seal over what was written.
-use Rattle.std.proofs.Common.{◌≡◌, ℕ, List, ◌++◌, Option, Some, None, Ok, refl, subst, sym, ap, ◌∙◌}
+-- The seals of what is posted are those of the running seal.
+use Rattle.std.proofs.Common.{◌≡◌, ℕ, ◌≤◌, inl, inr, List, [], ◌∷◌, ◌++◌, length, Option, Some, None, refl, ap, append-nil, arith}
+use Rattle.std.proofs.lemmas.Bool.{cases_eq}
+use Rattle.std.specs.List.{flat_map}
 use Rattle.std.specs.Prelude.{IsSome}
 use Rattle.sg_commit.specs.declared.Sealer.{Sealer}
+use Rattle.sg_plan.specs.declared.plan.Draw.{Draw}
+use Rattle.sg_plan.specs.declared.plan.Plan.{Plan}
 use Rattle.sg_forms.specs.Said.{Said}
-use Rattle.sg_record.proofs.Putting.{takes_behind, text-append}
-use Rattle.sg_record.specs.Pens.{IsSealOf, Moment, Puts}
-use Rattle.sg_record.specs.Writing.{text_in}
+use Rattle.sg_forms.specs.Said.Said.{Seal}
+use Rattle.sg_grammar.specs.Due.{each}
+use Rattle.sg_record.specs.Lines.{block_lines, draw_line, first_lines, indexed, lines_before, plan_lines, race_code_commit_lines, race_result_lines, race_row_commit_lines, race_row_lines, seal_line, second_lines}
+use Rattle.sg_record.specs.Pens.{IsSealOf, SealsWhere}
+use Rattle.sg_post.specs.Posted.{posted_record, seal_1, seal_2, seal_3, seal_over}
+use Rattle.sg_post.specs.declared.story.Claimed.{Claimed}
+use Rattle.sg_post.specs.declared.story.Told.{Told}
 
-pub seal-some : (seal : Option Sealer) (bytes : List ℕ) → IsSealOf seal bytes → IsSome seal
-seal-some None bytes is = absurd is
+-- a seal that is wanted is kept
+pub seal-some : (seal : Option Sealer) (bytes : List ℕ) → SealsWhere (Unit {0}) seal bytes → IsSome seal
+seal-some None bytes is = absurd (is tt)
 seal-some (Some sealer) bytes is = refl
 
--- behind lines that were written the seal is over those before and these
-pub sealed-after : {T E : Type 0} (before now : Moment) (value : T) (version : ℕ) (old lines : List Said) → before.pen.version ≡ version
-    → IsSealOf before.pen.seal (text_in version old) → Puts {E = E} before now (Ok value) lines → IsSealOf now.pen.seal (text_in version (old ++ lines))
-sealed-after before now value version old lines of is puts =
-    let taken = takes_behind before.pen.seal now.pen.seal (text_in version old) (text_in before.pen.version lines) puts.seal is in
-    subst (λ (l : List ℕ). IsSealOf now.pen.seal l)
-    (ap (λ v. text_in version old ++ text_in v lines) of ∙ sym (text-append version old lines)) taken
+pub seal-kept : (seal : Option Sealer) (bytes : List ℕ) → SealsWhere (Unit {0}) seal bytes → IsSealOf seal bytes
+seal-kept None bytes is = is tt
+seal-kept (Some sealer) bytes is = is
+
+pub seal-where : (seal : Option Sealer) (bytes : List ℕ) → IsSealOf seal bytes → SealsWhere (Unit {0}) seal bytes
+seal-where None bytes is = absurd is
+seal-where (Some sealer) bytes is = is
+
+-- each seal of the record is over all lines before it
+pub seal-is : (plan : Plan) (seed : List ℕ) (fates : List Told) (draw : Draw) (claims : List Claimed) (section : ℕ) → 1 ≤ section → section ≤ 3
+    → seal_line section (posted_record plan seed fates draw claims).seals ≡ Seal section (seal_over plan (lines_before section (posted_record plan seed fates draw claims))) ∷ []
+unfolding seal_1 seal_2 seal_3
+seal-is plan seed fates draw claims section first last =
+    let posted = posted_record plan seed fates draw claims in
+    let rows = indexed race_row_commit_lines 0 posted.row_commits in
+    let results = each (race_result_lines posted) 0 (length plan.races) in
+    let openings = indexed race_row_lines 0 posted.rows in
+    elim (cases_eq section 1) [
+      | inl is ↦ rw is (ap (λ (l : List Said). Seal 1 (seal_over plan (plan_lines plan ++ (indexed race_code_commit_lines 0 posted.code_commits ++ l))) ∷ []) (append-nil rows))
+      | inr other ↦
+          elim (cases_eq section 2) [
+            | inl is ↦ rw is (ap (λ (l : List Said). Seal 2 (seal_over plan (first_lines posted ++ (flat_map (block_lines plan) posted.ballots ++ l))) ∷ []) (append-nil results))
+            | inr third ↦
+                let is : section ≡ 3 = omega (arith, first, last, other, third) in
+                rw is (ap (λ (l : List Said). Seal 3 (seal_over plan (second_lines posted ++ (draw_line draw ∷ l))) ∷ []) (append-nil openings))
+          ]
+    ]

@@ -18,12 +18,12 @@ abbrev pub is_entry_of : Plan → ℕ → ℕ → ℕ → Bool
 is_entry_of plan race entry ballot = ballot_has plan ballot race && ballot_row plan race ballot == entry / candidates_of plan race
 
 -- the ballot was audited
-abbrev pub is_audit : Fate → Bool
-is_audit (fate.Audited paper) = true
-is_audit fate.Unused = false
-is_audit (fate.Cast marks) = false
-is_audit fate.Spoiled = false
-is_audit fate.Voided = false
+abbrev pub is_audit_fate : Fate → Bool
+is_audit_fate (fate.Audited paper) = true
+is_audit_fate fate.Unused = false
+is_audit_fate (fate.Cast marks) = false
+is_audit_fate fate.Spoiled = false
+is_audit_fate fate.Voided = false
 
 -- MARKED ENTRIES
 
@@ -32,29 +32,29 @@ abbrev pub told_marks : Plan → List ℕ → ℕ → ℕ → Told → Bool
 told_marks plan seed race entry told = is_entry_of plan race entry told.ballot && fate_marks plan race (shown_by plan seed race entry) told.fate
 
 -- the entry is marked: its code is posted
-unfoldable pub is_marked : Plan → List ℕ → List Told → ℕ → ℕ → Bool
-is_marked plan seed fates race entry = list_any (told_marks plan seed race entry) fates
+unfoldable pub is_entry_marked : Plan → List ℕ → List Told → ℕ → ℕ → Bool
+is_entry_marked plan seed fates race entry = list_any (told_marks plan seed race entry) fates
 
 -- the ballot was audited, and the entry is one of its own
 abbrev pub told_audits : Plan → ℕ → ℕ → Told → Bool
-told_audits plan race entry told = is_entry_of plan race entry told.ballot && is_audit told.fate
+told_audits plan race entry told = is_entry_of plan race entry told.ballot && is_audit_fate told.fate
 
 -- the entry is one of an audited ballot
-unfoldable pub is_audited : Plan → List Told → ℕ → ℕ → Bool
-is_audited plan fates race entry = list_any (told_audits plan race entry) fates
+unfoldable pub is_entry_audited : Plan → List Told → ℕ → ℕ → Bool
+is_entry_audited plan fates race entry = list_any (told_audits plan race entry) fates
 
 -- FLAGS, PLACES AND TOTALS
 
 -- the flag of a row: whether its entry is marked
 unfoldable pub flag_of : Plan → List ℕ → List Told → ℕ → ℕ → ℕ → Bool
-flag_of plan seed fates race instance row = is_marked plan seed fates race (left_of plan seed race instance row)
+flag_of plan seed fates race instance row = is_entry_marked plan seed fates race (left_of plan seed race instance row)
 
 -- the bit of a place: whether a marked entry leads to it
-unfoldable pub is_set : Plan → List ℕ → List Told → ℕ → ℕ → Bool
-is_set plan seed fates race place =
-    list_any (λ entry. path_of plan seed race entry == place && is_marked plan seed fates race entry) (numbers_below (entries_of plan race))
+unfoldable pub is_place_set : Plan → List ℕ → List Told → ℕ → ℕ → Bool
+is_place_set plan seed fates race place =
+    list_any (λ entry. path_of plan seed race entry == place && is_entry_marked plan seed fates race entry) (numbers_below (entries_of plan race))
 
 -- the total of a candidate: how many of the places in its column are set
 unfoldable pub total_of : Plan → List ℕ → List Told → ℕ → ℕ → ℕ
 total_of plan seed fates race candidate =
-    count_by (λ place. place % candidates_of plan race == candidate && is_set plan seed fates race place) (numbers_below (entries_of plan race))
+    count_by (λ place. place % candidates_of plan race == candidate && is_place_set plan seed fates race place) (numbers_below (entries_of plan race))

@@ -1,5 +1,5 @@
 -- The record that an office posts, and how much of its text at each stage (this project's rules for the record).
-use Rattle.std.specs.Prelude.{ℕ, ◌==◌, if◌then◌else◌, List, [], ◌∷◌, ◌++◌, length, map}
+use Rattle.std.specs.Prelude.{ℕ, ◌==◌, if◌then◌else◌, List, [], ◌∷◌, length, map}
 use Rattle.std.specs.List.{flat_map}
 use Rattle.sha2.specs.Sha256.{sha256}
 use Rattle.sg_plan.specs.Ballots.{ballot_has, ballot_row, candidates_of, entries_of}
@@ -25,7 +25,7 @@ use Rattle.sg_forms.specs.Said.{Said}
 use Rattle.sg_forms.specs.declared.line.CodeLine.{CodeLine}
 use Rattle.sg_forms.specs.declared.line.RowOpening.{RowOpening}
 use Rattle.sg_forms.specs.declared.line.RowOpening.TheVariants as row
-use Rattle.sg_record.specs.Lines.{block_lines, commit_lines, lines_in, opening_lines, plan_lines, result_lines}
+use Rattle.sg_record.specs.Lines.{first_lines, lines_in, second_lines, third_lines}
 use Rattle.sg_record.specs.Writing.{text_in}
 use Rattle.sg_record.specs.declared.record.BallotBlock.{BallotBlock}
 use Rattle.sg_record.specs.declared.record.BlockFate.{BlockFate}
@@ -33,7 +33,7 @@ use Rattle.sg_record.specs.declared.record.BlockFate.TheVariants as block
 use Rattle.sg_record.specs.declared.record.DisputeBlock.{DisputeBlock}
 use Rattle.sg_record.specs.declared.record.Record.{Record}
 use Rattle.sg_record.specs.declared.record.RowCommit.{RowCommit}
-use Rattle.sg_post.specs.Marks.{flag_of, is_audited, is_set, total_of}
+use Rattle.sg_post.specs.Marks.{flag_of, is_entry_audited, is_place_set, total_of}
 use Rattle.sg_post.specs.declared.story.Claimed.{Claimed}
 use Rattle.sg_post.specs.declared.story.Story.{Story}
 use Rattle.sg_post.specs.declared.story.Told.{Told}
@@ -114,7 +114,7 @@ one_side plan seed race instance number side.Right = row.Right (right_opening_of
 unfoldable pub opened_row : Plan → List ℕ → List Told → Draw → ℕ → ℕ → ℕ → RowOpening
 opened_row plan seed fates drawn.Full race instance number = both_sides plan seed race instance number
 opened_row plan seed fates (drawn.Public bytes) race instance number =
-    (if is_audited plan fates race (left_of plan seed race instance number) then both_sides plan seed race instance number
+    (if is_entry_audited plan fates race (left_of plan seed race instance number) then both_sides plan seed race instance number
     else one_side plan seed race instance number (coin_of (coin_seed bytes) race instance number))
 
 -- SECTION 4: THE DISPUTES
@@ -153,24 +153,12 @@ record_with plan seed fates draw claims seals = record {
   seals = seals;
   ballots = flat_map (told_blocks plan seed) fates;
   flags = by_row plan (flag_of plan seed fates);
-  places = by_entry plan (is_set plan seed fates);
+  places = by_entry plan (is_place_set plan seed fates);
   totals = by_candidate plan (total_of plan seed fates);
   draw = draw;
   rows = by_row plan (opened_row plan seed fates draw);
   disputes = map (dispute_of plan seed) claims;
 }
-
--- SECTIONS
-
--- the lines up to the end of the first, the second and the third section
-abbrev pub first_lines : Record → List Said
-first_lines posted = plan_lines posted.plan ++ commit_lines posted
-
-abbrev pub second_lines : Record → List Said
-second_lines posted = first_lines posted ++ (flat_map (block_lines posted.plan) posted.ballots ++ result_lines posted)
-
-abbrev pub third_lines : Record → List Said
-third_lines posted = second_lines posted ++ opening_lines posted
 
 -- SEALS: each is over all lines before it. A record without a seal has none of its section's lines behind these.
 

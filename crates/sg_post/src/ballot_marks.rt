@@ -6,7 +6,7 @@ ghost use Rattle.sg_plan.specs.Fates.{fate_fits, mark_fits};
 ghost use Rattle.sg_streams.specs.Numbers.{numbers_below};
 ghost use Rattle.sg_tables.specs.Tables.{entry_showing};
 ghost use Rattle.sg_post.specs.Fits.{fates_fit};
-ghost use Rattle.sg_post.specs.Marks.{is_audit, is_marked};
+ghost use Rattle.sg_post.specs.Marks.{is_audit_fate, is_entry_marked};
 ghost use Rattle.sg_post.specs.Posted.{by_entry};
 ghost use Rattle.sg_post.specs.Posting.{is_audited_ballot};
 ghost use Rattle.sg_post.specs.inside.RowMarks.{marked_cast, marked_fates, marked_row};
@@ -27,7 +27,7 @@ pub fn mark_races(
 ) -> Result<Items<Items<bool>>, NoMemory>
     requires index { index.now ≡ tables.now.plan }
     requires fits { fates_fit tables.now.plan 0 fates.now ≡ true }
-    ensures { IfOk result (λ marks. marks ≡ by_entry tables.now.plan (is_marked tables.now.plan tables.now.seed fates.now)) }
+    ensures { IfOk result (λ marks. marks ≡ by_entry tables.now.plan (is_entry_marked tables.now.plan tables.now.seed fates.now)) }
 {
     let count = count_races(tables);
     let mut marks = Items::with_room(alloc, count as usize)?;
@@ -48,7 +48,7 @@ fn mark_entries(
     requires index { index.now ≡ tables.now.plan }
     requires race { race < length tables.now.plan.races }
     requires fits { fates_fit tables.now.plan 0 fates.now ≡ true }
-    ensures { IfOk result (λ marks. marks ≡ map (is_marked tables.now.plan tables.now.seed fates.now race) (numbers_below (entries_of tables.now.plan race))) }
+    ensures { IfOk result (λ marks. marks ≡ map (is_entry_marked tables.now.plan tables.now.seed fates.now race) (numbers_below (entries_of tables.now.plan race))) }
 {
     let mut marks = Items::filled(alloc, false, count_entries(tables, race) as usize)?;
     mark_fates(tables, index, race, fates, &mut marks);
@@ -162,7 +162,7 @@ pub fn audited_ballots(
 
 /// The ballot was audited.
 fn is_audit(fate: &Fate) -> bool
-    ensures { result ≡ is_audit fate.now }
+    ensures { result ≡ is_audit_fate fate.now }
 {
     match fate {
         Fate::Audited(_) => true,

@@ -1,16 +1,16 @@
-//! Section 1 of what is posted: the plan and the commitments.
-ghost use Rattle.std.specs.Prelude.{◌≡◌, ◌<◌, ◌+◌, [], length};
+//! Section 1 of what is posted: the commitments.
+ghost use Rattle.std.specs.Prelude.{◌≡◌, ◌<◌, ◌+◌, length};
 ghost use Rattle.sg_plan.specs.Ballots.{entries_of};
-ghost use Rattle.sg_record.specs.Pens.{IsSealOf, Writes};
+ghost use Rattle.sg_record.specs.Pens.{Writes};
 ghost use Rattle.sg_post.specs.Posted.{code_commit_of, row_commit_of};
-ghost use Rattle.sg_post.specs.inside.Lines.{code_commits, entry_commit, instance_row_commits, race_commits, race_row_commits, row_commit, row_commits, section_1};
+ghost use Rattle.sg_post.specs.inside.Lines.{entry_commit, instance_row_commits, race_commits, row_commit};
 ghost use Rattle.sg_post.specs.inside.Walks.{AreAt};
 
-use crate::counts::{count_entries, count_instances, count_races};
+use crate::counts::{count_entries, count_races};
 use crate::walks::RowOpenings;
 use sg_commit::{CommitKind, Digest, commit};
 use sg_outside::{Failed, Sink};
-use sg_record::{Pen, RowCommit, put_code_commit, put_plan, put_row_commit};
+use sg_record::{Pen, RowCommit, put_code_commit, put_row_commit};
 use sg_tables::{QOpenings, Tables};
 
 /// The commitment to the code of the entry that the walk has come to. The walk then goes on by one.
@@ -47,7 +47,7 @@ fn put_entry_commit<O: Sink>(
 }
 
 /// Writes the commitments to the codes of a race.
-fn put_race_commits<O: Sink>(
+pub fn put_race_commits<O: Sink>(
     pen: &mut Pen,
     tables: &Tables,
     race: u32,
@@ -59,16 +59,6 @@ fn put_race_commits<O: Sink>(
     let mut walk = tables.q_openings(race, 0);
     for entry in 0..count_entries(tables, race) {
         put_entry_commit(pen, tables, &mut walk, race, entry, out)?;
-    }
-    Ok(())
-}
-
-/// Writes the commitments to the codes of all races.
-fn put_code_commits<O: Sink>(pen: &mut Pen, tables: &Tables, out: &mut O) -> Result<(), Failed>
-    ensures { Writes O.written O.faults pen.old out.old pen.new out.new result (code_commits tables.now.plan tables.now.seed) }
-{
-    for race in 0..count_races(tables) {
-        put_race_commits(pen, tables, race, out)?;
     }
     Ok(())
 }
@@ -120,7 +110,7 @@ fn put_row<O: Sink>(
 }
 
 /// Writes the commitments to the pointers of an instance's rows.
-fn put_instance<O: Sink>(
+pub fn put_instance_commits<O: Sink>(
     pen: &mut Pen,
     tables: &Tables,
     race: u32,
@@ -136,42 +126,4 @@ fn put_instance<O: Sink>(
         put_row(pen, tables, &mut walks, race, instance, row, out)?;
     }
     Ok(())
-}
-
-/// Writes the commitments to the pointers of a race.
-fn put_race_rows<O: Sink>(
-    pen: &mut Pen,
-    tables: &Tables,
-    race: u32,
-    out: &mut O,
-) -> Result<(), Failed>
-    requires race { race < length tables.now.plan.races }
-    ensures { Writes O.written O.faults pen.old out.old pen.new out.new result (race_row_commits tables.now.plan tables.now.seed race) }
-{
-    for instance in 0..count_instances(tables) {
-        put_instance(pen, tables, race, instance, out)?;
-    }
-    Ok(())
-}
-
-/// Writes the commitments to the pointers of all races.
-fn put_row_commits<O: Sink>(pen: &mut Pen, tables: &Tables, out: &mut O) -> Result<(), Failed>
-    ensures { Writes O.written O.faults pen.old out.old pen.new out.new result (row_commits tables.now.plan tables.now.seed) }
-{
-    for race in 0..count_races(tables) {
-        put_race_rows(pen, tables, race, out)?;
-    }
-    Ok(())
-}
-
-/// Writes the plan, all commitments and the seal.
-pub fn put_commitments<O: Sink>(pen: &mut Pen, tables: &Tables, out: &mut O) -> Result<(), Failed>
-    requires version { pen.old.version ≡ tables.now.plan.version }
-    requires seal { IsSealOf pen.old.seal [] }
-    ensures { Writes O.written O.faults pen.old out.old pen.new out.new result (section_1 tables.now.plan tables.now.seed) }
-{
-    put_plan(pen, tables.plan(), out)?;
-    put_code_commits(pen, tables, out)?;
-    put_row_commits(pen, tables, out)?;
-    pen.put_seal(1, out)
 }

@@ -2,7 +2,7 @@
 ghost use Rattle.std.specs.Prelude.{◌≡◌, ◌<◌, ℕ, List, IfOk, OnOk, true};
 ghost use Rattle.sg_plan.specs.declared.plan.Plan.{Plan};
 ghost use Rattle.sg_post.specs.Fits.{fates_fit, story_fits};
-ghost use Rattle.sg_post.specs.Marks.{flag_of, is_marked, is_set, total_of};
+ghost use Rattle.sg_post.specs.Marks.{flag_of, is_entry_marked, is_place_set, total_of};
 ghost use Rattle.sg_post.specs.Posting.{HasItem, HasItemIn, IsPosting};
 ghost use Rattle.sg_post.specs.declared.story.Told.{Told};
 
@@ -92,7 +92,7 @@ impl Posting {
     /// Whether an entry of a race is marked: its code is posted.
     pub fn marked(&self, race: u32, entry: u32) -> bool
         requires { HasItem self.now.marks race entry }
-        ensures { (plan : Plan) (seed : List ℕ) (fates : List Told) → IsPosting plan seed fates self.now → result ≡ is_marked plan seed fates race entry }
+        ensures { (plan : Plan) (seed : List ℕ) (fates : List Told) → IsPosting plan seed fates self.now → result ≡ is_entry_marked plan seed fates race entry }
     {
         *self.marks.get(race as usize).get(entry as usize)
     }
@@ -112,7 +112,7 @@ impl Posting {
     /// Whether a place of a race is set: a marked entry leads to it.
     pub fn s_flag(&self, race: u32, place: u32) -> bool
         requires { HasItem self.now.places race place }
-        ensures { (plan : Plan) (seed : List ℕ) (fates : List Told) → IsPosting plan seed fates self.now → result ≡ is_set plan seed fates race place }
+        ensures { (plan : Plan) (seed : List ℕ) (fates : List Told) → IsPosting plan seed fates self.now → result ≡ is_place_set plan seed fates race place }
     {
         *self.places.get(race as usize).get(place as usize)
     }

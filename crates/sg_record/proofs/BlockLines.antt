@@ -18,7 +18,7 @@ use Rattle.sg_forms.specs.Said.Said.{Code, Paper}
 use Rattle.sg_forms.specs.Spelling.{IsCode}
 use Rattle.sg_forms.specs.declared.line.CodeLine.{CodeLine}
 use Rattle.sg_grammar.proofs.Each.{each-empty, each-first, each-skip}
-use Rattle.sg_grammar.specs.Due.{audit, ballot_codes, ballot_paper, code_line, each, numbered, race_codes}
+use Rattle.sg_grammar.specs.Due.{due_audit, ballot_codes, ballot_paper, code_line, each, numbered, race_codes}
 use Rattle.sg_grammar.specs.Placed.Placed.{CodeAt, PaperAt}
 use Rattle.sg_grammar.specs.declared.state.Block.{Block}
 use Rattle.sg_grammar.specs.declared.state.Block.TheVariants as block
@@ -254,8 +254,8 @@ IsAudit plan ballot a = (are_papers plan (races_of_ballot plan ballot) a.0 ≡ t
 abbrev pub audit_lines : Plan → ℕ → Audit → List Said
 audit_lines plan ballot a = paper_lines (races_of_ballot plan ballot) a.0 ++ map Code a.1
 
-pub audit-spells : (plan : Plan) (ballot : ℕ) → fault_of plan ≡ None → Spells plan.version (IsAudit plan ballot) (audit_lines plan ballot) (audit plan ballot)
-audit-spells plan ballot fine =
+pub due_audit-spells : (plan : Plan) (ballot : ℕ) → fault_of plan ≡ None → Spells plan.version (IsAudit plan ballot) (audit_lines plan ballot) (due_audit plan ballot)
+due_audit-spells plan ballot fine =
     rw (papers-due plan ballot fine)
     (spells-pair plan.version (λ (papers : List (List ℕ)). are_papers plan (races_of_ballot plan ballot) papers ≡ true)
     (λ (codes : List CodeLine). are_due plan (each (ballot_codes plan ballot) 0 (length plan.races)) codes ≡ true)

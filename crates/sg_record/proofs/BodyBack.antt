@@ -11,15 +11,15 @@ use Rattle.sg_plan.specs.declared.plan.Plan.{Plan}
 use Rattle.sg_forms.specs.Said.{Said}
 use Rattle.sg_forms.specs.Said.Said.{Audited, Cast, Code, Dispute, Over, Spoiled, Voided}
 use Rattle.sg_forms.specs.declared.line.CodeLine.{CodeLine}
-use Rattle.sg_grammar.specs.Due.{audit, race_codes, results}
+use Rattle.sg_grammar.specs.Due.{due_audit, race_codes, results}
 use Rattle.sg_grammar.specs.Placed.Placed.{Begun, CodeAt, Disputed, OverAt}
-use Rattle.sg_grammar.specs.Walk.{Next, Taken, after_block, after_dispute, begins, behind, first_of, in_cast, in_order, is_column, is_later, is_race_left, is_whole, is_whole_at, take_line, took}
+use Rattle.sg_grammar.specs.Walk.{Next, Taken, after_block, after_dispute, begins, behind, first_taken, in_cast, follows_in_order, is_column, is_later, is_race_left, is_whole, is_whole_at, take_line, took}
 use Rattle.sg_grammar.specs.declared.state.Block.TheVariants as block
 use Rattle.sg_grammar.specs.declared.state.Head.TheVariants as head
 use Rattle.sg_grammar.specs.declared.state.Part.{Part}
 use Rattle.sg_grammar.specs.declared.state.Part.TheVariants as part
 use Rattle.sg_grammar.specs.declared.state.Slot.{Slot}
-use Rattle.sg_record.proofs.BlockLines.{audit-spells, dispute_codes-spells}
+use Rattle.sg_record.proofs.BlockLines.{due_audit-spells, dispute_codes-spells}
 use Rattle.sg_record.proofs.CastLines.{cast-code, cast-none, cast-over, cast_from, marks-earlier, order-least, overs-earlier}
 use Rattle.sg_record.proofs.Filling.{AreIn, AreIn-parts, Fills, behind-are}
 use Rattle.sg_record.proofs.SaidWalk.{Goes, slot-goes}
@@ -118,7 +118,7 @@ add_block plan last ballot what lines rest later passes is others = record {
 
 -- the first line of the results
 first-back : (plan : Plan) (last : ℕ) (slots : List Slot) (said : Said) (lines : List Said) (end : Next) (taken : Taken) → results plan ≡ slots → Known plan lines end
-    → first_of plan slots said ≡ Some taken → Goes taken.next lines end → BlocksOf plan last (said ∷ lines)
+    → first_taken plan slots said ≡ Some taken → Goes taken.next lines end → BlocksOf plan last (said ∷ lines)
 first-back plan last [] said lines end taken are known e goes = cc
 first-back plan last (first ∷ due) said lines end taken are known e goes =
     let from = slot-goes plan first due (part.Disputes 0) said taken e in
@@ -152,10 +152,10 @@ block-back plan last (Spoiled ballot) lines end taken fine all known e goes =
     let rest = known [] (part.Ballots ballot) tt on.1 in
     add_block plan last ballot fate.Spoiled (Spoiled ballot ∷ lines) rest.back on.0 refl (ap (λ l. Spoiled ballot ∷ l) (none-due plan (part.Ballots ballot) lines rest)) rest.others
 block-back plan last (Audited ballot) lines end taken fine all known e goes =
-    let on = under (is_later plan last ballot) (took (Begun ballot) (behind plan (audit plan ballot) (part.Ballots ballot))) taken lines end e goes in
-    let rest = known (audit plan ballot) (part.Ballots ballot) tt on.1 in
+    let on = under (is_later plan last ballot) (took (Begun ballot) (behind plan (due_audit plan ballot) (part.Ballots ballot))) taken lines end e goes in
+    let rest = known (due_audit plan ballot) (part.Ballots ballot) tt on.1 in
     let kept = AreIn-parts plan.version rest.front rest.back (subst (AreIn plan.version) rest.is all) in
-    let found = (audit-spells plan ballot fine).back rest.front rest.fills kept.0 in
+    let found = (due_audit-spells plan ballot fine).back rest.front rest.fills kept.0 in
     add_block plan last ballot (fate.Audited found.item.0 found.item.1) (Audited ballot ∷ lines) rest.back on.0
     (and_from _ _ found.passes.0 found.passes.1)
     (behind-are (Audited ballot) lines rest.front rest.back _ rest.is found.is) rest.others
@@ -171,16 +171,16 @@ block-back plan last said lines end taken fine all known e goes = first-back pla
 cast-back : (plan : Plan) (ballot race column : ℕ) (said : Said) (lines : List Said) (end : Next) (taken : Taken) → fault_of plan ≡ None → AreIn plan.version (said ∷ lines) → Known plan lines end
     → in_cast plan ballot race column said ≡ Some taken → Goes taken.next lines end → CastOf plan ballot race column (said ∷ lines)
 cast-back plan ballot race column (Code code) lines end taken fine all known e goes =
-    let on = under (is_column plan ballot code.race code.column && in_order race column code.race code.column)
+    let on = under (is_column plan ballot code.race code.column && follows_in_order race column code.race code.column)
     (took (CodeAt block.Cast ballot code.race code.column code) (behind plan [] (part.Cast ballot code.race (code.column + 1)))) taken lines end e goes in
     let rest = known [] (part.Cast ballot code.race (code.column + 1)) tt on.1 in
     let cast : CastOf plan ballot code.race (code.column + 1) rest.back = rest.others in
-    let low = order-least race column code.race code.column (and_parts (is_column plan ballot code.race code.column) (in_order race column code.race code.column) on.0).1 in
+    let low = order-least race column code.race code.column (and_parts (is_column plan ballot code.race code.column) (follows_in_order race column code.race code.column) on.0).1 in
     let small : is_code plan code.code ≡ true = lt-ltb code.code (codes_of plan.version) all.0.3 in
     let marks : are_marks plan ballot race column (code ∷ cast.codes) ≡ true
-    = and_from ((is_column plan ballot code.race code.column && in_order race column code.race code.column) && is_code plan code.code)
+    = and_from ((is_column plan ballot code.race code.column && follows_in_order race column code.race code.column) && is_code plan code.code)
     (are_marks plan ballot code.race (code.column + 1) cast.codes)
-    (and_from (is_column plan ballot code.race code.column && in_order race column code.race code.column) (is_code plan code.code) on.0 small) cast.marks in
+    (and_from (is_column plan ballot code.race code.column && follows_in_order race column code.race code.column) (is_code plan code.code) on.0 small) cast.marks in
     record {
       codes = code ∷ cast.codes;
       overs = cast.overs;

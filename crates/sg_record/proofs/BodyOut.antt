@@ -9,7 +9,7 @@ use Rattle.sg_plan.specs.declared.plan.Plan.{Plan}
 use Rattle.sg_forms.specs.Said.{Said}
 use Rattle.sg_forms.specs.Said.Said.{Ballots}
 use Rattle.sg_forms.specs.declared.line.CodeLine.{CodeLine}
-use Rattle.sg_grammar.specs.Due.{audit, commits, each, race_code_commits, race_codes, race_row_commits}
+use Rattle.sg_grammar.specs.Due.{due_audit, commits, each, race_code_commits, race_codes, race_row_commits}
 use Rattle.sg_grammar.specs.Placed.Placed.{Begun, CodeAt, Disputed, OverAt}
 use Rattle.sg_grammar.specs.Walk.{Next, after_run, behind, body_line, is_later, take_line, took}
 use Rattle.sg_grammar.specs.declared.state.Block.TheVariants as block
@@ -17,7 +17,7 @@ use Rattle.sg_grammar.specs.declared.state.Head.TheVariants as head
 use Rattle.sg_grammar.specs.declared.state.Part.TheVariants as part
 use Rattle.sg_grammar.specs.declared.state.Slot.{Slot}
 use Rattle.sg_grammar.specs.declared.state.Slot.TheVariants as slot
-use Rattle.sg_record.proofs.BlockLines.{audit-spells, dispute_codes-spells}
+use Rattle.sg_record.proofs.BlockLines.{due_audit-spells, dispute_codes-spells}
 use Rattle.sg_record.proofs.CastLines.{Steps, by_steps}
 use Rattle.sg_record.proofs.Filling.{Fills}
 use Rattle.sg_record.proofs.SaidWalk.{Goes, fits-no_run, goes-due, goes-open, is_run_line, opens}
@@ -88,9 +88,9 @@ fate-out plan last ballot (fate.Audited papers codes) rest end fine later passes
     let parts = and_parts _ _ passes in (
       refl,
       (
-        took (Begun ballot) (behind plan (audit plan ballot) (part.Ballots ballot)),
+        took (Begun ballot) (behind plan (due_audit plan ballot) (part.Ballots ballot)),
         rw later refl,
-        goes-due plan (audit plan ballot) (part.Ballots ballot) _ rest end ((audit-spells plan ballot fine).out (papers, codes) (parts.0, parts.1)) goes.1,
+        goes-due plan (due_audit plan ballot) (part.Ballots ballot) _ rest end ((due_audit-spells plan ballot fine).out (papers, codes) (parts.0, parts.1)) goes.1,
       ),
     )
 fate-out plan last ballot fate.Voided rest end fine later passes goes = (refl, (took (Begun ballot) (behind plan [] (part.Ballots ballot)), rw (passes, later) refl, goes.1))

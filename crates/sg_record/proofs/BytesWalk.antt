@@ -13,11 +13,11 @@ use Rattle.sg_forms.specs.Said.Said.{Audited, Ballots, Cand, Cast, Code, CodeCom
 use Rattle.sg_forms.specs.Spelling.{IsInRange, spelling}
 use Rattle.sg_grammar.proofs.Claims.{if_some, if_then-claim, option_map-some}
 use Rattle.sg_grammar.proofs.FirstLines.{take_bytes-line, walk-first, walk-none}
-use Rattle.sg_grammar.specs.Due.{audit, commits, race_codes, results}
-use Rattle.sg_grammar.specs.Head.{Making, behind_candidate, head_line, last_candidates, made, no_plan, run_line, style_line, with_cand, with_instances, with_name, with_race, with_run, with_style, with_version}
+use Rattle.sg_grammar.specs.Due.{due_audit, commits, race_codes, results}
+use Rattle.sg_grammar.specs.Head.{Making, behind_candidate, head_line, last_candidates, made, no_plan, take_run, take_style, with_cand, with_instances, with_name, with_race, with_run, with_style, with_version}
 use Rattle.sg_grammar.specs.Placed.{Placed}
 use Rattle.sg_grammar.specs.Placed.Placed.{Begun, CodeAt, CodeCommitAt, Disputed, DrawnFull, DrawnPublic, FlagsAt, OfPlan, OverAt, PaperAt, PlacesAt, RowAt, RowCommitAt, SealAt, TotalAt}
-use Rattle.sg_grammar.specs.Walk.{Next, Taken, Walked, after_block, after_dispute, after_run, behind, body_line, first_of, headed, in_cast, in_code, in_code_commit, in_draw, in_flags, in_head, in_order, in_paper, in_places, in_row, in_row_commit, in_seal, in_total, is_column, is_later, is_race_left, place, start, take_at, take_bytes, take_line, taking, took, walk, walked_on}
+use Rattle.sg_grammar.specs.Walk.{Next, Taken, Walked, after_block, after_dispute, after_run, behind, body_line, first_taken, headed, in_cast, in_code, in_code_commit, in_draw, in_flags, in_head, follows_in_order, in_paper, in_places, in_row, in_row_commit, in_seal, in_total, is_column, is_later, is_race_left, place, start, take_at, take_bytes, take_line, taking, took, walk, walked_on}
 use Rattle.sg_grammar.specs.declared.state.Block.{Block}
 use Rattle.sg_grammar.specs.declared.state.Block.TheVariants as block
 use Rattle.sg_grammar.specs.declared.state.Head.{Head}
@@ -114,22 +114,22 @@ slot-behind plan first due may_begin said t e =
     let from = option_map-some (λ line. took line (behind plan due may_begin)) (place first said) t e in
     subst (IsBehind plan) from.2 (refl, refl, slot-body first said from.0 from.1)
 
-first_of-behind : (plan : Plan) (slots : List Slot) (said : Said) (t : Taken) → first_of plan slots said ≡ Some t → IsBehind plan t
-first_of-behind plan [] said t e = cc
-first_of-behind plan (first ∷ due) said t e = slot-behind plan first due (part.Disputes 0) said t e
+first_taken-behind : (plan : Plan) (slots : List Slot) (said : Said) (t : Taken) → first_taken plan slots said ≡ Some t → IsBehind plan t
+first_taken-behind plan [] said t e = cc
+first_taken-behind plan (first ∷ due) said t e = slot-behind plan first due (part.Disputes 0) said t e
 
 after_block-behind : (plan : Plan) (last : ℕ) (said : Said) (t : Taken) → after_block plan last said ≡ Some t → IsBehind plan t
 after_block-behind plan last (Cast ballot) t e = if_then-claim (IsBehind plan) (is_later plan last ballot) (took (Begun ballot) (behind plan [] (part.Cast ballot 0 0))) t (λ ok. (refl, refl, tt)) e
 after_block-behind plan last (Spoiled ballot) t e = if_then-claim (IsBehind plan) (is_later plan last ballot) (took (Begun ballot) (behind plan [] (part.Ballots ballot))) t (λ ok. (refl, refl, tt)) e
 after_block-behind plan last (Audited ballot) t e =
-    if_then-claim (IsBehind plan) (is_later plan last ballot) (took (Begun ballot) (behind plan (audit plan ballot) (part.Ballots ballot))) t (λ ok. (refl, refl, tt)) e
+    if_then-claim (IsBehind plan) (is_later plan last ballot) (took (Begun ballot) (behind plan (due_audit plan ballot) (part.Ballots ballot))) t (λ ok. (refl, refl, tt)) e
 after_block-behind plan last (Voided ballot) t e =
     if_then-claim (IsBehind plan) (plan.version == 2 && is_later plan last ballot) (took (Begun ballot) (behind plan [] (part.Ballots ballot))) t (λ ok. (refl, refl, tt)) e
-after_block-behind plan last said t e = first_of-behind plan (results plan) said t e
+after_block-behind plan last said t e = first_taken-behind plan (results plan) said t e
 
 in_cast-behind : (plan : Plan) (ballot race column : ℕ) (said : Said) (t : Taken) → in_cast plan ballot race column said ≡ Some t → IsBehind plan t
 in_cast-behind plan ballot race column (Code code) t e =
-    if_then-claim (IsBehind plan) (is_column plan ballot code.race code.column && in_order race column code.race code.column)
+    if_then-claim (IsBehind plan) (is_column plan ballot code.race code.column && follows_in_order race column code.race code.column)
     (took (CodeAt block.Cast ballot code.race code.column code) (behind plan [] (part.Cast ballot code.race (code.column + 1)))) t (λ ok. (refl, refl, tt)) e
 in_cast-behind plan ballot race column (Over next) t e =
     if_then-claim (IsBehind plan) (is_race_left plan ballot race next) (took (OverAt ballot next) (behind plan [] (part.Cast ballot (next + 1) 0))) t (λ ok. (refl, refl, tt)) e
@@ -155,16 +155,16 @@ body-stays plan due may_begin said t e =
 abbrev pub StaysMade : Plan → Making → Type 0
 StaysMade plan making = (making.plan.version ≡ plan.version) × (is_first making.head ≡ false)
 
-style_line-stays : (plan : Plan) (name races : List ℕ) (m : Making) → style_line plan (Style name races) ≡ Some m → StaysMade plan m
-style_line-stays plan name races m e =
+take_style-stays : (plan : Plan) (name races : List ℕ) (m : Making) → take_style plan (Style name races) ≡ Some m → StaysMade plan m
+take_style-stays plan name races m e =
     if_then-claim (StaysMade plan) (nat_lt (length plan.styles) most_styles && style_keeps (length plan.races) plan.styles (record { name = name; races = races }))
     (made (with_style plan name races) head.Styles) m (λ ok. (refl, refl)) e
 
-run_line-stays : (plan : Plan) (said : Said) (m : Making) → run_line plan said ≡ Some m → StaysMade plan m
-run_line-stays plan (Ballots style count) m e =
+take_run-stays : (plan : Plan) (said : Said) (m : Making) → take_run plan said ≡ Some m → StaysMade plan m
+take_run-stays plan (Ballots style count) m e =
     if_then-claim (StaysMade plan) (run_keeps (length plan.styles) plan.runs (record { style = style; count = count }) && nat_le (r_rows (with_run plan style count)) 200000)
     (made (with_run plan style count) head.Runs) m (λ ok. (refl, refl)) e
-run_line-stays plan said m e = cc
+take_run-stays plan said m e = cc
 
 pub head_line-stays : (plan : Plan) (stage : Head) (said : Said) (m : Making) → is_first stage ≡ false → head_line plan stage said ≡ Some m → StaysMade plan m
 head_line-stays plan head.Version said m later e = cc
@@ -176,7 +176,7 @@ head_line-stays plan head.Instances said m later e = cc
 head_line-stays plan head.Races (Race name candidates votes) m later e =
     if_then-claim (StaysMade plan) (nat_lt (length plan.races) most_races && race_head_keeps plan.races name candidates votes) (made (with_race plan name votes) (head.Candidates candidates)) m
     (λ ok. (refl, refl)) e
-head_line-stays plan head.Races (Style name races) m later e = style_line-stays plan name races m (if_some (nat_lt 0 (length plan.races)) (style_line plan (Style name races)) m e)
+head_line-stays plan head.Races (Style name races) m later e = take_style-stays plan name races m (if_some (nat_lt 0 (length plan.races)) (take_style plan (Style name races)) m e)
 head_line-stays plan head.Races said m later e = cc
 head_line-stays plan (head.Candidates left) (Cand name) m later e =
     if_then-claim (StaysMade plan) (candidate_keeps (last_candidates plan.races) name) (made (with_cand plan name) (behind_candidate left)) m (λ ok. (refl, at_last (left == 1))) e
@@ -185,9 +185,9 @@ head_line-stays plan (head.Candidates left) (Cand name) m later e =
     at_last true = refl
     at_last false = refl
 head_line-stays plan (head.Candidates left) said m later e = cc
-head_line-stays plan head.Styles (Style name races) m later e = style_line-stays plan name races m e
-head_line-stays plan head.Styles said m later e = run_line-stays plan said m e
-head_line-stays plan head.Runs said m later e = run_line-stays plan said m e
+head_line-stays plan head.Styles (Style name races) m later e = take_style-stays plan name races m e
+head_line-stays plan head.Styles said m later e = take_run-stays plan said m e
+head_line-stays plan head.Runs said m later e = take_run-stays plan said m e
 head_line-stays plan head.Whole said m later e = cc
 
 in_head-stays : (plan : Plan) (stage : Head) (said : Said) (t : Taken) → is_first stage ≡ false → in_head plan stage said ≡ Some t → Stay plan t

@@ -10,7 +10,7 @@ use Rattle.sg_forms.specs.declared.line.CodeLine.{CodeLine}
 use Rattle.sg_grammar.proofs.Each.{each-empty, each-first, each-skip}
 use Rattle.sg_grammar.proofs.Making.{candidates_within}
 use Rattle.sg_grammar.specs.Due.{each, numbered}
-use Rattle.sg_grammar.specs.Walk.{in_order, is_column, is_race_left}
+use Rattle.sg_grammar.specs.Walk.{follows_in_order, is_column, is_race_left}
 use Rattle.sg_record.proofs.BlockLines.{numbered-same}
 use Rattle.sg_plan.specs.Codes.{is_code}
 use Rattle.sg_record.specs.Formed.{are_marks, are_overs}
@@ -23,7 +23,7 @@ cast_from plan codes overs race = each (cast_race_lines codes overs) race (lengt
 -- WHAT STANDS IN NO RACE
 
 -- races don't fall
-pub order-least : (race column next_race next_column : ℕ) → in_order race column next_race next_column ≡ true → race ≤ next_race
+pub order-least : (race column next_race next_column : ℕ) → follows_in_order race column next_race next_column ≡ true → race ≤ next_race
 order-least race column next_race next_column order = elim (or_cases (nat_lt race next_race) (race == next_race && nat_le column next_column) order) [
   | inl later ↦ omega (arith, ltb-true race next_race later)
   | inr same ↦ omega (arith, eqb-true race next_race (and_parts (race == next_race) (nat_le column next_column) same).0)
@@ -31,7 +31,7 @@ order-least race column next_race next_column order = elim (or_cases (nat_lt rac
 
 -- what the first of the marks says, and that the others follow it
 pub record FirstMark (plan : Plan) (ballot race column : ℕ) (code : CodeLine) (codes : List CodeLine) : Type 0 where
-  pub place : (is_column plan ballot code.race code.column && in_order race column code.race code.column) ≡ true
+  pub place : (is_column plan ballot code.race code.column && follows_in_order race column code.race code.column) ≡ true
   pub is : is_code plan code.code ≡ true
   pub others : are_marks plan ballot code.race (code.column + 1) codes ≡ true
   pub least : race ≤ code.race
@@ -40,10 +40,10 @@ pub record FirstMark (plan : Plan) (ballot race column : ℕ) (code : CodeLine) 
 pub first_mark : (plan : Plan) (ballot race column : ℕ) (code : CodeLine) (codes : List CodeLine) → are_marks plan ballot race column (code ∷ codes) ≡ true
     → FirstMark plan ballot race column code codes
 first_mark plan ballot race column code codes marks =
-    let parts = and_parts ((is_column plan ballot code.race code.column && in_order race column code.race code.column) && is_code plan code.code)
+    let parts = and_parts ((is_column plan ballot code.race code.column && follows_in_order race column code.race code.column) && is_code plan code.code)
     (are_marks plan ballot code.race (code.column + 1) codes) marks in
-    let first = and_parts (is_column plan ballot code.race code.column && in_order race column code.race code.column) (is_code plan code.code) parts.0 in
-    let sides = and_parts (is_column plan ballot code.race code.column) (in_order race column code.race code.column) first.0 in
+    let first = and_parts (is_column plan ballot code.race code.column && follows_in_order race column code.race code.column) (is_code plan code.code) parts.0 in
+    let sides = and_parts (is_column plan ballot code.race code.column) (follows_in_order race column code.race code.column) first.0 in
     let below = ltb-true code.column (candidates_of plan code.race) (and_parts (ballot_has plan ballot code.race) (nat_lt code.column (candidates_of plan code.race)) sides.0).1 in
     record {
       place = first.0;
@@ -106,7 +106,7 @@ overs-later plan ballot race later over overs le all =
     and_from (is_race_left plan ballot later over) (are_overs plan ballot (over + 1) overs)
     (and_from (nat_lt over (length plan.races) && ballot_has plan ballot over) (nat_le later over) sides.0 (le-leb later over le)) first.others
 
-order-later : (race next_race next_column : ℕ) → race ≤ next_race → in_order race 0 next_race next_column ≡ true
+order-later : (race next_race next_column : ℕ) → race ≤ next_race → follows_in_order race 0 next_race next_column ≡ true
 order-later race next_race next_column le = elim (cases_lt race next_race) [
   | inl later ↦ rw (lt-ltb race next_race later) refl
   | inr past ↦ rw (eq-eqb race next_race (omega (arith, past)), le-leb 0 next_column (omega arith)) (or_true (nat_lt race next_race))
@@ -116,7 +116,7 @@ order-later race next_race next_column le = elim (cases_lt race next_race) [
     or_true true = refl
     or_true false = refl
 
-order-earlier : (race column earlier first next_race next_column : ℕ) → earlier < race → in_order race column next_race next_column ≡ true → in_order earlier first next_race next_column ≡ true
+order-earlier : (race column earlier first next_race next_column : ℕ) → earlier < race → follows_in_order race column next_race next_column ≡ true → follows_in_order earlier first next_race next_column ≡ true
 order-earlier race column earlier first next_race next_column less order =
     let after = order-least race column next_race next_column order in
     rw (lt-ltb earlier next_race (omega (arith, after))) refl
@@ -127,10 +127,10 @@ pub marks-earlier : (plan : Plan) (ballot race column earlier first : ℕ) (code
 marks-earlier plan ballot race column earlier first [] less marks = refl
 marks-earlier plan ballot race column earlier first (code ∷ codes) less marks =
     let one = first_mark plan ballot race column code codes marks in
-    let sides = and_parts (is_column plan ballot code.race code.column) (in_order race column code.race code.column) one.place in
-    and_from ((is_column plan ballot code.race code.column && in_order earlier first code.race code.column) && is_code plan code.code) (are_marks plan ballot code.race (code.column + 1) codes)
-    (and_from (is_column plan ballot code.race code.column && in_order earlier first code.race code.column) (is_code plan code.code)
-    (and_from (is_column plan ballot code.race code.column) (in_order earlier first code.race code.column) sides.0
+    let sides = and_parts (is_column plan ballot code.race code.column) (follows_in_order race column code.race code.column) one.place in
+    and_from ((is_column plan ballot code.race code.column && follows_in_order earlier first code.race code.column) && is_code plan code.code) (are_marks plan ballot code.race (code.column + 1) codes)
+    (and_from (is_column plan ballot code.race code.column && follows_in_order earlier first code.race code.column) (is_code plan code.code)
+    (and_from (is_column plan ballot code.race code.column) (follows_in_order earlier first code.race code.column) sides.0
     (order-earlier race column earlier first code.race code.column less sides.1)) one.is) one.others
 
 -- marks, the first of which is of a later race
@@ -138,10 +138,10 @@ pub marks-later : (plan : Plan) (ballot race column later : ℕ) (code : CodeLin
     → are_marks plan ballot later 0 (code ∷ codes) ≡ true
 marks-later plan ballot race column later code codes le marks =
     let one = first_mark plan ballot race column code codes marks in
-    let sides = and_parts (is_column plan ballot code.race code.column) (in_order race column code.race code.column) one.place in
-    and_from ((is_column plan ballot code.race code.column && in_order later 0 code.race code.column) && is_code plan code.code) (are_marks plan ballot code.race (code.column + 1) codes)
-    (and_from (is_column plan ballot code.race code.column && in_order later 0 code.race code.column) (is_code plan code.code)
-    (and_from (is_column plan ballot code.race code.column) (in_order later 0 code.race code.column) sides.0 (order-later later code.race code.column le)) one.is) one.others
+    let sides = and_parts (is_column plan ballot code.race code.column) (follows_in_order race column code.race code.column) one.place in
+    and_from ((is_column plan ballot code.race code.column && follows_in_order later 0 code.race code.column) && is_code plan code.code) (are_marks plan ballot code.race (code.column + 1) codes)
+    (and_from (is_column plan ballot code.race code.column && follows_in_order later 0 code.race code.column) (is_code plan code.code)
+    (and_from (is_column plan ballot code.race code.column) (follows_in_order later 0 code.race code.column) sides.0 (order-later later code.race code.column le)) one.is) one.others
 
 -- THE FIRST LINE
 
@@ -192,7 +192,7 @@ cast-over plan ballot race over codes overs all marks =
 pub record Steps (plan : Plan) (ballot : ℕ) (C : ℕ → ℕ → List CodeLine → List ℕ → List Said → Type 0) : Type 0 where
   pub none : (race column : ℕ) → C race column [] [] []
   pub mark : (race column : ℕ) (code : CodeLine) (codes : List CodeLine) (overs : List ℕ) (lines : List Said)
-      → (is_column plan ballot code.race code.column && in_order race column code.race code.column) ≡ true
+      → (is_column plan ballot code.race code.column && follows_in_order race column code.race code.column) ≡ true
       → C code.race (code.column + 1) codes overs lines → C race column (code ∷ codes) overs (Code code ∷ lines)
   pub over : (race column over : ℕ) (codes : List CodeLine) (overs : List ℕ) (lines : List Said) → is_race_left plan ballot race over ≡ true
       → C (over + 1) 0 codes overs lines → C race column codes (over ∷ overs) (Over over ∷ lines)

@@ -1,6 +1,7 @@
 -- What the test of a record's form says of each of its parts.
-use Rattle.std.proofs.Common.{◌≡◌, ℕ, zero, suc, ◌+◌, ◌^◌, ◌<◌, ◌==◌, nat_le, Bool, true, ◌&&◌, List, [], ◌∷◌, length, get_or, All, Option, None, Some, refl, sym, arith}
+use Rattle.std.proofs.Common.{◌≡◌, ℕ, zero, suc, ◌+◌, ◌^◌, ◌<◌, ◌==◌, nat_le, Bool, true, ◌&&◌, List, [], ◌∷◌, length, get_or, slice_get, All, Option, None, Some, refl, sym, ap, ◌∙◌, arith}
 use Rattle.std.proofs.lemmas.Bool.{and_parts, eqb-true, true≢false}
+use Rattle.std.proofs.lemmas.Option.{get_or_from_slice_get}
 use Rattle.std.specs.List.{list_all}
 use Rattle.std.specs.Option.{is_none}
 use Rattle.sg_plan.proofs.PlanLaws.{bounds}
@@ -78,10 +79,29 @@ each_passes-at test from (x ∷ xs) e (suc k) d within =
 pub entries_len : {A : Type 0} (plan : Plan) (lists : List (List A)) → has_entries plan lists ≡ true → length lists ≡ length plan.races
 entries_len plan lists e = eqb-true (length lists) (length plan.races) (and_parts (length lists == length plan.races) (each_passes (λ race items. length items == entries_of plan race) 0 lists) e).0
 
-pub rows_len : {A : Type 0} (plan : Plan) (lists : List (List (List A))) → has_rows plan lists ≡ true → length lists ≡ length plan.races
-rows_len plan lists e =
-    eqb-true (length lists) (length plan.races)
-    (and_parts (length lists == length plan.races) (each_passes (λ race instances. length instances == plan.instances && list_all (λ items. length items == entries_of plan race) instances) 0 lists) e).0
+-- and so many instances
+pub record HaveInstances {A : Type 0} (plan : Plan) (lists : List (List (List A))) : Type 0 where
+  pub many : length lists ≡ length plan.races
+  pub each : (race : ℕ) → race < length plan.races → length (get_or lists race []) ≡ plan.instances
+
+pub rows_have : {A : Type 0} (plan : Plan) (lists : List (List (List A))) → has_rows plan lists ≡ true → HaveInstances plan lists
+rows_have {A} plan lists e =
+    let test = λ (race : ℕ) (instances : List (List A)). length instances == plan.instances && list_all (λ items. length items == entries_of plan race) instances in
+    let parts = and_parts (length lists == length plan.races) (each_passes test 0 lists) e in
+    let many = eqb-true (length lists) (length plan.races) parts.0 in
+    record {
+      many = many;
+      each = λ race less.
+          let instances = get_or lists race [] in
+          let passes = each_passes-at test 0 lists parts.1 race [] (omega (arith, less, many)) in
+          eqb-true (length instances) plan.instances (and_parts (length instances == plan.instances) (list_all (λ items. length items == entries_of plan (0 + race)) instances) passes).0;
+    }
+
+-- the list of an instance
+pub instance_list : {A : Type 0} (lists : List (List (List A))) (race instance : ℕ) (instances : List (List A)) (rows : List A)
+    → slice_get lists race ≡ Some instances → slice_get instances instance ≡ Some rows → get_or (get_or lists race []) instance [] ≡ rows
+instance_list {A} lists race instance instances rows here there =
+    ap (λ (l : List (List A)). get_or l instance []) (get_or_from_slice_get lists race instances [] here) ∙ get_or_from_slice_get instances instance rows [] there
 
 -- and few instances
 pub rows_few : {A : Type 0} (plan : Plan) (lists : List (List (List A))) → fault_of plan ≡ None → has_rows plan lists ≡ true → All (λ instances. length instances < 2 ^ 32) lists
@@ -105,8 +125,7 @@ totals_few {A} plan lists limits e = λ k d within.
 -- the races have their results
 pub has_races : (posted : Record) → FormedLists posted → HasRaces posted
 has_races posted parts = record {
-  few = (bounds posted.plan parts.plan).few_races;
-  flags = rows_len posted.plan posted.flags parts.flags;
+  flags = (rows_have posted.plan posted.flags parts.flags).many;
   places = entries_len posted.plan posted.places parts.places;
   totals = totals_len posted.plan posted.totals parts.totals;
   few_flags = rows_few posted.plan posted.flags parts.plan parts.flags;

@@ -9,14 +9,14 @@ use Rattle.sg_plan.specs.declared.plan.Plan.{Plan}
 use Rattle.sg_forms.specs.Said.{Said}
 use Rattle.sg_forms.specs.Said.Said.{Code}
 use Rattle.sg_forms.specs.declared.line.CodeLine.{CodeLine}
-use Rattle.sg_grammar.specs.Due.{audit, ballot_codes, code_line, each, race_codes}
+use Rattle.sg_grammar.specs.Due.{due_audit, ballot_codes, code_line, each, race_codes}
 use Rattle.sg_grammar.specs.Placed.Placed.{Begun, CodeAt, Disputed, OverAt}
 use Rattle.sg_grammar.specs.Walk.{Next, behind, is_later, take_line, took}
 use Rattle.sg_grammar.specs.declared.state.Block.TheVariants as block
 use Rattle.sg_grammar.specs.declared.state.Part.TheVariants as part
 use Rattle.sg_grammar.specs.declared.state.Slot.{Slot}
 use Rattle.sg_grammar.specs.declared.state.Slot.TheVariants as slot
-use Rattle.sg_record.proofs.BlockLines.{audit-spells, dispute_codes-spells, numbered-all, paper_slots, papers-due, papers-out}
+use Rattle.sg_record.proofs.BlockLines.{due_audit-spells, dispute_codes-spells, numbered-all, paper_slots, papers-due, papers-out}
 use Rattle.sg_record.proofs.CastLines.{Steps, by_steps}
 use Rattle.sg_record.proofs.GatheredLines.{Gathers, gathers-due, same_first}
 use Rattle.sg_record.proofs.GatheredLists.{put, put-append}
@@ -139,10 +139,10 @@ audit_codes-are plan ballot = numbered-all is_ballot_code (ballot_codes plan bal
     at_test race false = refl
 
 -- the papers and codes of an audited ballot
-audit-put : (plan : Plan) (ballot : ℕ) (made : Record) (papers : List (List ℕ)) (codes : List CodeLine) → fault_of plan ≡ None
+due_audit-put : (plan : Plan) (ballot : ℕ) (made : Record) (papers : List (List ℕ)) (codes : List CodeLine) → fault_of plan ≡ None
     → are_papers plan (races_of_ballot plan ballot) papers ≡ true → are_due plan (each (ballot_codes plan ballot) 0 (length plan.races)) codes ≡ true
-    → put plan (audit plan ballot) (paper_lines (races_of_ballot plan ballot) papers ++ map Code codes) (with_block made ballot (fate.Audited [] [])) ≡ with_block made ballot (fate.Audited papers codes)
-audit-put plan ballot made papers codes fine papers_are codes_are =
+    → put plan (due_audit plan ballot) (paper_lines (races_of_ballot plan ballot) papers ++ map Code codes) (with_block made ballot (fate.Audited [] [])) ≡ with_block made ballot (fate.Audited papers codes)
+due_audit-put plan ballot made papers codes fine papers_are codes_are =
     let last : List Slot = each (ballot_codes plan ballot) 0 (length plan.races) in
     let races : List ℕ = races_of_ballot plan ballot in
     ap (λ l. put plan (l ++ last) (paper_lines races papers ++ map Code codes) (with_block made ballot (fate.Audited [] []))) (papers-due plan ballot fine)
@@ -168,11 +168,11 @@ fate-gathers plan last ballot (fate.Audited papers codes) made rest end final fi
     let parts = and_parts _ _ passes in (
       refl,
       (
-        took (Begun ballot) (behind plan (audit plan ballot) (part.Ballots ballot)),
+        took (Begun ballot) (behind plan (due_audit plan ballot) (part.Ballots ballot)),
         rw later refl,
-        gathers-due plan (audit plan ballot) (part.Ballots ballot) (with_block made ballot (fate.Audited [] [])) _ rest end final
-            ((audit-spells plan ballot fine).out (papers, codes) (parts.0, parts.1))
-            (subst (λ (r : Record). Gathers (behind plan [] (part.Ballots ballot)) r rest end final) (sym (audit-put plan ballot made papers codes fine parts.0 parts.1)) goes),
+        gathers-due plan (due_audit plan ballot) (part.Ballots ballot) (with_block made ballot (fate.Audited [] [])) _ rest end final
+            ((due_audit-spells plan ballot fine).out (papers, codes) (parts.0, parts.1))
+            (subst (λ (r : Record). Gathers (behind plan [] (part.Ballots ballot)) r rest end final) (sym (due_audit-put plan ballot made papers codes fine parts.0 parts.1)) goes),
       ),
     )
 fate-gathers plan last ballot fate.Voided made rest end final fine later passes open_end goes =

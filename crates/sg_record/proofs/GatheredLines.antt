@@ -9,12 +9,12 @@ use Rattle.sg_plan.specs.declared.plan.Draw.TheVariants as drawn
 use Rattle.sg_plan.specs.declared.plan.Plan.{Plan}
 use Rattle.sg_forms.proofs.Drawn.{spelled_are_public}
 use Rattle.sg_forms.proofs.WordKinds.{bytes_everywhere}
-use Rattle.sg_forms.specs.Reading.{public_bytes}
+use Rattle.sg_forms.specs.Reading.{bytes_of_digits}
 use Rattle.sg_forms.specs.Said.{Said}
 use Rattle.sg_forms.specs.Said.Said.{Seal}
 use Rattle.sg_grammar.specs.Due.{commits, each, race_code_commits, race_results, race_row_commits, race_rows, results}
 use Rattle.sg_grammar.specs.Placed.{Placed}
-use Rattle.sg_grammar.specs.Walk.{Next, Taken, behind, body_line, first_of, place, take_line, taking, took}
+use Rattle.sg_grammar.specs.Walk.{Next, Taken, behind, body_line, first_taken, place, take_line, taking, took}
 use Rattle.sg_grammar.specs.declared.state.Part.{Part}
 use Rattle.sg_grammar.specs.declared.state.Part.TheVariants as part
 use Rattle.sg_grammar.specs.declared.state.Slot.{Slot}
@@ -126,7 +126,7 @@ draw-put version plan drawn.Full made is = refl
 draw-put version plan (drawn.Public bytes) made is =
     let spelled : List ℕ = is.1.0 in
     let same : bytes ≡ spelled = digits_one bytes spelled is.1.2 is.1.1 in
-    let public : public_bytes (encode_lower bytes) ≡ bytes = spelled_are_public (encode_lower bytes) spelled (bytes_everywhere spelled is.1.2) is.1.1 ∙ sym same in
+    let public : bytes_of_digits (encode_lower bytes) ≡ bytes = spelled_are_public (encode_lower bytes) spelled (bytes_everywhere spelled is.1.2) is.1.1 ∙ sym same in
     ap (λ (b : List ℕ). let it : Record = record made { draw = drawn.Public b } in it) public
 
 -- with the results, the draw and the openings
@@ -185,5 +185,5 @@ gathers-results plan last made lines rest end final fills goes =
         let tests = and_parts (is_other_slot first) (list_all is_other_slot due) other in (
           opened (is_cast_line said) (fits-no_cast first said (not_false (is_code_slot first) tests.0) filled.0),
           same_first (behind plan [] (part.Ballots last)) (behind plan (first ∷ due) (part.Disputes 0)) made said (front ++ rest) end final
-              (block-other plan last said (fits-block first said filled.0) ∙ ap (λ l. first_of plan l said) are) on,
+              (block-other plan last said (fits-block first said filled.0) ∙ ap (λ l. first_taken plan l said) are) on,
         )

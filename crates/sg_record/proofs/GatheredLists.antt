@@ -10,7 +10,7 @@ use Rattle.sg_plan.specs.declared.plan.Plan.{Plan}
 use Rattle.sg_forms.specs.Said.{Said}
 use Rattle.sg_forms.specs.Said.Said.{Flags, Places}
 use Rattle.sg_forms.specs.declared.line.RowOpening.{RowOpening}
-use Rattle.sg_grammar.specs.Due.{bits_on, code_commit, each, flag_line, instance_flags, instance_row_commits, instance_rows, lines_for, numbered, place_line, race_code_commits, race_places, race_results, race_row_commits, race_rows, race_totals, row_commit, row_opening, total_line}
+use Rattle.sg_grammar.specs.Due.{bits_on, code_commit, each, due_flags, instance_flags, instance_row_commits, instance_rows, lines_for, numbered, due_places, race_code_commits, race_places, race_results, race_row_commits, race_rows, race_totals, row_commit, row_opening, due_totals}
 use Rattle.sg_grammar.specs.Walk.{place}
 use Rattle.sg_grammar.specs.declared.state.Slot.{Slot}
 use Rattle.sg_record.proofs.BitLines.{Piece, bits-spells, cut, cut-lines, cut-pieces, joined}
@@ -248,10 +248,10 @@ flags-put : (version : ℕ) (plan : Plan) (made : Record) (race : ℕ) (before a
 flags-put version plan made race before after flags places totals some all =
     let here : length (map (λ (x : Tally). x.0) before) ≡ race = length-map (λ (x : Tally). x.0) before ∙ some in
     put-lists version plan (λ (instance : ℕ). Counts (entries_of plan race)) (flag_lines race) (instance_flags plan race)
-    (λ instance. bits-spells version (entries_of plan race) (Flags race instance) (flag_line plan race instance) (λ line. flags-spells version race instance line _))
+    (λ instance. bits-spells version (entries_of plan race) (Flags race instance) (due_flags plan race instance) (λ line. flags-spells version race instance line _))
     (λ (l : List (List Bool)). with_tally made before after (l, (places, totals))) []
     (λ instance bits done rest counts many.
-    bits-put version (entries_of plan race) plan (Flags race instance) (flag_line plan race instance) (λ line. flags-spells version race instance line _)
+    bits-put version (entries_of plan race) plan (Flags race instance) (due_flags plan race instance) (λ line. flags-spells version race instance line _)
     (λ (b : List Bool). with_tally made before after (done ++ b ∷ rest, (places, totals)))
     (λ line piece list counted. put_flags instance line piece list done rest here many counted)
     bits counts)
@@ -259,7 +259,7 @@ flags-put version plan made race before after flags places totals some all =
   where
     put_flags : (instance line : ℕ) (piece list : List Bool) (done rest : List (List Bool)) → length (map (λ (x : Tally). x.0) before) ≡ race → length done ≡ instance
         → Counts (bits_on (entries_of plan race) line) piece
-        → put plan (flag_line plan race instance line) (Flags race instance (map bit_sign piece) ∷ []) (with_tally made before after (done ++ list ∷ rest, (places, totals)))
+        → put plan (due_flags plan race instance line) (Flags race instance (map bit_sign piece) ∷ []) (with_tally made before after (done ++ list ∷ rest, (places, totals)))
         ≡ with_tally made before after (done ++ (list ++ piece) ∷ rest, (places, totals))
     put_flags instance line piece list done rest here many counted =
         put-one plan _ _ _
@@ -272,13 +272,13 @@ places-put : (version : ℕ) (plan : Plan) (made : Record) (race : ℕ) (before 
     → put plan (race_places plan race) (place_lines race places) (with_tally made before after (flags, ([], totals))) ≡ with_tally made before after (flags, (places, totals))
 places-put version plan made race before after flags places totals some all =
     let here : length (map (λ (x : Tally). x.1.0) before) ≡ race = length-map (λ (x : Tally). x.1.0) before ∙ some in
-    bits-put version (entries_of plan race) plan (Places race) (place_line plan race) (λ line. places-spells version race line _)
+    bits-put version (entries_of plan race) plan (Places race) (due_places plan race) (λ line. places-spells version race line _)
     (λ (b : List Bool). with_tally made before after (flags, (b, totals)))
     (λ line piece list counted. put_places line piece list here counted)
     places all
   where
     put_places : (line : ℕ) (piece list : List Bool) → length (map (λ (x : Tally). x.1.0) before) ≡ race → Counts (bits_on (entries_of plan race) line) piece
-        → put plan (place_line plan race line) (Places race (map bit_sign piece) ∷ []) (with_tally made before after (flags, (list, totals)))
+        → put plan (due_places plan race line) (Places race (map bit_sign piece) ∷ []) (with_tally made before after (flags, (list, totals)))
         ≡ with_tally made before after (flags, (list ++ piece, totals))
     put_places line piece list here counted =
         put-one plan _ _ _
@@ -291,7 +291,7 @@ totals-put : (version : ℕ) (plan : Plan) (made : Record) (race : ℕ) (before 
     → put plan (race_totals plan race) (indexed (total_lines race) 0 totals) (with_tally made before after (flags, (places, []))) ≡ with_tally made before after (flags, (places, totals))
 totals-put version plan made race before after flags places totals some all =
     let here : length (map (λ (x : Tally). x.1.1) before) ≡ race = length-map (λ (x : Tally). x.1.1) before ∙ some in
-    put-items version plan (λ (candidate : ℕ) (x : ℕ). Any x) (total_lines race) (total_line race) (total-spells version race)
+    put-items version plan (λ (candidate : ℕ) (x : ℕ). Any x) (total_lines race) (due_totals race) (total-spells version race)
     (λ (list : List ℕ). with_tally made before after (flags, (places, list)))
     (λ candidate count list any.
     put-one plan _ _ _

@@ -15,7 +15,7 @@ use Rattle.sg_forms.specs.Said.Said.{Ballots, Cand, Election, Instances, Race, S
 use Rattle.sg_grammar.proofs.Claims.{if_some, if_then-claim, option_map-some}
 use Rattle.sg_grammar.proofs.Making.{candidates-race, made-line, made-start}
 use Rattle.sg_grammar.specs.Due.{commits}
-use Rattle.sg_grammar.specs.Head.{Making, behind_candidate, head_line, last_candidates, made, no_plan, run_line as take_run, style_line as take_style, with_cand, with_candidate, with_instances, with_name, with_race, with_run, with_style, with_version}
+use Rattle.sg_grammar.specs.Head.{Making, behind_candidate, head_line, last_candidates, made, no_plan, take_run, take_style, with_cand, with_candidate, with_instances, with_name, with_race, with_run, with_style, with_version}
 use Rattle.sg_grammar.specs.Made.{HasNoStyles, IsMade}
 use Rattle.sg_grammar.specs.Walk.{Next, Taken, after_run, behind, headed, in_head, is_whole, is_whole_at, start, take_at, take_line}
 use Rattle.sg_grammar.specs.declared.state.Head.{Head}

@@ -10,7 +10,7 @@ use Rattle.sg_plan.specs.declared.plan.Plan.{Plan}
 use Rattle.sg_forms.specs.declared.line.CodeLine.{CodeLine}
 use Rattle.sg_forms.specs.Said.Said.{Code, Over, Paper}
 use Rattle.sg_forms.specs.Spelling.{IsCode}
-use Rattle.sg_grammar.specs.Walk.{in_order, is_column, is_later, is_race_left}
+use Rattle.sg_grammar.specs.Walk.{follows_in_order, is_column, is_later, is_race_left}
 use Rattle.sg_grammar.specs.Due.{race_codes}
 use Rattle.sg_grammar.specs.declared.state.Block.TheVariants as block
 use Rattle.sg_grammar.specs.declared.state.Slot.{Slot}
@@ -62,12 +62,6 @@ has_no race least [] before order = refl
 has_no race least (x ∷ xs) before order =
     rw (ne_eqb x race (λ e. omega (arith, e, order.0))) (has_no race (x + 1) xs (omega (arith, order.0)) order.1)
 
-pub has_first : (race : ℕ) (xs ys : List ℕ) → xs ≡ race ∷ ys → has_race race xs ≡ true
-has_first race xs ys e = rw (e, eq-eqb race race refl) refl
-
-pub has_other : (race : ℕ) (xs : List ℕ) (x : ℕ) (ys : List ℕ) → xs ≡ x ∷ ys → (x ≡ race → ⊥) → has_race race xs ≡ has_race race ys
-has_other race xs x ys e differ = rw (e, ne_eqb x race differ) refl
-
 pub later_races : (race : ℕ) (xs : List ℕ) (x : ℕ) (ys : List ℕ) → xs ≡ x ∷ ys → (x ≡ race → ⊥) → DoRise race xs → DoRise (race + 1) xs
 later_races race xs x ys e differ order =
     let parts = first_rising race xs x ys e order in
@@ -92,10 +86,10 @@ pub record Marks (plan : Plan) (race : ℕ) (codes : List CodeLine) : Type 0 whe
 pub marks : (plan : Plan) (ballot race column : ℕ) (codes : List CodeLine) → are_marks plan ballot race column codes ≡ true → Marks plan race codes
 marks plan ballot race column [] e = record { have = tt; order = tt }
 marks plan ballot race column (x ∷ xs) e =
-    let placed = is_column plan ballot x.race x.column && in_order race column x.race x.column in
+    let placed = is_column plan ballot x.race x.column && follows_in_order race column x.race x.column in
     let whole = and_parts (placed && is_code plan x.code) (are_marks plan ballot x.race (x.column + 1) xs) e in
     let here = and_parts placed (is_code plan x.code) whole.0 in
-    let order = and_parts (is_column plan ballot x.race x.column) (in_order race column x.race x.column) here.0 in
+    let order = and_parts (is_column plan ballot x.race x.column) (follows_in_order race column x.race x.column) here.0 in
     let rest = marks plan ballot x.race (x.column + 1) xs whole.1 in
     let low : race ≤ x.race = elim (or_cases (nat_lt race x.race) (race == x.race && nat_le column x.column) order.1) [
       | inl less ↦ let before = ltb-true race x.race less in omega arith

@@ -9,7 +9,7 @@ use Rattle.sg_plan.specs.declared.plan.Plan.{Plan}
 use Rattle.sg_forms.specs.Said.{Said}
 use Rattle.sg_forms.specs.Said.Said.{Code, Over}
 use Rattle.sg_forms.specs.declared.line.CodeLine.{CodeLine}
-use Rattle.sg_grammar.specs.Due.{audit, ballot_codes, code_line, each, numbered, race_codes}
+use Rattle.sg_grammar.specs.Due.{due_audit, ballot_codes, code_line, each, numbered, race_codes}
 use Rattle.sg_grammar.specs.Placed.{Placed}
 use Rattle.sg_grammar.specs.Placed.Placed.{CodeAt, OfPlan, OverAt}
 use Rattle.sg_grammar.specs.Walk.{Next, behind, is_later, take_line}
@@ -139,22 +139,22 @@ codes-as plan ballot (first ∷ due) (code ∷ codes) are passes = other first a
     other : (s : Slot) → (is_audit_slot ballot s && list_all (is_audit_slot ballot) due) ≡ true → FillsAs (s ∷ due) (map Code (code ∷ codes)) (map (code_place block.Audited ballot) (code ∷ codes))
     other s e = cc
 
-codes-audit : (plan : Plan) (ballot : ℕ) → list_all (is_audit_slot ballot) (each (ballot_codes plan ballot) 0 (length plan.races)) ≡ true
-codes-audit plan ballot = numbered-all (is_audit_slot ballot) (ballot_codes plan ballot) 0 (length plan.races - 0) (λ race. at_test race (ballot_has plan ballot race))
+codes-due_audit : (plan : Plan) (ballot : ℕ) → list_all (is_audit_slot ballot) (each (ballot_codes plan ballot) 0 (length plan.races)) ≡ true
+codes-due_audit plan ballot = numbered-all (is_audit_slot ballot) (ballot_codes plan ballot) 0 (length plan.races - 0) (λ race. at_test race (ballot_has plan ballot race))
   where
     at_test : (race : ℕ) (b : Bool) → list_all (is_audit_slot ballot) (cond b (race_codes plan block.Audited ballot race) []) ≡ true
     at_test race true = numbered-all (is_audit_slot ballot) (code_line block.Audited ballot race) 0 (candidates_of plan race - 0) (λ column. rw (eq-eqb ballot ballot refl) refl)
     at_test race false = refl
 
-audit-as : (plan : Plan) (ballot : ℕ) (papers : List (List ℕ)) (codes : List CodeLine) → fault_of plan ≡ None → are_papers plan (races_of_ballot plan ballot) papers ≡ true
+due_audit-as : (plan : Plan) (ballot : ℕ) (papers : List (List ℕ)) (codes : List CodeLine) → fault_of plan ≡ None → are_papers plan (races_of_ballot plan ballot) papers ≡ true
     → are_due plan (each (ballot_codes plan ballot) 0 (length plan.races)) codes ≡ true
-    → FillsAs (audit plan ballot) (paper_lines (races_of_ballot plan ballot) papers ++ map Code codes) (paper_places ballot (races_of_ballot plan ballot) papers ++ map (code_place block.Audited ballot) codes)
-audit-as plan ballot papers codes fine passes due =
+    → FillsAs (due_audit plan ballot) (paper_lines (races_of_ballot plan ballot) papers ++ map Code codes) (paper_places ballot (races_of_ballot plan ballot) papers ++ map (code_place block.Audited ballot) codes)
+due_audit-as plan ballot papers codes fine passes due =
     rw (papers-due plan ballot fine)
     (as-append (paper_slots plan ballot (races_of_ballot plan ballot)) (each (ballot_codes plan ballot) 0 (length plan.races)) (paper_lines (races_of_ballot plan ballot) papers) (map Code codes)
     (paper_places ballot (races_of_ballot plan ballot) papers) (map (code_place block.Audited ballot) codes)
     (papers-as plan ballot (races_of_ballot plan ballot) papers passes)
-    (codes-as plan ballot (each (ballot_codes plan ballot) 0 (length plan.races)) codes (codes-audit plan ballot) due))
+    (codes-as plan ballot (each (ballot_codes plan ballot) 0 (length plan.races)) codes (codes-due_audit plan ballot) due))
 
 -- ALL BLOCKS
 
@@ -178,10 +178,10 @@ fate-as plan last ballot (fate.Audited papers codes) rest others end fine later 
     let parts = and_parts (are_papers plan (races_of_ballot plan ballot) papers) (are_due plan (each (ballot_codes plan ballot) 0 (length plan.races)) codes) passes in (
       refl,
       (
-        behind plan (audit plan ballot) (part.Ballots ballot),
+        behind plan (due_audit plan ballot) (part.Ballots ballot),
         rw later refl,
-        goes_as-due plan (audit plan ballot) (part.Ballots ballot) (paper_lines (races_of_ballot plan ballot) papers ++ map Code codes) rest
-            (paper_places ballot (races_of_ballot plan ballot) papers ++ map (code_place block.Audited ballot) codes) others end (audit-as plan ballot papers codes fine parts.0 parts.1) goes.1,
+        goes_as-due plan (due_audit plan ballot) (part.Ballots ballot) (paper_lines (races_of_ballot plan ballot) papers ++ map Code codes) rest
+            (paper_places ballot (races_of_ballot plan ballot) papers ++ map (code_place block.Audited ballot) codes) others end (due_audit-as plan ballot papers codes fine parts.0 parts.1) goes.1,
       ),
     )
 fate-as plan last ballot fate.Voided rest others end fine later passes goes = (refl, (behind plan [] (part.Ballots ballot), rw (passes, later) refl, goes.1))

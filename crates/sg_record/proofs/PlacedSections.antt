@@ -10,7 +10,7 @@ use Rattle.sg_plan.specs.declared.plan.Plan.{Plan}
 use Rattle.sg_forms.specs.Said.{Said}
 use Rattle.sg_forms.specs.Said.Said.{CodeCommit, Flags, Places, Row, RowCommit, Seal, Total}
 use Rattle.sg_forms.specs.declared.line.RowOpening.{RowOpening}
-use Rattle.sg_grammar.specs.Due.{bits_on, code_commit, commits, each, flag_line, instance_flags, instance_row_commits, instance_rows, lines_for, place_line, race_code_commits, race_places, race_results, race_row_commits, race_rows, race_totals, results, row_commit, row_opening, total_line}
+use Rattle.sg_grammar.specs.Due.{bits_on, code_commit, commits, each, due_flags, instance_flags, instance_row_commits, instance_rows, lines_for, due_places, race_code_commits, race_places, race_results, race_row_commits, race_rows, race_totals, results, row_commit, row_opening, due_totals}
 use Rattle.sg_grammar.specs.Placed.{Placed}
 use Rattle.sg_grammar.specs.Placed.Placed.{CodeCommitAt, FlagsAt, PlacesAt, RowAt, RowCommitAt, SealAt, TotalAt}
 use Rattle.sg_grammar.specs.Walk.{place}
@@ -78,7 +78,7 @@ flags-as : (plan : Plan) (race instance : ℕ) (bits : List Bool) → length bit
     → FillsAs (instance_flags plan race instance) (flag_lines race instance bits) (flag_places race instance bits)
 flags-as plan race instance bits many =
     rw (ap lines_for many)
-    (as-each (flag_line plan race instance) (λ line. Flags race instance (signs_on bits line) ∷ []) (flag_place race instance bits) 0 (lines_for (entries_of plan race) - 0)
+    (as-each (due_flags plan race instance) (λ line. Flags race instance (signs_on bits line) ∷ []) (flag_place race instance bits) 0 (lines_for (entries_of plan race) - 0)
     (λ line a b. as-one (slot.Flags race instance line (bits_on (entries_of plan race) line)) (Flags race instance (signs_on bits line)) (FlagsAt race instance (64 * line) (signs_on bits line))
     (rw (eq-eqb race race refl, eq-eqb instance instance refl, signs-count bits (entries_of plan race) line many) refl)))
 
@@ -86,7 +86,7 @@ sets-as : (plan : Plan) (race : ℕ) (bits : List Bool) → length bits ≡ entr
     → FillsAs (race_places plan race) (place_lines race bits) (set_places race bits)
 sets-as plan race bits many =
     rw (ap lines_for many)
-    (as-each (place_line plan race) (λ line. Places race (signs_on bits line) ∷ []) (set_place race bits) 0 (lines_for (entries_of plan race) - 0)
+    (as-each (due_places plan race) (λ line. Places race (signs_on bits line) ∷ []) (set_place race bits) 0 (lines_for (entries_of plan race) - 0)
     (λ line a b. as-one (slot.Places race line (bits_on (entries_of plan race) line)) (Places race (signs_on bits line)) (PlacesAt race (64 * line) (signs_on bits line))
     (rw (eq-eqb race race refl, signs-count bits (entries_of plan race) line many) refl)))
 
@@ -117,7 +117,7 @@ race-as plan race flags places totals has_flags has_places has_totals =
     (λ instance bits many. flags-as plan race instance bits many) 0 (plan.instances - 0) flags has_flags)
     (as-append (race_places plan race) (race_totals plan race) (place_lines race places) (indexed (total_lines race) 0 totals) (set_places race places) (indexed (total_place race) 0 totals)
     (sets-as plan race places has_places)
-    (as-items (λ (candidate : ℕ) (x : ℕ). Any x) (total_line race) (total_lines race) (total_place race)
+    (as-items (λ (candidate : ℕ) (x : ℕ). Any x) (due_totals race) (total_lines race) (total_place race)
     (λ candidate count any. as-one (slot.Total race candidate) (Total race candidate count) (TotalAt race candidate count) (rw (eq-eqb race race refl, eq-eqb candidate candidate refl) refl))
     0 (candidates_of plan race - 0) totals has_totals))
 

@@ -13,7 +13,7 @@ use Rattle.sg_grammar.specs.Due.{commits, numbered, results}
 use Rattle.sg_grammar.specs.Head.{head_line}
 use Rattle.sg_grammar.specs.Placed.{Placed}
 use Rattle.sg_grammar.specs.Placed.Placed.{OfPlan}
-use Rattle.sg_grammar.specs.Walk.{Next, Taken, Walked, after_run, behind, body_line, first_of, headed, in_head, place, start, take_at, take_bytes, take_line, taking, took, walk, walked_on}
+use Rattle.sg_grammar.specs.Walk.{Next, Taken, Walked, after_run, behind, body_line, first_taken, headed, in_head, place, start, take_at, take_bytes, take_line, taking, took, walk, walked_on}
 use Rattle.sg_grammar.specs.declared.state.Head.{Head}
 use Rattle.sg_grammar.specs.declared.state.Head.TheVariants as head
 use Rattle.sg_grammar.specs.declared.state.Part.{Part}
@@ -151,7 +151,7 @@ goes_as-results plan last lines rest places others end fills goes =
     from (d ∷ due) [] ps are some filled on = absurd filled
     from (d ∷ due) (s ∷ front) [] are some filled on = absurd filled
     from (d ∷ due) (s ∷ front) (p ∷ ps) are some filled on =
-        (on.0, block-other plan last s (fits-block d s (ap is_some filled.0)) ∙ (ap (λ l. first_of plan l s) are ∙ on.1), on.2)
+        (on.0, block-other plan last s (fits-block d s (ap is_some filled.0)) ∙ (ap (λ l. first_taken plan l s) are ∙ on.1), on.2)
 
 -- THE PLAN'S LINES
 

@@ -1,8 +1,8 @@
 -- Lines that are written one after another.
 use Rattle.std.proofs.Common.{◌≡◌, ℕ, ◌≤◌, List, [], ◌∷◌, ◌++◌, ◌+◌, ◌-◌, ◌<◌, length, map, drop, All, slice_get, Option, Some, None, Result, Ok, Err, refl, sym, subst, ap, ◌∙◌, append_assoc, append-nil, arith}
 use Rattle.std.specs.Io.KnownBytes.{Appends}
-use Rattle.std.specs.List.{concat}
-use Rattle.std.specs.Prelude.{IsErr, IsSome}
+use Rattle.std.specs.List.{concat, flat_map}
+use Rattle.std.specs.Prelude.{IsErr}
 use Rattle.std.proofs.lemmas.Bool.{true≢false}
 use Rattle.std.proofs.lemmas.Option.{get_or_from_slice_get, slice_get_within}
 use Rattle.std.proofs.lemmas.List.{drop_all, drop_more, map-append}
@@ -14,12 +14,13 @@ use Rattle.sg_forms.specs.Said.Said.{Seal}
 use Rattle.sg_forms.specs.Spelling.{spelling}
 use Rattle.sg_grammar.proofs.Each.{each-first, each-none}
 use Rattle.sg_grammar.specs.Due.{each}
-use Rattle.sg_record.specs.Lines.{indexed, seal_line}
+use Rattle.sg_record.specs.Lines.{block_lines, commit_lines, dispute_lines, indexed, lines_in, opening_lines, plan_lines, result_lines, seal_line, second_lines}
 use Rattle.sg_commit.specs.Seals.{StandsFor}
 use Rattle.sg_commit.specs.declared.Sealer.{Sealer}
 use Rattle.sg_outside.specs.Streams.{AppendsFront}
-use Rattle.sg_record.specs.Pens.{IsSealOf, Moment, Puts, TakesIn}
+use Rattle.sg_record.specs.Pens.{Moment, Puts, SealsWhere, TakesIn}
 use Rattle.sg_record.specs.Writing.{text_in}
+use Rattle.sg_record.specs.declared.record.Record.{Record}
 
 -- the text of one line
 pub one_line : (version : ℕ) (line : Said) → text_in version (line ∷ []) ≡ spelling version line
@@ -47,19 +48,20 @@ takes_then (Some a) (Some b) None first second one two = absurd two
 takes_then (Some a) (Some b) (Some c) first second one two =
     λ taken stands. subst (λ (l : List ℕ). StandsFor c l) (append_assoc taken first second) (two (taken ++ first) (one taken stands))
 
--- a seal that takes bytes in is one still
-pub takes_some : (a b : Option Sealer) (bytes : List ℕ) → TakesIn a b bytes → IsSome a → IsSome b
-takes_some None None bytes takes is = is
-takes_some None (Some b) bytes takes is = absurd takes
-takes_some (Some a) None bytes takes is = absurd takes
-takes_some (Some a) (Some b) bytes takes is = refl
+-- one that stands for bytes stands for these behind them
+takes_behind : (wanted : Type 0) (a b : Option Sealer) (before bytes : List ℕ) → TakesIn a b bytes → SealsWhere wanted a before → SealsWhere wanted b (before ++ bytes)
+takes_behind wanted None None before bytes takes is = is
+takes_behind wanted None (Some b) before bytes takes is = absurd takes
+takes_behind wanted (Some a) None before bytes takes is = absurd takes
+takes_behind wanted (Some a) (Some b) before bytes takes is = takes before is
 
--- and stands for the bytes before and these
-pub takes_behind : (a b : Option Sealer) (before bytes : List ℕ) → TakesIn a b bytes → IsSealOf a before → IsSealOf b (before ++ bytes)
-takes_behind None None before bytes takes is = absurd is
-takes_behind None (Some b) before bytes takes is = absurd takes
-takes_behind (Some a) None before bytes takes is = absurd takes
-takes_behind (Some a) (Some b) before bytes takes is = takes before is
+-- behind lines that were written it stands for those before and these
+pub seals_after : {T E : Type 0} (wanted : Type 0) (before now : Moment) (value : T) (version : ℕ) (old lines : List Said) → before.pen.version ≡ version
+    → SealsWhere wanted before.pen.seal (text_in version old) → Puts {E = E} before now (Ok value) lines → SealsWhere wanted now.pen.seal (text_in version (old ++ lines))
+seals_after wanted before now value version old lines of is puts =
+    let taken = takes_behind wanted before.pen.seal now.pen.seal (text_in version old) (text_in before.pen.version lines) puts.seal is in
+    subst (λ (l : List ℕ). SealsWhere wanted now.pen.seal l)
+    (ap (λ v. text_in version old ++ text_in v lines) of ∙ sym (text-append version old lines)) taken
 
 -- LINES, ONE AFTER ANOTHER
 
@@ -102,6 +104,10 @@ puts_then before now then value (Err fault) lines more first puts =
       version = puts.version ∙ first.version;
       seal = tt;
     }
+
+-- the lines in another form
+pub puts_same : {T E : Type 0} (before now : Moment) (result : Result T E) (lines same : List Said) → same ≡ lines → Puts before now result lines → Puts before now result same
+puts_same before now result lines same e puts = rw e puts
 
 -- another value for it
 pub puts_as : {S T E F : Type 0} (before now : Moment) (value : T) (other : S) (lines : List Said) → Puts {E = E} before now (Ok value) lines → Puts {E = F} before now (Ok other) lines
@@ -160,9 +166,6 @@ indexed-end f at xs end = rw (drop_all at xs end) refl
 -- the items of a list from a number on are left
 abbrev pub LeftFrom : {A : Type 0} → Moment → Moment → (ℕ → A → List Said) → List A → ℕ → Type 0
 LeftFrom before now f xs at = Left before now (indexed f 0 xs) (indexed f at (drop at xs))
-
-pub list_start : {A : Type 0} (now : Moment) (f : ℕ → A → List Said) (xs : List A) → LeftFrom now now f xs 0
-list_start now f xs = left_all now (indexed f 0 xs)
 
 pub list_next : {A T E : Type 0} (before now then : Moment) (value : T) (f : ℕ → A → List Said) (xs : List A) (at : ℕ) (x : A)
     → LeftFrom before now f xs at → drop at xs ≡ x ∷ drop (at + 1) xs → Puts {E = E} now then (Ok value) (f at x) → LeftFrom before then f xs (at + 1)
@@ -239,3 +242,14 @@ pub each_end : {T E : Type 0} (before now : Moment) (value : T) (f : ℕ → Lis
     → LeftEach before now f at end → end ≤ at → Puts {E = E} before now (Ok value) (each f 0 end)
 each_end before now value f at end left over =
     left_none before now value (each f 0 end) (rw (each-none f at end over) at left)
+
+-- THE WHOLE
+
+-- the lines of a record are those of the first two sections, and the others behind them
+pub whole-is : (posted : Record) → lines_in posted ≡ second_lines posted ++ (opening_lines posted ++ flat_map dispute_lines posted.disputes)
+whole-is posted = join (plan_lines posted.plan) (commit_lines posted) (flat_map (block_lines posted.plan) posted.ballots) (result_lines posted) (opening_lines posted ++ flat_map dispute_lines posted.disputes)
+  where
+    join : (a b c d e : List Said) → a ++ (b ++ (c ++ (d ++ e))) ≡ ((a ++ b) ++ (c ++ d)) ++ e
+    join a b c d e =
+        ap (λ (l : List Said). a ++ (b ++ l)) (sym (append_assoc c d e))
+        ∙ (sym (append_assoc a b ((c ++ d) ++ e)) ∙ sym (append_assoc (a ++ b) (c ++ d) e))

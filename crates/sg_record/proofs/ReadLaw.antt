@@ -1,6 +1,6 @@
 -- What a reader of a text rests on: the lines of the text, one after another, give a record exactly where the text is
 -- that of a formed record.
-use Rattle.std.proofs.Common.{◌≡◌, ℕ, ◌≤◌, Bool, true, false, cond, List, [], ◌∷◌, drop, length, slice_range, Option, Some, None, refl, sym, ap, ◌∙◌}
+use Rattle.std.proofs.Common.{◌≡◌, ℕ, ◌≤◌, Bool, true, false, cond, List, [], ◌∷◌, ◌++◌, drop, length, slice_range, Option, Some, None, refl, sym, ap, ◌∙◌}
 use Rattle.std.proofs.lemmas.Bool.{true≢false}
 use Rattle.std.proofs.lemmas.List.{drop_all}
 use Rattle.std.proofs.lemmas.Option.{same_Some}
@@ -11,10 +11,10 @@ use Rattle.sg_outside.specs.TextLines.{lines_of}
 use Rattle.sg_grammar.specs.Walk.{is_whole}
 use Rattle.sg_record.proofs.BytesWalk.{AreIn-from_All}
 use Rattle.sg_record.proofs.FormedLaw.{end_of}
-use Rattle.sg_record.proofs.GatherLaw.{formed_gathered, whole_gathered}
+use Rattle.sg_record.proofs.GatherLaw.{formed_gathered, gather-push, whole_gathered}
 use Rattle.sg_record.proofs.TextLaw.{spelled_lines}
 use Rattle.sg_record.specs.inside.Gathering.{Gathered, gather, gather_line, nothing_yet}
-use Rattle.sg_record.specs.Laws.{HasWords, IsTextOf}
+use Rattle.sg_record.specs.Laws.{AreLinesOf, HasWords, IsTextOf}
 use Rattle.sg_record.specs.Lines.{lines_in, text_of, texts_in}
 use Rattle.sg_record.specs.declared.record.Record.{Record}
 
@@ -63,37 +63,70 @@ pub text_lines : (posted : Record) → HasWords posted → lines_of (text_of pos
 unfolding text_of
 text_lines posted words = lines_of-concat (texts_in posted) (spelled_lines posted.plan.version (lines_in posted) (AreIn-from_All posted.plan.version (lines_in posted) words))
 
--- what is gathered of a text, up to a whole record, is formed, and the text is its text
-pub read_found : (bytes : List ℕ) (so_far : Gathered) → Some so_far ≡ gather nothing_yet (lines_of bytes) → is_whole so_far.next ≡ true → IsTextOf bytes so_far.made
-unfolding text_of
-read_found bytes so_far e whole =
-    let found = whole_gathered (lines_of bytes) so_far (sym e) whole in
-    record { words = found.words; formed = found.formed; text = sym (concat-lines_of bytes) ∙ ap concat found.is }
+-- what is gathered of lines, up to a whole record, is formed, and the lines are its lines
+pub lines_found : (lines : List (List ℕ)) (so_far : Gathered) → Some so_far ≡ gather nothing_yet lines → is_whole so_far.next ≡ true → AreLinesOf lines so_far.made
+lines_found lines so_far e whole = let found = whole_gathered lines so_far (sym e) whole in record { words = found.words; formed = found.formed; text = found.is }
 
--- the text of a formed record gives the record
-read_only : (bytes : List ℕ) (posted : Record) → IsTextOf bytes posted → gather nothing_yet (lines_of bytes) ≡ Some (record { next = end_of posted; made = posted })
-read_only bytes posted is =
-    ap (λ b. gather nothing_yet (lines_of b)) is.text ∙ (ap (gather nothing_yet) (text_lines posted is.words) ∙ formed_gathered posted is.words is.formed)
+-- the lines of a formed record give the record
+lines_only : (lines : List (List ℕ)) (posted : Record) → AreLinesOf lines posted → gather nothing_yet lines ≡ Some (record { next = end_of posted; made = posted })
+lines_only lines posted are = ap (gather nothing_yet) are.text ∙ formed_gathered posted are.words are.formed
 
--- so where nothing is gathered, the text is that of no formed record
-pub read_none : (bytes : List ℕ) (posted : Record) → None ≡ gather nothing_yet (lines_of bytes) → IsTextOf bytes posted → ⊥
-read_none bytes posted none is =
+-- so where nothing is gathered, they are those of no formed record
+pub lines_none : (lines : List (List ℕ)) (posted : Record) → None ≡ gather nothing_yet lines → AreLinesOf lines posted → ⊥
+lines_none lines posted none are =
     let found : Gathered = record { next = end_of posted; made = posted } in
-    nothing found (none ∙ read_only bytes posted is)
+    nothing found (none ∙ lines_only lines posted are)
   where
     nothing : (found : Gathered) → ◌≡◌ {A = Option Gathered} None (Some found) → ⊥
     nothing found e = cc
 
--- what is gathered of a formed record's text is the record
-gathered_is : (bytes : List ℕ) (so_far : Gathered) (posted : Record) → Some so_far ≡ gather nothing_yet (lines_of bytes) → IsTextOf bytes posted
+-- what is gathered of a formed record's lines is the record
+gathered_is : (lines : List (List ℕ)) (so_far : Gathered) (posted : Record) → Some so_far ≡ gather nothing_yet lines → AreLinesOf lines posted
     → so_far ≡ record { next = end_of posted; made = posted }
-gathered_is bytes so_far posted e is = same_Some so_far (record { next = end_of posted; made = posted }) (e ∙ read_only bytes posted is)
+gathered_is lines so_far posted e are = same_Some so_far (record { next = end_of posted; made = posted }) (e ∙ lines_only lines posted are)
 
--- so where it isn't whole, the text is that of no formed record either
-pub read_part : (bytes : List ℕ) (so_far : Gathered) (posted : Record) → Some so_far ≡ gather nothing_yet (lines_of bytes) → is_whole so_far.next ≡ false → IsTextOf bytes posted → ⊥
-read_part bytes so_far posted e part is =
-    let whole : is_whole so_far.next ≡ true = ap (λ (g : Gathered). is_whole g.next) (gathered_is bytes so_far posted e is) in
+-- so where it isn't whole, the lines are those of no formed record either
+pub lines_part : (lines : List (List ℕ)) (so_far : Gathered) (posted : Record) → Some so_far ≡ gather nothing_yet lines → is_whole so_far.next ≡ false → AreLinesOf lines posted → ⊥
+lines_part lines so_far posted e part are =
+    let whole : is_whole so_far.next ≡ true = ap (λ (g : Gathered). is_whole g.next) (gathered_is lines so_far posted e are) in
     true≢false (sym whole ∙ part)
 
+pub lines_same : (lines : List (List ℕ)) (so_far : Gathered) (posted : Record) → Some so_far ≡ gather nothing_yet lines → AreLinesOf lines posted → so_far.made ≡ posted
+lines_same lines so_far posted e are = ap (λ (g : Gathered). g.made) (gathered_is lines so_far posted e are)
+
+-- OF A TEXT
+
+-- the lines of a record's text are its lines
+pub text_has : (bytes : List ℕ) (posted : Record) → IsTextOf bytes posted → AreLinesOf (lines_of bytes) posted
+text_has bytes posted is = record { words = is.words; formed = is.formed; text = ap lines_of is.text ∙ text_lines posted is.words }
+
+-- what is gathered of a text, up to a whole record, is formed, and the text is its text
+pub read_found : (bytes : List ℕ) (so_far : Gathered) → Some so_far ≡ gather nothing_yet (lines_of bytes) → is_whole so_far.next ≡ true → IsTextOf bytes so_far.made
+unfolding text_of
+read_found bytes so_far e whole =
+    let found = lines_found (lines_of bytes) so_far e whole in
+    record { words = found.words; formed = found.formed; text = sym (concat-lines_of bytes) ∙ ap concat found.text }
+
+pub read_none : (bytes : List ℕ) (posted : Record) → None ≡ gather nothing_yet (lines_of bytes) → IsTextOf bytes posted → ⊥
+read_none bytes posted none is = lines_none (lines_of bytes) posted none (text_has bytes posted is)
+
+pub read_part : (bytes : List ℕ) (so_far : Gathered) (posted : Record) → Some so_far ≡ gather nothing_yet (lines_of bytes) → is_whole so_far.next ≡ false → IsTextOf bytes posted → ⊥
+read_part bytes so_far posted e part is = lines_part (lines_of bytes) so_far posted e part (text_has bytes posted is)
+
 pub read_same : (bytes : List ℕ) (so_far : Gathered) (posted : Record) → Some so_far ≡ gather nothing_yet (lines_of bytes) → IsTextOf bytes posted → so_far.made ≡ posted
-read_same bytes so_far posted e is = ap (λ (g : Gathered). g.made) (gathered_is bytes so_far posted e is)
+read_same bytes so_far posted e is = lines_same (lines_of bytes) so_far posted e (text_has bytes posted is)
+
+-- ONE MORE LINE
+
+-- behind a line that may not stand, nothing changes
+pub push_stopped : (so_far : Gathered) (stopped : Bool) (lines : List (List ℕ)) (line : List ℕ) → stopped ≡ true → cond stopped None (Some so_far) ≡ gather nothing_yet lines
+    → cond stopped None (Some so_far) ≡ gather nothing_yet (lines ++ line ∷ [])
+push_stopped so_far true lines line is e = sym (gather-push nothing_yet lines line ∙ ap (option_and_then (λ (g : Gathered). gather_line g line)) (sym e))
+push_stopped so_far false lines line is e = cc
+
+-- the line is taken, or may not stand
+pub push_taken : (old new : Gathered) (stopped taken : Bool) (lines : List (List ℕ)) (line : List ℕ) → stopped ≡ false → cond stopped None (Some old) ≡ gather nothing_yet lines
+    → gather_line old line ≡ cond taken (Some new) None → cond taken (Some new) None ≡ gather nothing_yet (lines ++ line ∷ [])
+push_taken old new false taken lines line is e takes =
+    sym (gather-push nothing_yet lines line ∙ (ap (option_and_then (λ (g : Gathered). gather_line g line)) (sym e) ∙ takes))
+push_taken old new true taken lines line is e takes = cc

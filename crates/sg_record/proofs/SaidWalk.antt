@@ -11,9 +11,9 @@ use Rattle.sg_forms.specs.Said.{Said}
 use Rattle.sg_forms.specs.Said.Said.{Audited, Ballots, Cast, Code, Over, Spoiled, Voided}
 use Rattle.sg_forms.specs.declared.line.CodeLine.{CodeLine}
 use Rattle.sg_grammar.proofs.Claims.{option_map-some}
-use Rattle.sg_grammar.specs.Due.{each, instance_flags, instance_rows, flag_line, lines_for, place_line, race_places, race_results, race_rows, race_totals, results, row_opening, total_line}
+use Rattle.sg_grammar.specs.Due.{each, instance_flags, instance_rows, due_flags, lines_for, due_places, race_places, race_results, race_rows, race_totals, results, row_opening, due_totals}
 use Rattle.sg_grammar.specs.Placed.{Placed}
-use Rattle.sg_grammar.specs.Walk.{Next, Taken, after_block, behind, first_of, in_cast, place, take_line, taking, took}
+use Rattle.sg_grammar.specs.Walk.{Next, Taken, after_block, behind, first_taken, in_cast, place, take_line, taking, took}
 use Rattle.sg_grammar.specs.declared.state.Part.{Part}
 use Rattle.sg_grammar.specs.declared.state.Part.TheVariants as part
 use Rattle.sg_grammar.specs.declared.state.Slot.{Slot}
@@ -160,14 +160,14 @@ results-no_code plan =
         list_all-append is_other_slot (each (instance_flags plan r) 0 plan.instances) (race_places plan r ++ race_totals plan r)
         ∙ and_from (list_all is_other_slot (each (instance_flags plan r) 0 plan.instances)) (list_all is_other_slot (race_places plan r ++ race_totals plan r))
         (numbered-all is_other_slot (instance_flags plan r) 0 (plan.instances - 0)
-        (λ instance. numbered-all is_other_slot (flag_line plan r instance) 0 (lines_for (entries_of plan r) - 0) (λ line. refl)))
+        (λ instance. numbered-all is_other_slot (due_flags plan r instance) 0 (lines_for (entries_of plan r) - 0) (λ line. refl)))
         (list_all-append is_other_slot (race_places plan r) (race_totals plan r)
         ∙ and_from (list_all is_other_slot (race_places plan r)) (list_all is_other_slot (race_totals plan r))
-        (numbered-all is_other_slot (place_line plan r) 0 (lines_for (entries_of plan r) - 0) (λ line. refl))
-        (numbered-all is_other_slot (total_line r) 0 (candidates_of plan r - 0) (λ candidate. refl)))
+        (numbered-all is_other_slot (due_places plan r) 0 (lines_for (entries_of plan r) - 0) (λ line. refl))
+        (numbered-all is_other_slot (due_totals r) 0 (candidates_of plan r - 0) (λ candidate. refl)))
 
 -- a line that begins no block is taken as the first of the results
-pub block-other : (plan : Plan) (last : ℕ) (said : Said) → is_block_line said ≡ false → after_block plan last said ≡ first_of plan (results plan) said
+pub block-other : (plan : Plan) (last : ℕ) (said : Said) → is_block_line said ≡ false → after_block plan last said ≡ first_taken plan (results plan) said
 block-other plan last (Cast ballot) other = cc
 block-other plan last (Spoiled ballot) other = cc
 block-other plan last (Audited ballot) other = cc
@@ -222,5 +222,5 @@ goes-results plan last lines rest end fills goes =
         let tests = and_parts (is_other_slot first) (list_all is_other_slot due) other in
         let no_cast = fits-no_cast first said (not_false (is_code_slot first) tests.0) filled.0 in (
           opened (is_cast_line said) no_cast,
-          (on.0, block-other plan last said (fits-block first said filled.0) ∙ (ap (λ l. first_of plan l said) are ∙ on.1), on.2),
+          (on.0, block-other plan last said (fits-block first said filled.0) ∙ (ap (λ l. first_taken plan l said) are ∙ on.1), on.2),
         )

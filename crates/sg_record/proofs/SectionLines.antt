@@ -7,7 +7,7 @@ use Rattle.sg_plan.specs.declared.plan.Plan.{Plan}
 use Rattle.sg_forms.specs.Said.{Said}
 use Rattle.sg_forms.specs.Said.Said.{Flags, Places, Seal}
 use Rattle.sg_forms.specs.declared.line.RowOpening.{RowOpening}
-use Rattle.sg_grammar.specs.Due.{code_commit, commits, each, flag_line, instance_flags, instance_row_commits, instance_rows, place_line, race_code_commits, race_places, race_results, race_row_commits, race_rows, race_totals, results, row_commit, row_opening, total_line}
+use Rattle.sg_grammar.specs.Due.{code_commit, commits, each, due_flags, instance_flags, instance_row_commits, instance_rows, due_places, race_code_commits, race_places, race_results, race_row_commits, race_rows, race_totals, results, row_commit, row_opening, due_totals}
 use Rattle.sg_grammar.specs.declared.state.Slot.TheVariants as slot
 use Rattle.sg_record.proofs.BitLines.{bits-spells}
 use Rattle.sg_record.proofs.DrawLine.{IsDraw, draw-spells}
@@ -87,11 +87,11 @@ tally_lines race t = indexed (flag_lines race) 0 t.0 ++ (place_lines race t.1.0 
 pub flags_all-spells : (version : ℕ) (plan : Plan) (race : ℕ) → Spells version (HasFlags plan race) (indexed (flag_lines race) 0) (each (instance_flags plan race) 0 plan.instances)
 flags_all-spells version plan race =
     spells-each version (λ (instance : ℕ). Counts (entries_of plan race)) (flag_lines race) (instance_flags plan race)
-    (λ instance. bits-spells version (entries_of plan race) (Flags race instance) (flag_line plan race instance) (λ line. flags-spells version race instance line _))
+    (λ instance. bits-spells version (entries_of plan race) (Flags race instance) (due_flags plan race instance) (λ line. flags-spells version race instance line _))
     0 (plan.instances - 0)
 
 pub places_all-spells : (version : ℕ) (plan : Plan) (race : ℕ) → Spells version (HasPlaces plan race) (place_lines race) (race_places plan race)
-places_all-spells version plan race = bits-spells version (entries_of plan race) (Places race) (place_line plan race) (λ line. places-spells version race line _)
+places_all-spells version plan race = bits-spells version (entries_of plan race) (Places race) (due_places plan race) (λ line. places-spells version race line _)
 
 pub tally-spells : (version : ℕ) (plan : Plan) (race : ℕ) → Spells version (IsTally plan race) (tally_lines race) (race_results plan race)
 tally-spells version plan race =
@@ -101,7 +101,7 @@ tally-spells version plan race =
     (flags_all-spells version plan race)
     (spells-pair version (HasPlaces plan race) (HasTotals plan race) (place_lines race) (indexed (total_lines race) 0) (race_places plan race) (race_totals plan race)
     (places_all-spells version plan race)
-    (spells-each version (λ (candidate : ℕ) (x : ℕ). Any x) (total_lines race) (total_line race) (total-spells version race) 0 (candidates_of plan race - 0)))
+    (spells-each version (λ (candidate : ℕ) (x : ℕ). Any x) (total_lines race) (due_totals race) (total-spells version race) 0 (candidates_of plan race - 0)))
 
 -- flags, places and totals of all races
 abbrev pub Tallies : Type 0

@@ -18,11 +18,11 @@ use Rattle.sg_forms.specs.Said.{Said}
 use Rattle.sg_forms.specs.Said.Said.{Audited, Cast, Code, Dispute, Over, Version}
 use Rattle.sg_forms.specs.Spelling.{IsInRange, spelling, words_of}
 use Rattle.sg_forms.specs.declared.line.CodeLine.{CodeLine}
-use Rattle.sg_grammar.specs.Due.{audit, commits, race_codes, results}
+use Rattle.sg_grammar.specs.Due.{due_audit, commits, race_codes, results}
 use Rattle.sg_grammar.specs.Walk.{Next, is_later, start}
 use Rattle.sg_grammar.specs.declared.state.Block.TheVariants as block
 use Rattle.sg_grammar.specs.declared.state.Slot.{Slot}
-use Rattle.sg_record.proofs.BlockLines.{Audit, IsAudit, audit-spells, audit_lines, codes_one, dispute_codes-spells, is_code_slot}
+use Rattle.sg_record.proofs.BlockLines.{Audit, IsAudit, due_audit-spells, audit_lines, codes_one, dispute_codes-spells, is_code_slot}
 use Rattle.sg_record.proofs.BytesWalk.{AreIn-from_All}
 use Rattle.sg_record.proofs.CastLines.{Steps, by_steps, cast_from}
 use Rattle.sg_record.proofs.Filling.{AreIn, Fills, Fills-same}
@@ -176,11 +176,11 @@ cast-one plan a b xs ys vs ws c d marks overs more others one two same =
     (sym here.0 ∙ (ap codes_in same ∙ there.0), sym here.1 ∙ (ap overs_in same ∙ there.1), sym here.2 ∙ (ap behind_in same ∙ there.2))
 
 -- the block of an audited ballot
-audit-one : (plan : Plan) (ballot : ℕ) (x y : Audit) (c d : List Said) → fault_of plan ≡ None → IsAudit plan ballot x → IsAudit plan ballot y
+due_audit-one : (plan : Plan) (ballot : ℕ) (x y : Audit) (c d : List Said) → fault_of plan ≡ None → IsAudit plan ballot x → IsAudit plan ballot y
     → audit_lines plan ballot x ++ c ≡ audit_lines plan ballot y ++ d → (x ≡ y) × (c ≡ d)
-audit-one plan ballot x y c d fine p q same =
-    let spells = audit-spells plan ballot fine in
-    let parts = Fills-same (audit plan ballot) (audit_lines plan ballot x) (audit_lines plan ballot y) c d (spells.out x p) (spells.out y q) same in
+due_audit-one plan ballot x y c d fine p q same =
+    let spells = due_audit-spells plan ballot fine in
+    let parts = Fills-same (due_audit plan ballot) (audit_lines plan ballot x) (audit_lines plan ballot y) c d (spells.out x p) (spells.out y q) same in
     (spells.one x y p q parts.0, parts.1)
 
 -- two blocks at the front are one
@@ -206,7 +206,7 @@ fates-one plan a b (fate.Audited xs vs) (fate.Audited ys ws) c d fine p q one tw
     let there = and_parts _ _ q in
     let is_b : IsAudit plan b (ys, ws) = (there.0, there.1) in
     let is_a : IsAudit plan a (ys, ws) = subst (λ (n : ℕ). IsAudit plan n (ys, ws)) (sym ballot) is_b in
-    let others = audit-one plan a (xs, vs) (ys, ws) c d fine (here.0, here.1) is_a (parts.1 ∙ ap (λ n. audit_lines plan n (ys, ws) ++ d) (sym ballot)) in
+    let others = due_audit-one plan a (xs, vs) (ys, ws) c d fine (here.0, here.1) is_a (parts.1 ∙ ap (λ n. audit_lines plan n (ys, ws) ++ d) (sym ballot)) in
     record { ballot = ballot; what = ap (λ (z : Audit). fate.Audited z.0 z.1) others.0; rest = others.1 }
 fates-one plan a b fate.Voided fate.Voided c d fine p q one two same = record { ballot = cc; what = refl; rest = cc }
 fates-one plan a b x y c d fine p q one two same = cc

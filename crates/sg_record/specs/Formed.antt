@@ -10,7 +10,7 @@ use Rattle.sg_plan.specs.declared.plan.Draw.TheVariants as drawn
 use Rattle.sg_plan.specs.declared.plan.Plan.{Plan}
 use Rattle.sg_forms.specs.declared.line.CodeLine.{CodeLine}
 use Rattle.sg_grammar.specs.Due.{ballot_codes, each, race_codes}
-use Rattle.sg_grammar.specs.Walk.{in_order, is_column, is_later, is_race_left}
+use Rattle.sg_grammar.specs.Walk.{follows_in_order, is_column, is_later, is_race_left}
 use Rattle.sg_grammar.specs.declared.state.Block.TheVariants as block
 use Rattle.sg_grammar.specs.declared.state.Slot.{Slot}
 use Rattle.sg_grammar.specs.declared.state.Slot.TheVariants as slot
@@ -47,7 +47,7 @@ has_candidates plan lists = length lists == length plan.races && each_passes (λ
 abbrev pub are_marks : Plan → ℕ → ℕ → ℕ → List CodeLine → Bool
 are_marks plan ballot race column [] = true
 are_marks plan ballot race column (code ∷ codes) =
-    ((is_column plan ballot code.race code.column && in_order race column code.race code.column) && is_code plan code.code)
+    ((is_column plan ballot code.race code.column && follows_in_order race column code.race code.column) && is_code plan code.code)
     && are_marks plan ballot code.race (code.column + 1) codes
 
 -- rising races of the ballot from this one on

@@ -19,6 +19,12 @@ AreWhole lines = option_map_or (λ (w : Walked). is_whole w.next) (walk start li
 abbrev pub HasWords : Record → Type 0
 HasWords posted = All (IsInRange posted.plan.version) (lines_in posted)
 
+-- the lines are those of this record, which has a text
+pub record AreLinesOf (lines : List (List ℕ)) (posted : Record) : Type 0 where
+  pub words : HasWords posted
+  pub formed : is_formed posted ≡ true
+  pub text : lines ≡ texts_in posted
+
 -- the bytes are the text of this record, which has one
 pub record IsTextOf (bytes : List ℕ) (posted : Record) : Type 0 where
   pub words : HasWords posted

@@ -6,4 +6,5 @@ pub mod Places
 pub mod Typed
 pub mod Writing
 pub mod Pens
+pub mod Taking
 pub mod inside

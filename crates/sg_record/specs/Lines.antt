@@ -9,6 +9,8 @@ use Rattle.sg_plan.specs.declared.plan.Draw.TheVariants as drawn
 use Rattle.sg_plan.specs.declared.plan.Plan.{Plan}
 use Rattle.sg_plan.specs.declared.plan.Race.{Race as PlanRace}
 use Rattle.sg_plan.specs.declared.plan.Run.{Run}
+use Rattle.sg_plan.specs.declared.plan.Stage.{Stage}
+use Rattle.sg_plan.specs.declared.plan.Stage.TheVariants as stage
 use Rattle.sg_plan.specs.declared.plan.Style.{Style as PlanStyle}
 use Rattle.sg_lines.specs.Words.{encode_lower}
 use Rattle.sg_forms.specs.declared.line.CodeLine.{CodeLine}
@@ -155,6 +157,30 @@ lines_in posted =
     plan_lines posted.plan
     ++ (commit_lines posted
     ++ (flat_map (block_lines posted.plan) posted.ballots ++ (result_lines posted ++ (opening_lines posted ++ flat_map dispute_lines posted.disputes))))
+
+-- the lines up to the end of the first, the second and the third section
+abbrev pub first_lines : Record → List Said
+first_lines posted = plan_lines posted.plan ++ commit_lines posted
+
+abbrev pub second_lines : Record → List Said
+second_lines posted = first_lines posted ++ (flat_map (block_lines posted.plan) posted.ballots ++ result_lines posted)
+
+abbrev pub third_lines : Record → List Said
+third_lines posted = second_lines posted ++ opening_lines posted
+
+-- as much as is posted at a stage: section 1 while ballots are voted on, section 2 too once they are closed, and all of
+-- it once sides are drawn
+abbrev pub stage_lines : Stage → Record → List Said
+stage_lines stage.Voting posted = first_lines posted
+stage_lines stage.Closed posted = second_lines posted
+stage_lines (stage.Drawn draw) posted = lines_in posted
+
+-- what the seal of a section stands behind: all lines before it
+abbrev pub lines_before : ℕ → Record → List Said
+lines_before section posted =
+    (if section == 1 then plan_lines posted.plan ++ (indexed race_code_commit_lines 0 posted.code_commits ++ indexed race_row_commit_lines 0 posted.row_commits)
+    else (if section == 2 then first_lines posted ++ (flat_map (block_lines posted.plan) posted.ballots ++ each (race_result_lines posted) 0 (length posted.plan.races))
+    else second_lines posted ++ (draw_line posted.draw ∷ indexed race_row_lines 0 posted.rows)))
 
 -- the text of each line
 abbrev pub texts_in : Record → List (List ℕ)

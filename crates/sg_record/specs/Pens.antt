@@ -17,6 +17,11 @@ abbrev pub IsSealOf : Option Sealer → List ℕ → Type 0
 IsSealOf None bytes = ⊥
 IsSealOf (Some sealer) bytes = StandsFor sealer bytes
 
+-- a running seal is kept where one is wanted, and one that is kept stands for these bytes
+abbrev pub SealsWhere : Type 0 → Option Sealer → List ℕ → Type 0
+SealsWhere wanted None bytes = wanted → ⊥
+SealsWhere wanted (Some sealer) bytes = StandsFor sealer bytes
+
 -- where a seal is kept, it takes these bytes in behind those before
 abbrev pub TakesIn : Option Sealer → Option Sealer → List ℕ → Type 0
 TakesIn None None bytes = Unit {0}

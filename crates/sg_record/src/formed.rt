@@ -7,7 +7,7 @@ ghost use Rattle.std.specs.Option.{option_map_or};
 ghost use Rattle.sg_plan.specs.Ballots.{candidates_of, entries_of, races_of_ballot};
 ghost use Rattle.sg_plan.specs.Limits.{fault_of, most_claims};
 ghost use Rattle.sg_grammar.specs.Due.{ballot_codes, each, race_codes};
-ghost use Rattle.sg_grammar.specs.Walk.{in_order};
+ghost use Rattle.sg_grammar.specs.Walk.{follows_in_order};
 ghost use Rattle.sg_grammar.specs.declared.state.Block.{Block};
 ghost use Rattle.sg_grammar.specs.declared.state.Block.TheVariants as block;
 ghost use Rattle.sg_grammar.specs.declared.state.Slot.{Slot};
@@ -108,7 +108,7 @@ fn is_column(plan: &Plan, races: &[u32], race: u32, column: u32) -> bool
 
 /// The column stands behind the last one: races don't fall, and in one race columns rise.
 fn is_in_order(race: u32, column: u32, next_race: u32, next_column: u32) -> bool
-    ensures { result ≡ in_order race column next_race next_column }
+    ensures { result ≡ follows_in_order race column next_race next_column }
 {
     if race < next_race {
         return true;
@@ -118,7 +118,7 @@ fn is_in_order(race: u32, column: u32, next_race: u32, next_column: u32) -> bool
 
 /// The code may stand among the marks of a cast ballot with these races, from this race and column on.
 fn is_mark(plan: &Plan, races: &[u32], race: u32, column: u32, code: &CodeLine) -> bool
-    ensures test { result ≡ (((list_any (λ carried. carried == code.now.race) races.now && nat_lt code.now.column (candidates_of plan.now code.now.race)) && in_order race column code.now.race code.now.column) && is_code plan.now code.now.code) }
+    ensures test { result ≡ (((list_any (λ carried. carried == code.now.race) races.now && nat_lt code.now.column (candidates_of plan.now code.now.race)) && follows_in_order race column code.now.race code.now.column) && is_code plan.now code.now.code) }
     ensures below { IsTrue result → code.now.column < candidates_of plan.now code.now.race }
 {
     if !is_column(plan, races, code.race, code.column) {

@@ -134,7 +134,7 @@ fn put_front<O: Sink>(pen: &mut Pen, plan: &Plan, out: &mut O) -> Result<(), Fai
 
 /// Writes the lines of a plan that keeps its limits.
 #[tactic(auto, using(crate::proofs::Limits::limit_facts))]
-pub fn put_plan<O: Sink>(pen: &mut Pen, plan: &Plan, out: &mut O) -> Result<(), Failed>
+pub(crate) fn put_plan<O: Sink>(pen: &mut Pen, plan: &Plan, out: &mut O) -> Result<(), Failed>
     requires limits { fault_of plan.now ≡ None }
     ensures { Writes O.written O.faults pen.old out.old pen.new out.new result (plan_lines plan.now) }
 {

@@ -1,6 +1,6 @@
 //! The lists of a record, put together from its lines.
 ghost use Rattle.std.specs.Prelude.{◌≡◌, ℕ, IfOk, OnOk, take};
-ghost use Rattle.sg_forms.specs.Reading.{public_bytes};
+ghost use Rattle.sg_forms.specs.Reading.{bytes_of_digits};
 ghost use Rattle.sg_forms.specs.Said.{Said, said};
 ghost use Rattle.sg_grammar.specs.Placed.Placed.{Begun, CodeAt, Disputed};
 ghost use Rattle.sg_grammar.specs.Spots.{placed_at};
@@ -194,7 +194,7 @@ fn put_seal(seals: &mut [Digest; 3], number: u32, digest: Digest)
 
 /// The public bytes that these hexadecimal digits spell.
 fn word_of(alloc: Global, digits: &[u8]) -> Result<Word, NoMemory>
-    ensures { IfOk result (λ word. word ≡ public_bytes digits.now) }
+    ensures { IfOk result (λ word. word ≡ bytes_of_digits digits.now) }
 {
     let mut word = Word::new(alloc);
     match hex::decode(alloc, digits) {

@@ -1,26 +1,26 @@
 //! Section 3 of a record, written: the draw and the openings.
-ghost use Rattle.std.specs.Prelude.{◌≡◌, ◌≤◌, ◌<◌, ◌*◌, ◌∷◌, ◌++◌, [], length, true};
+ghost use Rattle.std.specs.Prelude.{◌≡◌, ◌≤◌, ◌<◌, ◌*◌, ◌∷◌, ◌++◌, [], length, slice_index_or, true};
 ghost use Rattle.sg_plan.specs.Limits.{most_public_bytes};
 ghost use Rattle.sg_forms.specs.Said.Said.{DrawPublic, Row};
 ghost use Rattle.sg_lines.specs.Words.{encode_lower};
-ghost use Rattle.sg_record.specs.Formed.{is_draw};
-ghost use Rattle.sg_record.specs.Lines.{draw_line, indexed, instance_row_lines, opening_lines, race_row_lines, row_line};
-ghost use Rattle.sg_record.specs.Pens.{Writes};
+ghost use Rattle.sg_record.specs.Formed.{is_draw, is_formed};
+ghost use Rattle.sg_record.specs.Lines.{draw_line, indexed, opening_lines, race_row_lines, second_lines};
+ghost use Rattle.sg_record.specs.Pens.{SealsWhere, Writes};
+ghost use Rattle.sg_record.specs.Writing.{text_in};
 
-use crate::lines::put_section_seal;
 use crate::pen::Pen;
-use crate::record::Record;
+use crate::posts::{Posts, count_instances, count_races};
 use sg_forms::{Line, RowOpening, know_bytes};
 use sg_lines::write_hex;
 use sg_outside::{Failed, Sink};
+use sg_plan::Draw;
 use sg_plan::limits::MOST_PUBLIC_BYTES;
-use sg_plan::{Draw, Items};
 
 /// The most digits of public bytes.
 const MOST_DIGITS: usize = 2 * MOST_PUBLIC_BYTES;
 
 /// Writes the draw: with public bytes there are 1 to 4,096 of them.
-pub fn put_draw<O: Sink>(pen: &mut Pen, draw: &Draw, out: &mut O) -> Result<(), Failed>
+fn put_draw<O: Sink>(pen: &mut Pen, draw: &Draw, out: &mut O) -> Result<(), Failed>
     requires draw { is_draw draw.now ≡ true }
     ensures { Writes O.written O.faults pen.old out.old pen.new out.new result (draw_line draw.now ∷ []) }
 {
@@ -52,58 +52,49 @@ pub fn put_row<O: Sink>(pen: &mut Pen, opening: &RowOpening, out: &mut O) -> Res
     pen.put_line(&Line::Row(*opening), out)
 }
 
-/// Writes what is opened of the rows of an instance.
-fn put_instance_rows<O: Sink>(
-    pen: &mut Pen,
-    rows: &Items<RowOpening>,
-    out: &mut O,
-) -> Result<(), Failed>
-    ensures { Writes O.written O.faults pen.old out.old pen.new out.new result (indexed row_line 0 rows.now) }
-{
-    for at in 0..rows.len() {
-        put_row(pen, rows.get(at), out)?;
-    }
-    Ok(())
-}
-
 /// Writes what is opened of the rows of a race.
-fn put_race_rows<O: Sink>(
+fn put_race_rows<P: Posts, O: Sink>(
     pen: &mut Pen,
-    instances: &Items<Items<RowOpening>>,
+    posted: &P,
+    race: u32,
     out: &mut O,
 ) -> Result<(), Failed>
-    ensures { Writes O.written O.faults pen.old out.old pen.new out.new result (indexed instance_row_lines 0 instances.now) }
+    requires ready { P.is_ready posted.now }
+    requires formed { is_formed (P.posted posted.now) ≡ true }
+    requires race { race < length (P.posted posted.now).plan.races }
+    ensures { Writes O.written O.faults pen.old out.old pen.new out.new result (race_row_lines race (slice_index_or (P.posted posted.now).rows race [])) }
 {
-    for instance in 0..instances.len() {
-        put_instance_rows(pen, instances.get(instance), out)?;
+    for instance in 0..count_instances(posted) {
+        posted.put_instance_rows(pen, race, instance, out)?;
     }
     Ok(())
 }
 
 /// Writes what is opened of the rows of all races.
-fn put_rows<O: Sink>(
-    pen: &mut Pen,
-    lists: &Items<Items<Items<RowOpening>>>,
-    out: &mut O,
-) -> Result<(), Failed>
-    ensures { Writes O.written O.faults pen.old out.old pen.new out.new result (indexed race_row_lines 0 lists.now) }
+fn put_rows<P: Posts, O: Sink>(pen: &mut Pen, posted: &P, out: &mut O) -> Result<(), Failed>
+    requires ready { P.is_ready posted.now }
+    requires formed { is_formed (P.posted posted.now) ≡ true }
+    ensures { Writes O.written O.faults pen.old out.old pen.new out.new result (indexed race_row_lines 0 (P.posted posted.now).rows) }
 {
-    for race in 0..lists.len() {
-        put_race_rows(pen, lists.get(race), out)?;
+    for race in 0..count_races(posted) {
+        put_race_rows(pen, posted, race, out)?;
     }
     Ok(())
 }
 
-/// Writes the draw, what is opened of all rows, and the seal.
-pub(crate) fn put_openings<O: Sink>(
+/// Writes the draw, what is opened of all rows, and the seal, behind the lines of the first two sections.
+pub(crate) fn put_openings<P: Posts, O: Sink>(
     pen: &mut Pen,
-    posted: &Record,
+    posted: &P,
     out: &mut O,
 ) -> Result<(), Failed>
-    requires draw { is_draw posted.now.draw ≡ true }
-    ensures { Writes O.written O.faults pen.old out.old pen.new out.new result (opening_lines posted.now) }
+    requires version { pen.old.version ≡ (P.posted posted.now).plan.version }
+    requires ready { P.is_ready posted.now }
+    requires formed { is_formed (P.posted posted.now) ≡ true }
+    requires seal { SealsWhere P.wants_seal pen.old.seal (text_in (P.posted posted.now).plan.version (second_lines (P.posted posted.now))) }
+    ensures { Writes O.written O.faults pen.old out.old pen.new out.new result (opening_lines (P.posted posted.now)) }
 {
-    put_draw(pen, &posted.draw, out)?;
-    put_rows(pen, &posted.rows, out)?;
-    put_section_seal(pen, 3, &posted.seals, out)
+    put_draw(pen, posted.draw(), out)?;
+    put_rows(pen, posted, out)?;
+    posted.put_seal(pen, 3, out)
 }

@@ -1,5 +1,5 @@
 //! A record, read from its text.
-ghost use Rattle.std.specs.Prelude.{◌≡◌, IfOk, IfSome, OnOk, None, Some, if◌then◌else◌};
+ghost use Rattle.std.specs.Prelude.{◌≡◌, ◌++◌, ◌∷◌, ℕ, IfOk, IfSome, List, OnOk, None, Some, [], if◌then◌else◌};
 ghost use Rattle.std.specs.Option.{option_map};
 ghost use Rattle.sg_forms.specs.Said.{said};
 ghost use Rattle.sg_grammar.specs.Spots.{placed_at};
@@ -7,7 +7,8 @@ ghost use Rattle.sg_grammar.specs.Walk.{is_whole};
 ghost use Rattle.sg_outside.specs.TextLines.{lines_of};
 ghost use Rattle.sg_record.specs.inside.Gathering.{gather, gather_line, nothing_yet};
 ghost use Rattle.sg_record.specs.inside.Growing.{AddsTo, made_of, so_far, with_plan};
-ghost use Rattle.sg_record.specs.Laws.{IsTextOf};
+ghost use Rattle.sg_record.specs.Laws.{AreLinesOf, IsTextOf};
+ghost use Rattle.sg_record.specs.Taking.{HasTaken};
 
 use crate::lists::Lists;
 use crate::record::Record;
@@ -31,6 +32,58 @@ pub fn read_record(alloc: Global, bytes: &[u8]) -> Result<Option<Record>, NoMemo
     }
     let posted = reading.into_record(alloc)?;
     Ok(Some(posted))
+}
+
+/// A record, read line by line: it keeps no line, but what the lines say, in the record's lists.
+#[derive(Debug, Drop)]
+pub struct RecordReading {
+    reading: Reading,
+    /// A line came that may not stand behind those before it.
+    stopped: bool,
+}
+
+impl RecordReading {
+    /// Before the first line. It takes no memory.
+    pub fn start(alloc: Global) -> RecordReading
+        ensures { HasTaken result [] }
+    {
+        RecordReading {
+            reading: Reading::start(alloc),
+            stopped: false,
+        }
+    }
+
+    /// Takes the next line, with its line feed.
+    pub fn take(&mut self, alloc: Global, line: &[u8]) -> Result<(), NoMemory>
+        ensures { OnOk result ((lines : List (List ℕ)) → HasTaken self.old lines → HasTaken self.new (lines ++ line.now ∷ [])) }
+    {
+        if self.stopped {
+            return Ok(());
+        }
+        if self.reading.take(alloc, line)? {
+            return Ok(());
+        }
+        self.stopped = true;
+        Ok(())
+    }
+
+    /// The record of the lines so far: `Some` exactly where they are those of a formed record, and then it is that one.
+    /// Only want of memory is refused.
+    pub fn finish(self, alloc: Global) -> Result<Option<Record>, NoMemory>
+        ensures found { IfOk result (λ read. (lines : List (List ℕ)) → HasTaken self lines → IfSome read (AreLinesOf lines)) }
+        ensures only { IfOk result (λ read. (lines : List (List ℕ)) (posted : Record) → HasTaken self lines → AreLinesOf lines posted → read ≡ Some posted) }
+    {
+        if self.stopped {
+            drop(self);
+            return Ok(None);
+        }
+        if !self.reading.is_whole() {
+            drop(self);
+            return Ok(None);
+        }
+        let posted = self.reading.into_record(alloc)?;
+        Ok(Some(posted))
+    }
 }
 
 /// The lines of a record so far: what may stand next, with the plan, and the lists. There are none before the first line

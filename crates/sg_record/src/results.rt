@@ -1,18 +1,20 @@
-//! The results of a record, written: flags, places and totals.
-ghost use Rattle.std.specs.Prelude.{◌≡◌, ◌≤◌, ◌<◌, ◌^◌, ◌*◌, ◌∷◌, ◌++◌, [], ℕ, length, map, take, drop, All};
+//! Section 2 of a record, written: the ballots, and the results, which are flags, places and totals.
+ghost use Rattle.std.specs.Prelude.{◌≡◌, ◌≤◌, ◌<◌, ◌^◌, ◌*◌, ◌∷◌, ◌++◌, [], ℕ, length, map, take, drop, All, true};
+ghost use Rattle.std.specs.List.{flat_map};
 ghost use Rattle.sg_forms.specs.Said.Said.{Total};
 ghost use Rattle.sg_grammar.specs.Due.{each, lines_for};
-ghost use Rattle.sg_record.specs.Lines.{bit_sign, flag_line, flag_lines, indexed, place_line, place_lines, race_result_lines, result_lines, total_line};
-ghost use Rattle.sg_record.specs.Pens.{Writes};
+ghost use Rattle.sg_record.specs.Formed.{is_formed};
+ghost use Rattle.sg_record.specs.Lines.{bit_sign, block_lines, first_lines, flag_line, flag_lines, indexed, place_line, place_lines, race_result_lines, result_lines, total_line};
+ghost use Rattle.sg_record.specs.Pens.{SealsWhere, Writes};
+ghost use Rattle.sg_record.specs.Writing.{text_in};
 ghost use Rattle.sg_record.specs.inside.Parts.{HasRaces};
 
-use crate::lines::put_section_seal;
 use crate::pen::Pen;
-use crate::record::Record;
+use crate::posts::{Posts, count_races};
 use sg_forms::Line;
 use sg_outside::{Failed, Sink};
-use sg_plan::Items;
 use sg_plan::limits::MOST_BITS;
+use sg_plan::{BallotIndex, Items};
 
 /// The sign of a bit.
 fn bit_sign(bit: bool) -> u8
@@ -97,7 +99,7 @@ fn put_flag_lines<O: Sink>(
 }
 
 /// Writes the flags of a race's instances.
-pub fn put_race_flags<O: Sink>(
+fn put_race_flags<O: Sink>(
     pen: &mut Pen,
     race: u32,
     instances: &Items<Items<bool>>,
@@ -136,7 +138,7 @@ fn put_place_line<O: Sink>(
 }
 
 /// Writes which places of a race are set, 64 on a line and the rest on the last.
-pub fn put_place_lines<O: Sink>(
+fn put_place_lines<O: Sink>(
     pen: &mut Pen,
     race: u32,
     bits: &Items<bool>,
@@ -169,7 +171,7 @@ fn put_total<O: Sink>(
 }
 
 /// Writes the votes of each candidate of a race.
-pub fn put_totals<O: Sink>(
+fn put_totals<O: Sink>(
     pen: &mut Pen,
     race: u32,
     totals: &Items<u32>,
@@ -186,44 +188,52 @@ pub fn put_totals<O: Sink>(
 }
 
 /// Writes the results of a race.
-fn put_race_results<O: Sink>(
+fn put_race_results<P: Posts, O: Sink>(
     pen: &mut Pen,
-    posted: &Record,
-    race: usize,
+    posted: &P,
+    race: u32,
     out: &mut O,
 ) -> Result<(), Failed>
-    requires race { race < length posted.now.plan.races }
-    requires lists { HasRaces posted.now }
-    ensures { Writes O.written O.faults pen.old out.old pen.new out.new result (race_result_lines posted.now race) }
+    requires ready { P.is_ready posted.now }
+    requires race { race < length (P.posted posted.now).plan.races }
+    requires lists { HasRaces (P.posted posted.now) }
+    ensures { Writes O.written O.faults pen.old out.old pen.new out.new result (race_result_lines (P.posted posted.now) race) }
 {
-    let flags = posted.flags.get(race);
-    let places = posted.places.get(race);
-    let totals = posted.totals.get(race);
-    put_race_flags(pen, race as u32, flags, out)?;
-    put_place_lines(pen, race as u32, places, out)?;
-    put_totals(pen, race as u32, totals, out)
+    let flags = posted.flags().get(race as usize);
+    let places = posted.places().get(race as usize);
+    let totals = posted.totals().get(race as usize);
+    put_race_flags(pen, race, flags, out)?;
+    put_place_lines(pen, race, places, out)?;
+    put_totals(pen, race, totals, out)
 }
 
 /// Writes the results of all races.
-fn put_all_results<O: Sink>(pen: &mut Pen, posted: &Record, out: &mut O) -> Result<(), Failed>
-    requires lists { HasRaces posted.now }
-    ensures { Writes O.written O.faults pen.old out.old pen.new out.new result (each (race_result_lines posted.now) 0 (length posted.now.plan.races)) }
+fn put_results<P: Posts, O: Sink>(pen: &mut Pen, posted: &P, out: &mut O) -> Result<(), Failed>
+    requires ready { P.is_ready posted.now }
+    requires formed { is_formed (P.posted posted.now) ≡ true }
+    ensures { Writes O.written O.faults pen.old out.old pen.new out.new result (each (race_result_lines (P.posted posted.now)) 0 (length (P.posted posted.now).plan.races)) }
 {
-    for race in 0..posted.plan.races.len() {
+    for race in 0..count_races(posted) {
         put_race_results(pen, posted, race, out)?;
     }
     Ok(())
 }
 
-/// Writes the results of all races, and the seal.
-pub(crate) fn put_results<O: Sink>(
+/// Writes the blocks of all ballots, the results of all races, and the seal, behind the lines of the first section.
+pub(crate) fn put_closed<P: Posts, O: Sink>(
     pen: &mut Pen,
-    posted: &Record,
+    posted: &P,
+    index: &BallotIndex,
     out: &mut O,
 ) -> Result<(), Failed>
-    requires lists { HasRaces posted.now }
-    ensures { Writes O.written O.faults pen.old out.old pen.new out.new result (result_lines posted.now) }
+    requires version { pen.old.version ≡ (P.posted posted.now).plan.version }
+    requires ready { P.is_ready posted.now }
+    requires formed { is_formed (P.posted posted.now) ≡ true }
+    requires index { index.now ≡ (P.posted posted.now).plan }
+    requires seal { SealsWhere P.wants_seal pen.old.seal (text_in (P.posted posted.now).plan.version (first_lines (P.posted posted.now))) }
+    ensures { Writes O.written O.faults pen.old out.old pen.new out.new result (flat_map (block_lines (P.posted posted.now).plan) (P.posted posted.now).ballots ++ result_lines (P.posted posted.now)) }
 {
-    put_all_results(pen, posted, out)?;
-    put_section_seal(pen, 2, &posted.seals, out)
+    posted.put_blocks(pen, index, out)?;
+    put_results(pen, posted, out)?;
+    posted.put_seal(pen, 2, out)
 }

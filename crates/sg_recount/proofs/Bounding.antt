@@ -12,7 +12,7 @@ use Rattle.sg_record.specs.declared.record.Record.{Record}
 use Rattle.sg_check.proofs.BoundLaws.{among_total, totals_bound}
 use Rattle.sg_check.specs.Bounds.{DifferByAtMost}
 use Rattle.sg_check.specs.Completions.{OpensNoneTwice, altered_rows, is_altered}
-use Rattle.sg_check.specs.Printings.{StandsWith, posted_codes}
+use Rattle.sg_check.specs.Printings.{StandsWith, posted_count}
 use Rattle.sg_check.specs.Verdict.{IsGood, totals_in}
 use Rattle.sg_check.specs.declared.judged.Total.{Total}
 use Rattle.sg_facts.proofs.Totals.{total_there}
@@ -35,7 +35,7 @@ module _ (given : Given) (parts : AreParts given) where
   -- the bound of the posted total
   total_bound : (race instance candidate : ℕ) → race < length posted.plan.races → instance < posted.plan.instances → candidate < candidates_of posted.plan race
       → DifferByAtMost (altered_rows posted.plan (places_in posted) (completion_of given.rows) (printing_of given.codes) race instance) (total_of (places_in posted) race candidate)
-      (posted_codes posted.plan (places_in posted) (printing_of given.codes) race candidate)
+      (posted_count posted.plan (places_in posted) (printing_of given.codes) race candidate)
   total_bound race instance candidate race_in instance_in candidate_in =
       let good : IsGood (texts_in posted) parts.accepted.totals = parts.accepted.yes in
       let over = walks posted parts.accepted in
@@ -47,7 +47,7 @@ module _ (given : Given) (parts : AreParts given) where
       let contained = among_total (walk_of posted).posted race candidate (total_of (placed_of (walk_of posted).posted) race candidate) there.0 there.1 there.2 in
       subst
       (λ (l : List Placed). DifferByAtMost (altered_rows posted.plan l (completion_of given.rows) (printing_of given.codes) race instance) (total_of l race candidate)
-      (posted_codes posted.plan l (printing_of given.codes) race candidate))
+      (posted_count posted.plan l (printing_of given.codes) race candidate))
       same
       (totals_bound (texts_in posted) parts.accepted.totals (walk_of posted) (record { walks = over; yes = parts.accepted.yes }) (printing_of given.codes) (completion_of given.rows) parts.is_printing.differ
       (subst (λ (l : List Placed). StandsWith posted.plan l (printing_of given.codes)) (sym same) parts.stands)

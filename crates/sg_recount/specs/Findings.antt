@@ -8,7 +8,7 @@ use Rattle.sg_grammar.specs.Placed.{Placed}
 use Rattle.sg_record.specs.Places.{places_in}
 use Rattle.sg_check.specs.Bounds.{DifferByAtMost}
 use Rattle.sg_check.specs.Completions.{Completion, is_altered}
-use Rattle.sg_check.specs.Printings.{Printing, posted_codes}
+use Rattle.sg_check.specs.Printings.{Printing, posted_count}
 use Rattle.sg_facts.specs.Totals.{total_of}
 use Rattle.sg_parts.specs.Given.{Given, completion_of, printing_of}
 use Rattle.sg_recount.specs.declared.findings.Findings.{Findings}
@@ -30,7 +30,7 @@ all_altered plan lines completion printing = each (λ race. race_altered plan li
 
 -- a candidate's total, and how many posted codes are printed beside the candidate
 abbrev pub sum_of : Plan → List Placed → Printing → ℕ → ℕ → Sum
-sum_of plan lines printing race candidate = record { total = total_of lines race candidate; count = posted_codes plan lines printing race candidate }
+sum_of plan lines printing race candidate = record { total = total_of lines race candidate; count = posted_count plan lines printing race candidate }
 
 abbrev pub race_sums : Plan → List Placed → Printing → ℕ → List Sum
 race_sums plan lines printing race = each (λ candidate. sum_of plan lines printing race candidate ∷ []) 0 (candidates_of plan race)

@@ -11,5 +11,6 @@ mod sums;
 pub use findings::{Findings, Sum, recount};
 pub use looks::total_at;
 pub use sg_parts::{
-    Completion, Parts, Printing, RecountFault, RowGiven, item_at, posted_half, read_parts, row_at,
+    Completion, Parts, PartsReading, Printing, RecountFault, RowGiven, item_at, laws,
+    missing_printing, posted_half, row_at,
 };

@@ -1,6 +1,6 @@
 //! Each candidate's total, and the count of posted codes that are printed beside the candidate.
 ghost use Rattle.std.specs.Prelude.{◌≡◌, ◌<◌, IfOk, length};
-ghost use Rattle.sg_check.specs.Printings.{is_posted_for, posted_codes};
+ghost use Rattle.sg_check.specs.Printings.{is_posted_for, posted_count};
 ghost use Rattle.sg_plan.specs.Ballots.{entries_of};
 ghost use Rattle.sg_recount.specs.Findings.{all_sums, race_sums};
 ghost use Rattle.sg_recount.specs.inside.Basis.{IsBasis, lines_in, plan_in, printing_in};
@@ -33,7 +33,7 @@ fn is_posted_for(basis: &Basis<'_>, race: u32, candidate: u32, entry: u32) -> bo
 fn posted_codes(basis: &Basis<'_>, race: u32, candidate: u32) -> u32
     requires basis { IsBasis basis.now }
     requires race { race < length (plan_in basis.now).races }
-    ensures { result ≡ posted_codes (plan_in basis.now) (lines_in basis.now) (printing_in basis.now) race candidate }
+    ensures { result ≡ posted_count (plan_in basis.now) (lines_in basis.now) (printing_in basis.now) race candidate }
 {
     let mut count = 0;
     for entry in 0..basis.posted.plan.entries(race) {

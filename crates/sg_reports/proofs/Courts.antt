@@ -1,11 +1,6 @@
 -- The proofs.
-pub mod Ending
+pub mod Due
 pub mod Putting
-pub mod Given
-pub mod Heard
-pub mod Lines
-pub mod Longer
-pub mod Records
-pub mod Told
-pub mod Verdicts
+pub mod Saying
+pub mod Taking
 pub mod Words

@@ -25,7 +25,7 @@ use Rattle.sg_asks.specs.Replies.{HasPlainText, HasReplyCodes, IsPlain}
 use Rattle.sg_talk.specs.declared.answered.Answered.TheVariants as answered
 use Rattle.sg_talk.specs.Answers.{IsWritable}
 use Rattle.sg_desks.specs.ActTexts.{act_text}
-use Rattle.sg_histories.specs.Answers.{answer_of, body_of, body_with, early_refusal, early_reply, first_of, fits_draw, fits_races, is_ballot, is_cast, is_closed, is_drawn, is_unused, is_voting, knows_secret_of, look_reply, refusal_of, repeat_of, same_act, scan_refusal, unless}
+use Rattle.sg_histories.specs.Answers.{answer_of, body_of, body_with, early_refusal, early_reply, first_reply, fits_draw, fits_races, is_ballot, is_cast_word, is_closed, is_drawn, is_unused, is_voting, knows_secret_of, look_reply, refusal_of, repeat_of, same_act, scan_refusal, unless}
 use Rattle.sg_histories.specs.Histories.{Entry, claims_of, fate_of, fate_word, is_stamped, phase_of, scanner_of}
 use Rattle.sg_histories.specs.Lawful.{IsAccepted, Lawful, Turn}
 use Rattle.sg_histories.proofs.Accepted.{passed}
@@ -41,7 +41,7 @@ abbrev CanWriteEach : ℕ → List (Option Reply) → Type 0
 CanWriteEach version [] = Unit {0}
 CanWriteEach version (refusal ∷ refusals) = IfSome refusal (CanWrite version) × CanWriteEach version refusals
 
-first_can : (version : ℕ) (refusals : List (Option Reply)) → CanWriteEach version refusals → IfSome (first_of refusals) (CanWrite version)
+first_can : (version : ℕ) (refusals : List (Option Reply)) → CanWriteEach version refusals → IfSome (first_reply refusals) (CanWrite version)
 first_can version [] each = tt
 first_can version (None ∷ refusals) each = first_can version refusals each.1
 first_can version (Some refusal ∷ refusals) each = each.0
@@ -101,11 +101,11 @@ refusal_can version setup history station (act.Void ballot) =
     let now = phase_of history in
     let told = fate_word (fate_of history ballot) in
     let scanner = scanner_of history ballot in
-    first_can version (unless (is_voting now) (reply.Phase now) ∷ unless (is_ballot setup.plan ballot) reply.Ballot ∷ unless (is_cast told) (reply.Fate told) ∷ unless (not (station == scanner)) (reply.Station scanner) ∷ []) (
+    first_can version (unless (is_voting now) (reply.Phase now) ∷ unless (is_ballot setup.plan ballot) reply.Ballot ∷ unless (is_cast_word told) (reply.Fate told) ∷ unless (not (station == scanner)) (reply.Station scanner) ∷ []) (
       unless_can version (is_voting now) (reply.Phase now) (tt, tt),
       (
         unless_can version (is_ballot setup.plan ballot) reply.Ballot (tt, tt),
-        (unless_can version (is_cast told) (reply.Fate told) (tt, tt), (unless_can version (not (station == scanner)) (reply.Station scanner) (tt, tt), tt)),
+        (unless_can version (is_cast_word told) (reply.Fate told) (tt, tt), (unless_can version (not (station == scanner)) (reply.Station scanner) (tt, tt), tt)),
       ),
     )
 

@@ -19,7 +19,7 @@ use Rattle.sg_acts.specs.declared.replies.Reply.{Reply}
 use Rattle.sg_acts.specs.declared.replies.Reply.TheVariants as reply
 use Rattle.sg_keeper.specs.declared.setup.Setup.{Setup}
 use Rattle.sg_post.specs.declared.story.Story.{Story}
-use Rattle.sg_histories.specs.Answers.{answer_of, body_of, close_refusal, draw_refusal, early_reply, entry_of, first_of, is_drawn, knows_secret_of, next_history, refusal_of, repeat_of, unless}
+use Rattle.sg_histories.specs.Answers.{answer_of, body_of, close_refusal, draw_refusal, early_reply, entry_of, first_reply, is_drawn, knows_secret_of, next_history, refusal_of, repeat_of, unless}
 use Rattle.sg_histories.specs.Histories.{Entry, act_of_stamp, claims_of, fate_of, is_stamped, phase_of, phase_word, stage_of}
 use Rattle.sg_histories.specs.Lawful.{IsAskable, Lawful}
 use Rattle.sg_histories.specs.Stories.{answered, story_of, told_fates}
@@ -74,7 +74,7 @@ no_claims setup history is = (claims_fit setup history is.lawful).early (ap is_d
 pub closed_histories_go_on : ClosedHistoriesGoOn
 closed_histories_go_on setup history drawing drawn kept is new fits =
     let fates = told_fates setup.plan (fate_of history) in
-    let none : refusal_of setup history drawing.station (act.Draw drawn) ≡ None = ap (λ (now : Phase). draw_refusal now drawn) is.phase_is ∙ ap (λ b. first_of (unless b reply.Draw ∷ [])) fits.0 in
+    let none : refusal_of setup history drawing.station (act.Draw drawn) ≡ None = ap (λ (now : Phase). draw_refusal now drawn) is.phase_is ∙ ap (λ b. first_reply (unless b reply.Draw ∷ [])) fits.0 in
     let draw = new_is_done setup history drawing (act.Draw drawn) new (record { codes = tt; counted = fits.1 }) none in
     let unaltered : IsUnalteredHistory setup (drawn_by history drawing drawn) = record {
       lawful = done_lawful setup history drawing (act.Draw drawn) is.lawful draw;

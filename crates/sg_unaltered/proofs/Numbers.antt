@@ -16,7 +16,7 @@ use Rattle.sg_acts.specs.declared.asks.Act.TheVariants as act
 use Rattle.sg_acts.specs.declared.replies.FateWord.{FateWord}
 use Rattle.sg_acts.specs.declared.replies.Reply.TheVariants as reply
 use Rattle.sg_keeper.specs.declared.setup.Setup.{Setup}
-use Rattle.sg_histories.specs.Answers.{early_refusal, is_ballot, is_cast, is_closed, is_unused, is_voting, refusal_of, unless}
+use Rattle.sg_histories.specs.Answers.{early_refusal, is_ballot, is_cast_word, is_closed, is_unused, is_voting, refusal_of, unless}
 use Rattle.sg_histories.specs.Histories.{Entry, act_of_stamp, claims_after, claims_of, fate_after, fate_of, fate_word, is_stamped, phase_of, phase_word, scanner_of, stage_after, stage_of}
 use Rattle.sg_histories.specs.Lawful.{Lawful}
 use Rattle.sg_histories.specs.declared.kept.Claim.{Claim}
@@ -89,7 +89,7 @@ unused_acts fate.Spoiled e = cc
 unused_acts (fate.Audited paper) e = cc
 unused_acts fate.Voided e = cc
 
-cast_acts : (told : Fate) → is_cast (fate_word told) ≡ true → acts_of told ≡ 1
+cast_acts : (told : Fate) → is_cast_word (fate_word told) ≡ true → acts_of told ≡ 1
 cast_acts fate.Unused e = cc
 cast_acts (fate.Cast marks) e = refl
 cast_acts fate.Spoiled e = cc

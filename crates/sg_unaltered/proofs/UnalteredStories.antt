@@ -85,20 +85,20 @@ unused_is (fate.Audited paper) e = cc
 unused_is fate.Voided e = cc
 
 -- nothing is told of the first ones
-told_before : (fates : ℕ → Fate) (count first ballot : ℕ) → ballot ≤ first → accepted.fate_of (told_in fates first count) ballot ≡ fate.Unused
+told_before : (fates : ℕ → Fate) (count first ballot : ℕ) → ballot ≤ first → accepted.told_fate (told_in fates first count) ballot ≡ fate.Unused
 told_before fates zero first ballot low = refl
 told_before fates (suc count) first ballot low = by_test (is_unused_fate (fates (first + 1))) (told_before fates count (first + 1) ballot (omega (arith, low)))
   where
     apart : (first + 1 == ballot) ≡ false
     apart = grind (arith, nat_tests, low)
 
-    by_test : (t : Bool) → accepted.fate_of (told_in fates (first + 1) count) ballot ≡ fate.Unused
-        → accepted.fate_of (if not t then told_of fates (first + 1) ∷ told_in fates (first + 1) count else told_in fates (first + 1) count) ballot ≡ fate.Unused
+    by_test : (t : Bool) → accepted.told_fate (told_in fates (first + 1) count) ballot ≡ fate.Unused
+        → accepted.told_fate (if not t then told_of fates (first + 1) ∷ told_in fates (first + 1) count else told_in fates (first + 1) count) ballot ≡ fate.Unused
     by_test true rest = rest
-    by_test false rest = ap (λ b. cond b (fates (first + 1)) (accepted.fate_of (told_in fates (first + 1) count) ballot)) apart ∙ rest
+    by_test false rest = ap (λ b. cond b (fates (first + 1)) (accepted.told_fate (told_in fates (first + 1) count) ballot)) apart ∙ rest
 
 -- each other ballot's fate is told
-told_is : (fates : ℕ → Fate) (count first ballot : ℕ) → first < ballot → ballot ≤ first + count → accepted.fate_of (told_in fates first count) ballot ≡ fates ballot
+told_is : (fates : ℕ → Fate) (count first ballot : ℕ) → first < ballot → ballot ≤ first + count → accepted.told_fate (told_in fates first count) ballot ≡ fates ballot
 told_is fates zero first ballot low high = absurd (omega (arith, low, high))
 told_is fates (suc count) first ballot low high =
     by_ballot (first + 1 == ballot) refl (λ k. told_is fates count (first + 1) ballot (behind first ballot low k) (omega (arith, high)))
@@ -110,21 +110,21 @@ told_is fates (suc count) first ballot low high =
     behind a c l e = grind (arith, nat_tests, l, e)
 
     is_here : (t : Bool) → (first + 1 == ballot) ≡ true → is_unused_fate (fates (first + 1)) ≡ t
-        → accepted.fate_of (if not t then told_of fates (first + 1) ∷ rest else rest) ballot ≡ fates (first + 1)
+        → accepted.told_fate (if not t then told_of fates (first + 1) ∷ rest else rest) ballot ≡ fates (first + 1)
     is_here true k u = told_before fates count (first + 1) ballot (let s = eqb-true (first + 1) ballot k in omega (arith, s)) ∙ sym (unused_is (fates (first + 1)) u)
-    is_here false k u = ap (λ b. cond b (fates (first + 1)) (accepted.fate_of rest ballot)) k
+    is_here false k u = ap (λ b. cond b (fates (first + 1)) (accepted.told_fate rest ballot)) k
 
-    is_later : (t : Bool) → (first + 1 == ballot) ≡ false → accepted.fate_of rest ballot ≡ fates ballot
-        → accepted.fate_of (if not t then told_of fates (first + 1) ∷ rest else rest) ballot ≡ fates ballot
+    is_later : (t : Bool) → (first + 1 == ballot) ≡ false → accepted.told_fate rest ballot ≡ fates ballot
+        → accepted.told_fate (if not t then told_of fates (first + 1) ∷ rest else rest) ballot ≡ fates ballot
     is_later true k ih = ih
-    is_later false k ih = ap (λ b. cond b (fates (first + 1)) (accepted.fate_of rest ballot)) k ∙ ih
+    is_later false k ih = ap (λ b. cond b (fates (first + 1)) (accepted.told_fate rest ballot)) k ∙ ih
 
-    by_ballot : (b : Bool) → (first + 1 == ballot) ≡ b → ((first + 1 == ballot) ≡ false → accepted.fate_of rest ballot ≡ fates ballot)
-        → accepted.fate_of (told_in fates first (suc count)) ballot ≡ fates ballot
+    by_ballot : (b : Bool) → (first + 1 == ballot) ≡ b → ((first + 1 == ballot) ≡ false → accepted.told_fate rest ballot ≡ fates ballot)
+        → accepted.told_fate (told_in fates first (suc count)) ballot ≡ fates ballot
     by_ballot true k ih = is_here (is_unused_fate (fates (first + 1))) k refl ∙ ap fates (eqb-true (first + 1) ballot k)
     by_ballot false k ih = is_later (is_unused_fate (fates (first + 1))) k (ih k)
 
-told_of_plan : (plan : Plan) (fates : ℕ → Fate) (ballot : ℕ) → is_ballot plan ballot ≡ true → accepted.fate_of (told_fates plan fates) ballot ≡ fates ballot
+told_of_plan : (plan : Plan) (fates : ℕ → Fate) (ballot : ℕ) → is_ballot plan ballot ≡ true → accepted.told_fate (told_fates plan fates) ballot ≡ fates ballot
 unfolding numbers_below
 told_of_plan plan fates ballot known =
     let parts = and_parts (nat_le 1 ballot) (nat_le ballot (ballots_of plan)) known in
@@ -140,7 +140,7 @@ right_claims plan seed fates [] all = All-nil (IsRightClaim plan seed (told_fate
 right_claims plan seed fates (claim ∷ kept) all =
     let parts = and_parts (fits plan (act.Claim claim.ballot claim.race claim.code)) (list_all (λ k. fits plan (act.Claim k.ballot k.race k.code)) kept) all in
     let known = (and_parts (is_ballot plan claim.ballot) (ballot_has plan claim.ballot claim.race && nat_lt claim.code (codes_of plan.version)) parts.0).0 in
-    let told : fates claim.ballot ≡ accepted.fate_of (told_fates plan fates) claim.ballot = sym (told_of_plan plan fates claim.ballot known) in
+    let told : fates claim.ballot ≡ accepted.told_fate (told_fates plan fates) claim.ballot = sym (told_of_plan plan fates claim.ballot known) in
     All-cons (IsRightClaim plan seed (told_fates plan fates)) (answered plan seed fates claim) (map (answered plan seed fates) kept)
     (ap (λ (what : Fate). right_word plan seed claim.race (ballot_row plan claim.race claim.ballot) what claim.code) told)
     (right_claims plan seed fates kept parts.1)

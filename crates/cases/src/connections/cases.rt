@@ -101,8 +101,8 @@ fn ask_first<K: Keeper>(
     Ok(())
 }
 
-/// Serves the connections of a case, and tells what came of them.
-fn tell_page<K: Keeper>(
+/// Serves these connections of a case, and tells what came of them and what they were sent.
+fn tell_sent<K: Keeper>(
     alloc: Global,
     office: &mut Office,
     keeper: &mut K,
@@ -117,21 +117,7 @@ fn tell_page<K: Keeper>(
     let ending = serve_calls(alloc, 8_080, count, calls, keeper, office, &mut page);
     let told = add_ending(text, ending, page.written());
     drop(page);
-    told
-}
-
-/// Serves these connections of a case, and tells what came of them and what they were sent.
-fn tell_sent<K: Keeper>(
-    alloc: Global,
-    office: &mut Office,
-    keeper: &mut K,
-    calls: &mut Calls,
-    case: &str,
-    text: &mut String,
-) -> Result<(), Fault>
-    requires { is_some calls.old.board.current ≡ false }
-{
-    tell_page(alloc, office, keeper, calls, case, text)?;
+    told?;
     add_sent(text, calls)
 }
 

@@ -1,7 +1,7 @@
 //! One step: a command, or a look at the rows that are kept.
-use super::rows::put_rows;
 use crate::commands::status_of;
 use crate::fault::Fault;
+use crate::rows::writing::{LINES, put_rows};
 use sg_keeper::Keeper;
 use sg_outside::{Bytes, Page};
 use std::alloc::Global;
@@ -84,7 +84,7 @@ fn tell_command<K: Keeper, W: Write>(
 /// Adds the rows that are kept to a text.
 fn add_kept<K: Keeper>(alloc: Global, keeper: &mut K, text: &mut Vec<u8>) -> Result<(), Fault> {
     let rows = keeper.load(alloc)?;
-    let put = put_rows(&rows, text);
+    let put = put_rows(&LINES, &rows, text);
     drop(rows);
     put
 }

@@ -1,4 +1,5 @@
 -- What is heard of an input.
+use Rattle.std.specs.Prelude.{Result, Ok, Err}
 use Rattle.sg_outside.specs.Faults.{Rose}
 use Rattle.sg_outside.specs.Streams.{Seen}
 use Rattle.sg_driver.specs.Judging.{Judging}
@@ -6,6 +7,11 @@ use Rattle.sg_driver.specs.Taken.{TookLines, TookUnended}
 use Rattle.sg_driver.specs.inside.Stopping.{IsHeard}
 use Rattle.sg_driver.specs.declared.hearing.Heard.{Heard}
 use Rattle.sg_driver.specs.declared.hearing.Heard.TheVariants as heard
+
+-- the answer, or that memory was wanted
+abbrev pub heard_of : {A E : Type 0} → Result A E → Heard A
+heard_of (Ok answer) = heard.Answer answer
+heard_of (Err _) = heard.NoMemory
 
 -- what was heard of an input
 abbrev pub Hears : {A : Type 0} → Judging A → Heard A → Seen → Seen → Type 0

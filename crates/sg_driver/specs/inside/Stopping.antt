@@ -1,5 +1,5 @@
 -- Where a judge has stopped in the bytes of an input, and what an answer of it says there.
-use Rattle.std.specs.Prelude.{◌≡◌, ℕ, ◌+◌, ◌<◌, ◌≤◌, ◌⊎◌, false, List, [], ◌∷◌, ◌++◌, length, Option, Some, None}
+use Rattle.std.specs.Prelude.{◌≡◌, ℕ, ◌+◌, ◌*◌, ◌<◌, ◌≤◌, ◌⊎◌, false, List, [], ◌∷◌, ◌++◌, length, Option, Some, None}
 use Rattle.std.specs.List.{concat}
 use Rattle.std.specs.Io.KnownBytes.{Consumes, IsAtEnd}
 use Rattle.sg_plan.specs.Limits.{longest_line}
@@ -63,6 +63,7 @@ pub record IsFed {Answer : Type 0} (judging : Judging Answer) (Stands : List (Li
   pub stands : Stands done
   pub unsettled : judging.Unsettled done
   pub are_lines : AreLines done
+  pub short : length (concat done) ≤ length done * longest_line
   pub taken : Consumes first.bytes (to_come lines now.bytes) (concat done)
   pub goes_on : lines.is_over ≡ false
   pub limit : lines.limit ≡ longest_line
@@ -70,9 +71,12 @@ pub record IsFed {Answer : Type 0} (judging : Judging Answer) (Stands : List (Li
 
 -- WHERE IT STOPPED
 
--- it is the answer on the bytes of the input, which was read as far as it says
-abbrev pub IsHeard : {Answer : Type 0} → Judging Answer → Answer → Seen → Seen → Type 0
-IsHeard judging answer first now = Answers judging first.bytes answer × HasRead judging answer first.bytes now.bytes
+-- it is the answer on some lines, and on those of the bytes of the input, which was read as far as it says
+pub record IsHeard {Answer : Type 0} (judging : Judging Answer) (answer : Answer) (first now : Seen) : Type 0 where
+  pub lines : List (List ℕ)
+  pub are : judging.IsAnswer lines answer
+  pub answers : Answers judging first.bytes answer
+  pub read : HasRead judging answer first.bytes now.bytes
 
 -- the next bytes are no line
 pub record AtNoLine {Answer : Type 0} (judging : Judging Answer) (Stands : List (List ℕ) → Type 0) (first now : Seen) : Type 0 where
@@ -80,6 +84,7 @@ pub record AtNoLine {Answer : Type 0} (judging : Judging Answer) (Stands : List 
   pub stands : Stands done
   pub heard : (answer : Answer) → ((more : List (List ℕ)) (text : List ℕ) → IsNoLine text → judging.IsAnswer (done ++ text ∷ more) answer)
       → judging.Refuses answer → IsHeard judging answer first now
+  pub wanted : judging.Wants done → TookLines judging.Wants first.bytes now.bytes
 
 -- the lines settled an answer, whatever follows
 pub record AtSettled {Answer : Type 0} (judging : Judging Answer) (IsSettled : List (List ℕ) → Type 0) (first now : Seen) : Type 0 where
@@ -92,6 +97,7 @@ pub record AtEnd {Answer : Type 0} (judging : Judging Answer) (Stands : List (Li
   pub done : List (List ℕ)
   pub stands : Stands done
   pub heard : (answer : Answer) → judging.IsAnswer done answer → IsHeard judging answer first now
+  pub wanted : judging.Wants done → TookLines judging.Wants first.bytes now.bytes
 
 -- where the judge stopped in the input, before and after the lines were taken
 abbrev pub Stops : {Answer : Type 0} → Judging Answer → (List (List ℕ) → Type 0) → (List (List ℕ) → Type 0) → Stop → Seen → Seen → Type 0

@@ -3,7 +3,7 @@ use Rattle.std.specs.Prelude.{◌≡◌, ℕ, ◌+◌, ◌⊎◌, Bool, true, fa
 use Rattle.std.specs.Option.{option_map_or}
 use Rattle.sg_grammar.specs.Lines.{placed_of}
 use Rattle.sg_check.specs.Judging.{AreOfPlan}
-use Rattle.sg_check.specs.Kinds.{bytes_of, first_bad}
+use Rattle.sg_check.specs.Kinds.{posted_bytes, first_bad}
 use Rattle.sg_check.specs.Verdict.{AreFine, IsFirstBad}
 use Rattle.sg_check.specs.declared.judged.Kind.{Kind}
 use Rattle.sg_commit.specs.Seals.{StandsFor as HasTaken}
@@ -75,7 +75,7 @@ pub record Stands (expect : Next) (sealer : Sealer) (ledger : Option Ledger) (li
   pub posted : List Posted
   pub walks : walk start lines ≡ Some (record { posted = posted; next = expect })
   pub fine : AreFine lines
-  pub sealed : HasTaken sealer (bytes_of posted)
+  pub sealed : HasTaken sealer (posted_bytes posted)
   pub kept : Keeps expect.plan ledger (placed_of posted)
 
 abbrev pub StandsSome : Next → Sealer → Option Ledger → Type 0

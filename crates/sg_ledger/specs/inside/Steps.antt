@@ -2,11 +2,11 @@
 use Rattle.std.specs.Prelude.{ℕ, nat_lt, ◌==◌, if◌then◌else◌, Bool, true, false, ◌&&◌, ◌||◌, List, ◌++◌, slice_set, Option, Some}
 use Rattle.std.specs.Option.{option_map, option_map_or, option_or}
 use Rattle.sg_grammar.specs.Lines.{is_audit, is_cast, is_dispute}
-use Rattle.sg_check.specs.Facts.{is_both, left_of, right_of}
+use Rattle.sg_check.specs.Facts.{is_both, opened_left, opened_right}
 use Rattle.sg_check.specs.Verdict.{total_on}
 use Rattle.sg_commit.specs.declared.Digest.{Digest}
 use Rattle.sg_commit.specs.declared.Opening.{Opening}
-use Rattle.sg_forms.specs.Reading.{public_bytes as bytes_of_digits}
+use Rattle.sg_forms.specs.Reading.{bytes_of_digits}
 use Rattle.sg_forms.specs.declared.line.RowOpening.{RowOpening}
 use Rattle.sg_forms.specs.declared.line.RowOpening.TheVariants as row
 use Rattle.sg_ledger.specs.inside.Tables.{most_marks, with_bits, with_first, with_firsts, with_one_more, with_votes}
@@ -61,11 +61,11 @@ abbrev pub seen_after : Plan → List Bool → ℕ → ℕ → Option Opening �
 seen_after plan table race instance opening = option_map_or (λ o. (if nat_lt o.value (entries_of plan race) then slice_set table (row_place plan race instance o.value) true else table)) opening table
 
 abbrev pub seen_lefts_after : Plan → List Bool → Placed → List Bool
-seen_lefts_after plan table (RowAt race instance number opening) = seen_after plan table race instance (left_of opening)
+seen_lefts_after plan table (RowAt race instance number opening) = seen_after plan table race instance (opened_left opening)
 seen_lefts_after plan table line = table
 
 abbrev pub seen_rights_after : Plan → List Bool → Placed → List Bool
-seen_rights_after plan table (RowAt race instance number opening) = seen_after plan table race instance (right_of opening)
+seen_rights_after plan table (RowAt race instance number opening) = seen_after plan table race instance (opened_right opening)
 seen_rights_after plan table line = table
 
 abbrev pub path_after : Plan → List (Option ℕ) → ℕ → RowOpening → List (Option ℕ)

@@ -1,21 +1,16 @@
 -- The lines that are posted, number by number, as they are written.
-use Rattle.std.specs.Prelude.{◌≡◌, ℕ, if◌then◌else◌, List, [], ◌∷◌, ◌++◌, length, map, slice_index_or}
+use Rattle.std.specs.Prelude.{ℕ, if◌then◌else◌, List, [], ◌∷◌, ◌++◌, length, map}
 use Rattle.std.specs.List.{flat_map}
 use Rattle.sg_plan.specs.Ballots.{ballot_row, candidates_of, entries_of, races_of_ballot}
 use Rattle.sg_plan.specs.declared.plan.Draw.{Draw}
-use Rattle.sg_plan.specs.declared.plan.Draw.TheVariants as drawn
 use Rattle.sg_plan.specs.declared.plan.Fate.{Fate}
 use Rattle.sg_plan.specs.declared.plan.Plan.{Plan}
-use Rattle.sg_plan.specs.declared.plan.Stage.{Stage}
-use Rattle.sg_plan.specs.declared.plan.Stage.TheVariants as stage
-use Rattle.sg_streams.specs.CoinSides.{coin_seed}
 use Rattle.sg_tables.specs.Posts.{column_marked, is_void}
 use Rattle.sg_forms.specs.Said.{Said}
-use Rattle.sg_forms.specs.Said.Said.{Audited, Cast, Code, CodeCommit, Dispute, Over, Row, RowCommit, Seal}
+use Rattle.sg_forms.specs.Said.Said.{Audited, Cast, Code, CodeCommit, Dispute, Over, Row, RowCommit}
 use Rattle.sg_grammar.specs.Due.{each}
-use Rattle.sg_record.specs.Lines.{block_lines, draw_line, flag_lines, indexed, paper_lines, place_lines, plan_lines, total_line}
-use Rattle.sg_post.specs.Posted.{audited_race_codes, code_commit_of, code_in_row, opened_row, row_commit_of, seal_1, seal_2, seal_3, told_blocks}
-use Rattle.sg_post.specs.declared.posting.Posting.{Posting}
+use Rattle.sg_record.specs.Lines.{block_lines, paper_lines}
+use Rattle.sg_post.specs.Posted.{audited_race_codes, code_commit_of, code_in_row, opened_row, row_commit_of, told_blocks}
 use Rattle.sg_post.specs.declared.story.Claimed.{Claimed}
 use Rattle.sg_post.specs.declared.story.Told.{Told}
 
@@ -27,23 +22,11 @@ entry_commit plan seed race entry = CodeCommit race (code_commit_of plan seed ra
 abbrev pub race_commits : Plan → List ℕ → ℕ → List Said
 race_commits plan seed race = each (entry_commit plan seed race) 0 (entries_of plan race)
 
-abbrev pub code_commits : Plan → List ℕ → List Said
-code_commits plan seed = each (race_commits plan seed) 0 (length plan.races)
-
 abbrev pub row_commit : Plan → List ℕ → ℕ → ℕ → ℕ → List Said
 row_commit plan seed race instance row = RowCommit race instance (row_commit_of plan seed race instance row).left (row_commit_of plan seed race instance row).right ∷ []
 
 abbrev pub instance_row_commits : Plan → List ℕ → ℕ → ℕ → List Said
 instance_row_commits plan seed race instance = each (row_commit plan seed race instance) 0 (entries_of plan race)
-
-abbrev pub race_row_commits : Plan → List ℕ → ℕ → List Said
-race_row_commits plan seed race = each (instance_row_commits plan seed race) 0 plan.instances
-
-abbrev pub row_commits : Plan → List ℕ → List Said
-row_commits plan seed = each (race_row_commits plan seed) 0 (length plan.races)
-
-unfoldable pub section_1 : Plan → List ℕ → List Said
-section_1 plan seed = plan_lines plan ++ (code_commits plan seed ++ (row_commits plan seed ++ Seal 1 (seal_1 plan seed) ∷ []))
 
 -- SECTION 2: THE BALLOTS
 
@@ -77,16 +60,6 @@ audited_block plan seed ballot paper = Audited ballot ∷ (paper_lines (races_of
 unfoldable pub told_lines : Plan → List ℕ → Told → List Said
 told_lines plan seed told = flat_map (block_lines plan) (told_blocks plan seed told)
 
--- SECTION 2: THE RESULTS
-
-abbrev pub race_results : Posting → ℕ → List Said
-race_results posting race =
-    indexed (flag_lines race) 0 (slice_index_or posting.flags race [])
-    ++ (place_lines race (slice_index_or posting.places race []) ++ indexed (total_line race) 0 (slice_index_or posting.totals race []))
-
-unfoldable pub section_2 : Plan → List ℕ → List Told → Posting → List Said
-section_2 plan seed fates posting = flat_map (told_lines plan seed) fates ++ (each (race_results posting) 0 (length plan.races) ++ Seal 2 (seal_2 plan seed fates) ∷ [])
-
 -- SECTION 3
 
 abbrev pub row_opening : Plan → List ℕ → List Told → Draw → ℕ → ℕ → ℕ → List Said
@@ -95,25 +68,7 @@ row_opening plan seed fates draw race instance row = Row (opened_row plan seed f
 abbrev pub instance_openings : Plan → List ℕ → List Told → Draw → ℕ → ℕ → List Said
 instance_openings plan seed fates draw race instance = each (row_opening plan seed fates draw race instance) 0 (entries_of plan race)
 
-abbrev pub race_openings : Plan → List ℕ → List Told → Draw → ℕ → List Said
-race_openings plan seed fates draw race = each (instance_openings plan seed fates draw race) 0 plan.instances
-
-unfoldable pub section_3 : Plan → List ℕ → List Told → Draw → List Said
-section_3 plan seed fates draw = draw_line draw ∷ (each (race_openings plan seed fates draw) 0 (length plan.races) ++ Seal 3 (seal_3 plan seed fates draw) ∷ [])
-
--- the seed of the coins, where public bytes are drawn
-abbrev pub IsCoinKey : Draw → List ℕ → Type 0
-IsCoinKey drawn.Full key = Unit {0}
-IsCoinKey (drawn.Public bytes) key = key ≡ coin_seed bytes
-
 -- SECTION 4
 
 abbrev pub claim_lines : Plan → List ℕ → Claimed → List Said
 claim_lines plan seed claimed = Dispute claimed.ballot claimed.race claimed.code claimed.word ∷ row_codes plan seed claimed.race (ballot_row plan claimed.race claimed.ballot)
-
--- ALL BEHIND SECTION 1, at a stage
-
-abbrev pub later_lines : Plan → List ℕ → List Told → List Claimed → Posting → Stage → List Said
-later_lines plan seed fates claims posting stage.Voting = []
-later_lines plan seed fates claims posting stage.Closed = section_2 plan seed fates posting
-later_lines plan seed fates claims posting (stage.Drawn draw) = section_2 plan seed fates posting ++ (section_3 plan seed fates draw ++ flat_map (claim_lines plan seed) claims)

@@ -5,7 +5,7 @@ use Rattle.std.specs.Option.{option_map}
 use Rattle.sg_commit.specs.declared.Digest.{Digest}
 use Rattle.sg_plan.specs.declared.plan.Draw.TheVariants as drawn
 use Rattle.sg_plan.specs.declared.plan.Plan.{Plan}
-use Rattle.sg_forms.specs.Reading.{line_of, public_bytes}
+use Rattle.sg_forms.specs.Reading.{line_of, bytes_of_digits}
 use Rattle.sg_forms.specs.Said.{Said}
 use Rattle.sg_forms.specs.Said.Said.{Audited, Spoiled, Voided}
 use Rattle.sg_forms.specs.declared.line.CodeLine.{CodeLine}
@@ -110,7 +110,7 @@ added plan made (FlagsAt race instance from bits) said = record made { flags = a
 added plan made (PlacesAt race from bits) said = record made { places = append_at made.places race (bits_of bits) }
 added plan made (TotalAt race candidate count) said = record made { totals = append_at made.totals race (count ∷ []) }
 added plan made DrawnFull said = record made { draw = drawn.Full }
-added plan made (DrawnPublic digits) said = record made { draw = drawn.Public (public_bytes digits) }
+added plan made (DrawnPublic digits) said = record made { draw = drawn.Public (bytes_of_digits digits) }
 added plan made (RowAt race instance row opening) said = record made { rows = append_in made.rows race instance (opening ∷ []) }
 added plan made (Disputed ballot race code word) said = record made { disputes = made.disputes ++ record { ballot = ballot; race = race; code = code; word = word; codes = [] } ∷ [] }
 

@@ -31,9 +31,8 @@ of_race race codes = filter (λ code. code.race == race) codes
 abbrev pub has_race : ℕ → List ℕ → Bool
 has_race race races = list_any (λ over. over == race) races
 
--- each race has its results, few enough to be numbered
+-- each race has its results, which are few enough to be numbered
 pub record HasRaces (posted : Record) : Type 0 where
-  pub few : length posted.plan.races ≤ 32
   pub flags : length posted.flags ≡ length posted.plan.races
   pub places : length posted.places ≡ length posted.plan.races
   pub totals : length posted.totals ≡ length posted.plan.races

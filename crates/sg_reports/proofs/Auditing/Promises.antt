@@ -1,5 +1,5 @@
 -- How an audit ends says its promise.
-use Rattle.std.proofs.Common.{◌≡◌, ◌≢◌, ℕ, inl, inr, List, Option, None, Some, refl, sym, subst, arith}
+use Rattle.std.proofs.Common.{◌≡◌, ◌≢◌, ℕ, inl, inr, List, Option, None, Some, refl, sym, subst, ap, ◌∙◌, arith}
 use Rattle.std.specs.Io.KnownBytes.{Appends}
 use Rattle.std.specs.Prelude.{IfSome}
 use Rattle.sg_outside.specs.Outcomes.{status_of}
@@ -14,7 +14,6 @@ use Rattle.sg_check.proofs.Verdicts.{good_end, one_verdict}
 use Rattle.sg_check.specs.Bounds.{IsSound}
 use Rattle.sg_check.specs.Kinds.{kinds}
 use Rattle.sg_check.specs.Verdict.{IsNo, IsVerdict, breaks, totals_of}
-use Rattle.sg_check.specs.declared.judged.Judged.{Judged}
 use Rattle.sg_check.specs.declared.judged.Judged.TheVariants.{Yes, No}
 use Rattle.sg_check.specs.declared.judged.Kind.{Kind}
 use Rattle.sg_check.specs.declared.judged.Total.{Total}
@@ -38,7 +37,7 @@ at_bytes known bytes P same told = subst (λ (k : Option (List ℕ)). IfSome k P
 yes_verdict : (bytes : List ℕ) (how : Outcome) (input input' out out' : Seen) → input.bytes ≡ Some bytes → AuditSays how input input' out out' → status_of how ≡ 0
     → IsVerdict (lines_of bytes) (Yes (totals_of (lines_of bytes)))
 yes_verdict bytes outcome.Done input input' out out' same says is =
-    let good : IsVerdict (lines_of bytes) (Yes says.totals) = at_bytes input.bytes bytes (λ b. IsVerdict (lines_of b) (Yes says.totals)) same says.judged in
+    let good : IsVerdict (lines_of bytes) (Yes says.due.totals) = at_bytes input.bytes bytes (λ b. IsVerdict (lines_of b) (Yes says.due.totals)) same says.due.judged in
     record { fine = good.fine; whole = good.whole; totals_are = refl }
 yes_verdict bytes _ input input' out out' same says is = absurd (omega (arith, is))
 
@@ -46,11 +45,13 @@ yes_verdict bytes _ input input' out out' same says is = absurd (omega (arith, i
 pub answers_yes : (totals : List Total) (bytes : List ℕ) (how : Outcome) (input input' out out' : Seen) → input.bytes ≡ Some bytes → IsVerdict (lines_of bytes) (Yes totals)
     → AuditSays how input input' out out' → IsAnsweredYes totals (status_of how) input input' out out'
 answers_yes totals bytes outcome.Done input input' out out' same good says =
-    let found : IsVerdict (lines_of bytes) (Yes says.totals) = at_bytes input.bytes bytes (λ b. IsVerdict (lines_of b) (Yes says.totals)) same says.judged in
-    inl (refl, subst (λ (j : Judged). Appends out.bytes out'.bytes (report_of j)) (one_verdict (lines_of bytes) (Yes says.totals) (Yes totals) found good) says.written)
+    let found : IsVerdict (lines_of bytes) (Yes says.due.totals) = at_bytes input.bytes bytes (λ b. IsVerdict (lines_of b) (Yes says.due.totals)) same says.due.judged in
+    let text : says.text ≡ report_of (Yes totals) = says.due.text_is ∙ ap report_of (one_verdict (lines_of bytes) (Yes says.due.totals) (Yes totals) found good) in
+    inl (refl, subst (λ (t : List ℕ). Appends out.bytes out'.bytes t) text says.written)
 answers_yes totals bytes outcome.No input input' out out' same good says =
-    let bad : IsVerdict (lines_of bytes) (No says.line says.broken) = at_bytes input.bytes bytes (λ b. IsVerdict (lines_of b) (No says.line says.broken)) same says.judged in
-    absurd (not_no totals says.line says.broken (one_verdict (lines_of bytes) (Yes totals) (No says.line says.broken) good bad))
+    let bad : IsVerdict (lines_of bytes) (No says.due.line says.due.broken) = at_bytes input.bytes bytes (λ b. IsVerdict (lines_of b) (No says.due.line says.due.broken)) same says.due.judged in
+    absurd (not_no totals says.due.line says.due.broken (one_verdict (lines_of bytes) (Yes totals) (No says.due.line says.due.broken) good bad))
+answers_yes totals bytes outcome.Refused input input' out out' same good says = absurd says.due
 answers_yes totals bytes outcome.ReadFailed input input' out out' same good says = inr (inl (refl, says.cause))
 answers_yes totals bytes outcome.WriteFailed input input' out out' same good says = inr (inr (inl (refl, says.cause)))
 answers_yes totals bytes outcome.NoMemory input input' out out' same good says = inr (inr (inr refl))

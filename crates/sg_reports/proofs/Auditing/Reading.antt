@@ -9,12 +9,10 @@ use Rattle.std.specs.Io.KnownBytes.{Consumes}
 use Rattle.sg_outside.specs.TextLines.{AreLines, lines_of}
 use Rattle.sg_outside.proofs.LineLemmas.{lines_of-lines}
 use Rattle.sg_check.specs.Verdict.{AreFine, IsVerdict, least_broken}
-use Rattle.sg_check.specs.declared.judged.Judged.{Judged}
-use Rattle.sg_check.specs.declared.judged.Judged.TheVariants.{Yes, No}
+use Rattle.sg_check.specs.declared.judged.Judged.TheVariants.{No}
 use Rattle.sg_check.specs.declared.judged.Kind.{Kind}
-use Rattle.sg_driver.specs.Says.{HasRead as ReadsFor}
 use Rattle.sg_driver.specs.Taken.{TookOneMore, TookUpTo}
-use Rattle.sg_reports.specs.audit.Audit.{HasRead, Judges, audit}
+use Rattle.sg_reports.specs.audit.Audit.{Judges}
 
 -- a no on fine lines and others names a line behind the fine ones
 number-behind : (done more : List (List ℕ)) (number : ℕ) (broken : Kind) → AreFine done → IsVerdict (done ++ more) (No number broken) → length done < number
@@ -42,7 +40,7 @@ taken-first bytes (Some left) done rest whole taken =
     (lines_of (rest ++ left), ap lines_of (taken ∙ append_assoc (concat done) rest left) ∙ lines_of-lines done (rest ++ left) whole)
 
 -- a no took little behind the line that it names
-no-read : (known now : Option (List ℕ)) (number : ℕ) (broken : Kind) → Judges known (No number broken) → TookOneMore AreFine known now → TookUpTo number known now
+pub no-read : (known now : Option (List ℕ)) (number : ℕ) (broken : Kind) → Judges known (No number broken) → TookOneMore AreFine known now → TookUpTo number known now
 no-read None now number broken judged took = record { front = took.up_to.front; taken = tt; few = tt }
 no-read (Some bytes) now number broken judged took =
     let done = took.took.done in
@@ -50,7 +48,3 @@ no-read (Some bytes) now number broken judged took =
     let behind = number-behind done first.0 number broken took.took.are (subst (λ (lines : List (List ℕ)). IsVerdict lines (No number broken)) first.1 judged) in
     let rise = bytes-rise (lines_of bytes) (length done + 1) number (omega (arith, behind)) in
     record { front = took.up_to.front; taken = took.up_to.taken; few = omega (arith, took.up_to.few, rise) }
-
-pub verdict-read : (verdict : Judged) (known now : Option (List ℕ)) → Judges known verdict → ReadsFor audit verdict known now → HasRead verdict known now
-verdict-read (Yes totals) known now judged read = read.ended (λ denied. denied)
-verdict-read (No number broken) known now judged read = no-read known now number broken judged (read.refused tt)

@@ -1,64 +1,39 @@
 -- How the command ends.
-use Rattle.std.proofs.Common.{ℕ, List, Some, None, sym, subst}
-use Rattle.std.specs.Io.KnownBytes.{Appends}
+use Rattle.std.proofs.Common.{ℕ, List, Some, None, refl, sym, subst}
 use Rattle.std.specs.Prelude.{Option}
 use Rattle.sg_outside.specs.Streams.{Seen}
 use Rattle.sg_outside.specs.TextLines.{lines_of}
 use Rattle.sg_outside.specs.declared.outcome.Outcome.{Outcome}
-use Rattle.sg_outside.specs.declared.outcome.Outcome.TheVariants as outcome
 use Rattle.sg_check.specs.declared.judged.Total.{Total}
 use Rattle.sg_county.proofs.Bounding.{sums_bound}
+use Rattle.sg_county.specs.Tally.{IsUnsettled}
 use Rattle.sg_county.specs.declared.verdict.CountyVerdict.{CountyVerdict}
 use Rattle.sg_county.specs.declared.verdict.CountyVerdict.TheVariants.{Yes, No, Differs, Repeats, Parts}
-use Rattle.sg_driver.specs.Says.{HasRead as ReadsFor, IsDue, Says, Shows}
-use Rattle.sg_reports.specs.county.Counts.{Answers, AreBound, CountySays, HasRead, county, outcome_of}
+use Rattle.sg_driver.proofs.Telling.{ends_due}
+use Rattle.sg_driver.specs.Says.{HasRead, IsDue, Says}
+use Rattle.sg_driver.specs.Taken.{TookLines, TookUnended}
+use Rattle.sg_reports.specs.county.Counts.{Answers, AreBound, CountyDue, CountySays}
 use Rattle.sg_reports.specs.county.Report.{report_of}
+use Rattle.sg_reports.specs.inside.Judging.{county, county_outcome}
 
 -- the sums of a yes are bound
 told_bound : (known : Option (List ℕ)) (totals : List Total) → Answers known (Yes totals) → AreBound known totals
 told_bound None totals answers = tt
 told_bound (Some bytes) totals answers = λ all parts seen. sums_bound (lines_of bytes) totals all answers parts seen
 
--- how far an answer read
-answer_read : (answer : CountyVerdict) (known now : Option (List ℕ)) → ReadsFor county answer known now → HasRead answer known now
-answer_read (Yes totals) known now read = read.ended (λ refused. refused)
-answer_read (No part line broken) known now read = (read.refused tt).took
-answer_read (Differs part) known now read = (read.refused tt).took
-answer_read (Repeats part other) known now read = (read.refused tt).took
-answer_read Parts known now read = (read.refused tt).took
+-- an answer is due
+answer_due : (answer : CountyVerdict) (before now : Option (List ℕ)) → Answers before answer → HasRead county answer before now → CountyDue (county_outcome answer) (report_of answer) before now
+answer_due (Yes totals) before now answers read =
+    record { totals = totals; answers = answers; bound = told_bound before totals answers; read = read.ended (λ refused. refused); text_is = refl }
+answer_due Parts before now answers read = record { answer = Parts; such = refl; answers = answers; read = read.took; text_is = refl }
+answer_due (No part line broken) before now answers read = record { answer = No part line broken; such = tt; answers = answers; read = read.took; text_is = refl }
+answer_due (Differs part) before now answers read = record { answer = Differs part; such = tt; answers = answers; read = read.took; text_is = refl }
+answer_due (Repeats part other) before now answers read = record { answer = Repeats part other; such = tt; answers = answers; read = read.took; text_is = refl }
 
--- with an answer
-answer_said : (answer : CountyVerdict) (input input' out out' : Seen) → Answers input.bytes answer → HasRead answer input.bytes input'.bytes → Appends out.bytes out'.bytes (report_of answer)
-    → CountySays (outcome_of answer) input input' out out'
-answer_said (Yes totals) input input' out out' answers read written =
-    record { totals = totals; answers = answers; bound = told_bound input.bytes totals answers; read = read; written = written }
-answer_said Parts input input' out out' answers read written = record { answers = answers; read = read; written = written }
-answer_said (No part line broken) input input' out out' answers read written = record { answer = No part line broken; bad = tt; answers = answers; read = read; written = written }
-answer_said (Differs part) input input' out out' answers read written = record { answer = Differs part; bad = tt; answers = answers; read = read; written = written }
-answer_said (Repeats part other) input input' out out' answers read written = record { answer = Repeats part other; bad = tt; answers = answers; read = read; written = written }
+county_due : (outcome : Outcome) (text : List ℕ) (before now : Option (List ℕ)) → IsDue county outcome text before now → CountyDue outcome text before now
+county_due outcome text before now due =
+    subst (λ (o : Outcome). CountyDue o text before now) (sym due.outcome_is)
+    (subst (λ (t : List ℕ). CountyDue (county_outcome due.answer) t before now) (sym due.text_is) (answer_due due.answer before now due.answers due.read))
 
-shown_said : (how : Outcome) (input input' out out' : Seen) → Shows (IsDue county (ReadsFor county)) how input input' out out' → CountySays how input input' out out'
-shown_said how input input' out out' shown =
-    let due = shown.due in
-    subst (λ (o : Outcome). CountySays o input input' out out') (sym due.outcome_is)
-    (answer_said due.answer input input' out out' due.answers (answer_read due.answer input.bytes input'.bytes due.read)
-    (subst (λ (text : List ℕ). Appends out.bytes out'.bytes text) due.text_is shown.written))
-
--- in any way
 pub county_said : (how : Outcome) (input input' out out' : Seen) → Says county how input input' out out' → CountySays how input input' out out'
-county_said outcome.Done input input' out out' says = shown_said outcome.Done input input' out out' says
-county_said outcome.No input input' out out' says = shown_said outcome.No input input' out out' says
-county_said outcome.Refused input input' out out' says = shown_said outcome.Refused input input' out out' says
-county_said outcome.ReadFailed input input' out out' says = says
-county_said outcome.WriteFailed input input' out out' says =
-    let due = says.due in
-    let is_due : IsDue county HasRead says.outcome says.text input.bytes input'.bytes = record {
-      answer = due.answer;
-      outcome_is = due.outcome_is;
-      text_is = due.text_is;
-      answers = due.answers;
-      read = answer_read due.answer input.bytes input'.bytes due.read;
-    } in
-    record { cause = says.cause; outcome = says.outcome; text = says.text; due = is_due; written = says.written }
-county_said outcome.NoMemory input input' out out' says = says
-county_said _ input input' out out' says = absurd says
+county_said = ends_due (IsDue county) CountyDue (TookUnended IsUnsettled) (TookLines IsUnsettled) county_due

@@ -52,15 +52,10 @@ fault_text (fault.Opening race instance row) = numbers_line (codes "refused open
 fault_text (fault.Posted race instance row) = numbers_line (codes "refused posted") (race ∷ instance ∷ row ∷ [])
 fault_text fault.NoMemory = []
 
--- a fault of the record is its verdict of no; any other but want of memory is refused
+-- a fault of the record is its verdict of no, and any other is refused
 abbrev pub fault_outcome : RecountFault → Outcome
 fault_outcome (fault.Record line broken) = outcome.No
-fault_outcome (fault.Printing line) = outcome.Refused
-fault_outcome (fault.Stand race instance row) = outcome.Refused
-fault_outcome (fault.Completion line) = outcome.Refused
-fault_outcome (fault.Opening race instance row) = outcome.Refused
-fault_outcome (fault.Posted race instance row) = outcome.Refused
-fault_outcome fault.NoMemory = outcome.NoMemory
+fault_outcome _ = outcome.Refused
 
 -- the lines have a fault, other than want of memory, and the outcome and the text are those for it
 pub record IsFaulty (lines : List (List ℕ)) (how : Outcome) (text : List ℕ) : Type 0 where

@@ -1,6 +1,6 @@
 //! A pass as a judge of the lines that it is fed.
 
-use crate::standing::standing;
+use crate::standing::judge_line;
 use sg_check::Judged;
 use sg_driver::{Judge, Standing};
 use sg_judge::Pass;
@@ -19,7 +19,7 @@ impl Judge for Auditor {
     ghost use Rattle.std.specs.Prelude.{◌≡◌, true, false};
     ghost use Rattle.sg_check.specs.Verdict.{AreFine};
     ghost use Rattle.sg_judge.specs.Pass.{StandsFor, is_open, left_in as lines_left};
-    ghost use Rattle.sg_reports.specs.audit.Audit.{audit};
+    ghost use Rattle.sg_reports.specs.inside.Judging.{audit};
 
     type Answer = Judged;
 
@@ -37,21 +37,22 @@ impl Judge for Auditor {
     }
 
     fn line(&mut self, line: &[u8]) -> Result<Standing, NoMemory> {
-        if self.pass.is_ready() {
-            return Ok(standing(self.pass.line(line)));
-        }
-        let step = self.pass.header_line(line)?;
-        Ok(standing(step))
+        judge_line(&mut self.pass, line)
     }
 
-    fn end(self) -> Judged {
+    fn end(self, _alloc: Global) -> Result<Judged, NoMemory> {
+        let Auditor { pass } = self;
+        Ok(pass.end())
+    }
+
+    fn end_settled(self) -> Judged {
         let Auditor { pass } = self;
         pass.end()
     }
 
-    fn end_at_no_line(self) -> Judged {
+    fn end_at_no_line(self, _alloc: Global) -> Result<Judged, NoMemory> {
         let Auditor { pass } = self;
-        pass.end_at_no_line()
+        Ok(pass.end_at_no_line())
     }
 
     fn outcome(answer: &Judged) -> Outcome {

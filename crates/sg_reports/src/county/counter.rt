@@ -18,7 +18,7 @@ pub(crate) struct Counter {
 impl Judge for Counter {
     ghost use Rattle.std.specs.Prelude.{◌≡◌, true, false};
     ghost use Rattle.sg_county.specs.Tally.{IsUnsettled, StandsFor, is_open, left_in as lines_left};
-    ghost use Rattle.sg_reports.specs.county.Counts.{county};
+    ghost use Rattle.sg_reports.specs.inside.Judging.{county};
 
     type Answer = CountyVerdict;
 
@@ -40,14 +40,19 @@ impl Judge for Counter {
         Ok(standing(step))
     }
 
-    fn end(self) -> CountyVerdict {
+    fn end(self, _alloc: Global) -> Result<CountyVerdict, NoMemory> {
+        let Counter { tally, .. } = self;
+        Ok(tally.end())
+    }
+
+    fn end_settled(self) -> CountyVerdict {
         let Counter { tally, .. } = self;
         tally.end()
     }
 
-    fn end_at_no_line(self) -> CountyVerdict {
+    fn end_at_no_line(self, _alloc: Global) -> Result<CountyVerdict, NoMemory> {
         let Counter { tally, .. } = self;
-        tally.end_at_no_line()
+        Ok(tally.end_at_no_line())
     }
 
     fn outcome(answer: &CountyVerdict) -> Outcome {

@@ -70,11 +70,6 @@ pub(crate) fn fault_outcome(fault: RecountFault) -> Outcome
 {
     match fault {
         RecountFault::Record { .. } => Outcome::No,
-        RecountFault::Printing(_) => Outcome::Refused,
-        RecountFault::Stand { .. } => Outcome::Refused,
-        RecountFault::Completion(_) => Outcome::Refused,
-        RecountFault::Opening { .. } => Outcome::Refused,
-        RecountFault::Posted { .. } => Outcome::Refused,
-        RecountFault::NoMemory => Outcome::NoMemory,
+        _ => Outcome::Refused,
     }
 }

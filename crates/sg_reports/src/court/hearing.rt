@@ -1,70 +1,225 @@
-//! The input of a recount, read line by line up to its end, or until no bytes behind can make it one.
-ghost use Rattle.std.specs.Prelude.{◌≡◌, []};
-ghost use Rattle.sg_outside.specs.Streams.{Seen, seen};
-ghost use Rattle.sg_reports.specs.court.inside.Hearing.{Hears, IsPosted, IsPostedSome};
+//! The input of a recount, judged line by line: first its record, and behind the line `printing` the other parts.
+ghost use Rattle.std.specs.Prelude.{◌≡◌, ◌≢◌, ◌<◌, ◌++◌, ◌∷◌, ℕ, IfErr, IfOk, List, OnErr, [], bytes_eq};
+ghost use Rattle.sg_parts.specs.Given.{printing_line};
+ghost use Rattle.sg_parts.specs.declared.parts.RecountFault.TheVariants.{NoMemory as WantsMemory};
+ghost use Rattle.sg_reports.specs.court.inside.Answering.{EndsAtNoLine, IsCourtAnswer, IsFault};
+ghost use Rattle.sg_reports.specs.court.inside.Hearing.{AtPrinting, Falls, Feeds, HearingGoes, IsSettled, Stands, StandsSome, hearing_left};
 
-use crate::court::judging::{Begun, judge_record};
-use crate::court::taking::{Taken, take_line};
-use sg_check::Kind;
-use sg_outside::{Lines, Source};
-use sg_plan::Word;
-use sg_plan::limits::LONGEST_LINE;
+use crate::court::answer::CourtAnswer;
+use crate::court::found::{Question, find};
+use crate::court::record::RecordTaken;
+use sg_driver::Standing;
+use sg_plan::NoMemory;
+use sg_recount::{PartsReading, RecountFault};
 use std::alloc::Global;
+use std::mem;
 
-/// The most lines that a record, its printing and its completion have: 1,200,000 of the record, the line `printing` and
-/// 660,000 of the sheet, the line `completion` and 200,000 of the rows.
-const MOST_LINES: u32 = 2_060_002;
-
-/// What was heard of an input.
-#[derive(Clone, Copy, Debug, PartialEq, Eq)]
-pub(crate) enum Heard {
-    /// Its text, or a front of it that no text of a recount begins with; and the verdict on its record is yes.
-    Text,
-    /// The verdict on its record is no, and no more was read.
-    No {
-        /// The number of the line.
-        line: u32,
-        /// What it is bad in.
-        kind: Kind,
-    },
-    /// A read failed.
-    Fault,
-    /// Memory was wanted and not found.
-    NoMemory,
+/// The lines that were taken.
+#[derive(Drop)]
+pub(crate) enum Taken {
+    /// Lines of the record.
+    Record(RecordTaken),
+    /// The record, whose verdict is yes, the line `printing`, and lines behind it.
+    Parts(PartsReading),
+    /// They settle this fault.
+    Fault(RecountFault),
 }
 
-/// Reads the input, and puts its text together. Its record is judged while it is read, and no more is read where that is no.
-/// Of an input that goes on behind all lines that it may have, or has a longer line, a front is read: the lines up to one too
-/// many, or to 16,384 bytes of that line. No more is taken either where a read fails or memory is wanted.
-pub(crate) fn hear<S: Source>(alloc: Global, input: &mut S, text: &mut Word) -> Heard
-    requires { text.old ≡ [] }
-    ensures { Hears result text.new (seen (S.left input.old) (S.faults input.old)) (seen (S.left input.new) (S.faults input.new)) }
-{
-    let Ok(mut lines) = Lines::new(alloc, LONGEST_LINE) else {
-        return Heard::NoMemory;
-    };
-    match judge_record(alloc, &mut lines, input, text) {
-        Begun::Good(count) => take_others(&mut lines, input, text, count),
-        Begun::Over(heard) => heard,
+/// What the next line was.
+#[derive(Clone, Copy, Debug)]
+enum Fed {
+    /// It settles nothing.
+    Open,
+    /// A bad line of the record.
+    Bad,
+    /// The line `printing`, behind the record.
+    Printing,
+    /// It settles this fault.
+    Off(RecountFault),
+}
+
+/// Judges the input of a recount.
+#[derive(Drop)]
+pub(crate) struct Hearing {
+    alloc: Global,
+    taken: Taken,
+}
+
+impl Hearing {
+    /// Before the first line.
+    pub(crate) fn new(alloc: Global) -> Result<Hearing, NoMemory>
+        ensures { IfOk result (λ hearing. Stands hearing.taken []) }
+    {
+        let record = RecordTaken::new(alloc)?;
+        Ok(Hearing {
+            alloc,
+            taken: Taken::Record(record),
+        })
     }
-}
 
-/// Takes the lines behind those that were taken, so many of them, up to the last or to one more than there may be.
-fn take_others<S: Source>(lines: &mut Lines, input: &mut S, text: &mut Word, before: u32) -> Heard
-    requires { IsPostedSome before text.old lines.old (seen (S.left input.old) (S.faults input.old)) }
-    ensures { (first : Seen) → IsPosted before text.old lines.old first (seen (S.left input.old) (S.faults input.old))
-        → Hears result text.new first (seen (S.left input.new) (S.faults input.new)) }
-{
-    let mut count = before;
-    while count <= MOST_LINES {
-        match take_line(lines, input, text) {
-            Taken::Line => {}
-            Taken::Rest => return Heard::Text,
-            Taken::End => return Heard::Text,
-            Taken::Fault => return Heard::Fault,
-            Taken::NoMemory => return Heard::NoMemory,
+    /// Takes the next line, where nothing is settled yet.
+    pub(crate) fn line(&mut self, line: &[u8]) -> Result<Standing, NoMemory>
+        requires { StandsSome self.old.taken }
+        ensures goes { IfOk result (λ standing. (lines : List (List ℕ)) → Stands self.old.taken lines → HearingGoes standing self.new.taken (lines ++ line.now ∷ [])) }
+        ensures falls { IfOk result (λ standing. standing ≡ Standing.Open → hearing_left self.new < hearing_left self.old) }
+    {
+        match feed(self.alloc, &mut self.taken, line)? {
+            Fed::Open => Ok(Standing::Open),
+            Fed::Bad => Ok(Standing::Settled),
+            Fed::Printing => self.begin(),
+            Fed::Off(fault) => {
+                drop(mem::replace(&mut self.taken, Taken::Fault(fault)));
+                Ok(Standing::Settled)
+            }
         }
-        count += 1;
     }
-    Heard::Text
+
+    /// Goes on behind the line `printing`.
+    fn begin(&mut self) -> Result<Standing, NoMemory>
+        requires { (lines : List (List ℕ)) × AtPrinting self.old.taken lines }
+        ensures goes { IfOk result (λ standing. (lines : List (List ℕ)) → AtPrinting self.old.taken lines → HearingGoes standing self.new.taken lines) }
+        ensures falls { IfOk result (λ standing. standing ≡ Standing.Open → hearing_left self.new < hearing_left self.old) }
+    {
+        let Taken::Record(record) = mem::replace(
+            &mut self.taken,
+            Taken::Fault(RecountFault::NoMemory),
+        ) else {
+            unreachable!()
+        };
+        match record.parts(self.alloc) {
+            Ok(parts) => {
+                drop(mem::replace(&mut self.taken, Taken::Parts(parts)));
+                Ok(Standing::Open)
+            }
+            Err(fault) => {
+                let fault = known(fault)?;
+                drop(mem::replace(&mut self.taken, Taken::Fault(fault)));
+                Ok(Standing::Settled)
+            }
+        }
+    }
+
+    /// The answer where there are no more lines.
+    pub(crate) fn end(self, question: Question, alloc: Global) -> Result<CourtAnswer, NoMemory>
+        requires { StandsSome self.taken }
+        ensures { IfOk result (λ answer. (lines : List (List ℕ)) → Stands self.taken lines → IsCourtAnswer question lines answer) }
+    {
+        match self.taken {
+            Taken::Record(record) => Ok(CourtAnswer::Fault(record.end())),
+            Taken::Parts(parts) => end_parts(question, alloc, parts),
+            Taken::Fault(_) => unreachable!(),
+        }
+    }
+
+    /// The fault that the lines settle.
+    pub(crate) fn end_settled(self) -> RecountFault
+        requires { (lines : List (List ℕ)) × IsSettled self.taken lines }
+        ensures { (lines more : List (List ℕ)) → IsSettled self.taken lines → IsFault (lines ++ more) result }
+    {
+        match self.taken {
+            Taken::Record(record) => record.end_settled(),
+            Taken::Parts(_) => unreachable!(),
+            Taken::Fault(fault) => fault,
+        }
+    }
+
+    /// The fault where the next bytes are no line.
+    pub(crate) fn end_at_no_line(self, alloc: Global) -> Result<RecountFault, NoMemory>
+        requires { StandsSome self.taken }
+        ensures { IfOk result (λ fault. (lines : List (List ℕ)) → Stands self.taken lines → EndsAtNoLine lines fault) }
+    {
+        match self.taken {
+            Taken::Record(record) => Ok(record.end_at_no_line()),
+            Taken::Parts(parts) => parts_fault(alloc, parts),
+            Taken::Fault(_) => unreachable!(),
+        }
+    }
+}
+
+/// The fault of parts where the next bytes are no line.
+fn parts_fault(alloc: Global, parts: PartsReading) -> Result<RecountFault, NoMemory>
+    requires { StandsSome (Taken.Parts parts) }
+    ensures { IfOk result (λ fault. (lines : List (List ℕ)) → Stands (Taken.Parts parts) lines → EndsAtNoLine lines fault) }
+{
+    let fault = parts.end_at_no_line(alloc)?;
+    Ok(fault)
+}
+
+/// The fault, or that memory was wanted.
+fn known(fault: RecountFault) -> Result<RecountFault, NoMemory>
+    ensures { IfOk result (λ found. (found ≢ WantsMemory) × (found ≡ fault)) }
+{
+    match fault {
+        RecountFault::NoMemory => Err(NoMemory),
+        _ => Ok(fault),
+    }
+}
+
+/// The line is `printing`.
+fn is_printing(line: &[u8]) -> bool
+    ensures { result ≡ bytes_eq line.now printing_line }
+{
+    line == b"printing\n".as_slice()
+}
+
+/// Feeds the next line of the record.
+fn feed_record(alloc: Global, taken: &mut RecordTaken, line: &[u8]) -> Result<Fed, NoMemory>
+    requires { StandsSome (Taken.Record taken.old) }
+    ensures goes { IfOk result (λ fed. (lines : List (List ℕ)) → Stands (Taken.Record taken.old) lines → Feeds fed (Taken.Record taken.new) (lines ++ line.now ∷ [])) }
+    ensures falls { IfOk result (λ fed. Falls fed (Taken.Record taken.old) (Taken.Record taken.new)) }
+{
+    if is_printing(line) {
+        return Ok(Fed::Printing);
+    }
+    match taken.line(alloc, line)? {
+        Standing::Open => Ok(Fed::Open),
+        Standing::Settled => Ok(Fed::Bad),
+    }
+}
+
+/// Feeds the next line behind `printing`.
+fn feed_parts(alloc: Global, parts: &mut PartsReading, line: &[u8]) -> Result<Fed, NoMemory>
+    requires { StandsSome (Taken.Parts parts.old) }
+    ensures goes { IfOk result (λ fed. (lines : List (List ℕ)) → Stands (Taken.Parts parts.old) lines → Feeds fed (Taken.Parts parts.new) (lines ++ line.now ∷ [])) }
+    ensures falls { IfOk result (λ fed. Falls fed (Taken.Parts parts.old) (Taken.Parts parts.new)) }
+{
+    match parts.take(alloc, line)? {
+        None => Ok(Fed::Open),
+        Some(fault) => Ok(Fed::Off(fault)),
+    }
+}
+
+/// Feeds the next line.
+fn feed(alloc: Global, taken: &mut Taken, line: &[u8]) -> Result<Fed, NoMemory>
+    requires { StandsSome taken.old }
+    ensures goes { IfOk result (λ fed. (lines : List (List ℕ)) → Stands taken.old lines → Feeds fed taken.new (lines ++ line.now ∷ [])) }
+    ensures falls { IfOk result (λ fed. Falls fed taken.old taken.new) }
+{
+    match taken {
+        Taken::Record(record) => feed_record(alloc, record, line),
+        Taken::Parts(parts) => feed_parts(alloc, parts, line),
+        Taken::Fault(_) => unreachable!(),
+    }
+}
+
+/// The answer on all parts, or their fault.
+fn end_parts(
+    question: Question,
+    alloc: Global,
+    parts: PartsReading,
+) -> Result<CourtAnswer, NoMemory>
+    requires { StandsSome (Taken.Parts parts) }
+    ensures { IfOk result (λ answer. (lines : List (List ℕ)) → Stands (Taken.Parts parts) lines → IsCourtAnswer question lines answer) }
+{
+    match parts.finish(alloc) {
+        Ok(parts) => {
+            let found = find(alloc, question, &parts);
+            drop(parts);
+            Ok(CourtAnswer::Found(found?))
+        }
+        Err(fault) => {
+            let fault = known(fault)?;
+            Ok(CourtAnswer::Fault(fault))
+        }
+    }
 }

@@ -8,15 +8,15 @@ use Rattle.sg_parts.specs.Given.{printing_of}
 use Rattle.sg_parts.specs.inside.Checks.{row_stands}
 use Rattle.sg_parts.proofs.read.check_standing.Goals as goal
 
-pub returns-in-Some-clause-err : goal.returns-in-Some-clause-err
-returns-in-Some-clause-err c =
+pub returns-in-Some : goal.returns-in-Some
+returns-in-Some c =
     wrong_is c.args.posted.now.plan (row_stands c.args.posted.now c.in_ok-known.known c.args.lists.now) (StandsAt c.args.posted.now.plan (places_in c.args.posted.now) (printing_of c.args.lists.now))
     c.in-Some.at.race c.in-Some.at.instance c.in-Some.at.row
     (λ r i x less passes. stands_there c.args.posted.now c.requires.accepted c.in_ok-known.known c.args.lists.now c.in_ok-known.ensures r i x passes)
     (λ r i x less fails stands. stands_not c.args.posted.now c.requires.accepted c.in_ok-known.known c.args.lists.now c.in_ok-known.ensures r i x less fails stands)
     c.in-Some.ensures
 
-pub returns-clause-ok : goal.returns-clause-ok
-returns-clause-ok c =
+pub returns : goal.returns
+returns c =
     stands_all c.args.posted.now c.requires.accepted c.args.lists.now
     (λ r i x half. stands_there c.args.posted.now c.requires.accepted c.in_ok-known.known c.args.lists.now c.in_ok-known.ensures r i x (c.in-None.ensures r i x half))

@@ -1,32 +1,31 @@
--- Section 1, and then the sections of the stage.
-use Rattle.std.proofs.Common.{◌∙◌}
-use Rattle.sg_record.proofs.Putting.{puts_stop, puts_then}
-use Rattle.sg_post.specs.inside.Lines.{later_lines, section_1}
-use Rattle.sg_post.proofs.Sealing.{sealed-after}
-use Rattle.sg_post.proofs.StoryLines.{story-lines}
+-- The story's record is formed, and its lines are those of the stage.
 use Rattle.std.proofs.Common.{[]}
+use Rattle.sg_record.proofs.Putting.{puts_same}
+use Rattle.sg_post.proofs.PostedFormed.{posted-formed}
+use Rattle.sg_post.proofs.Sealing.{seal-where}
+use Rattle.sg_post.proofs.Stories.{draw-fits, story-draw, story-lines, story-parts}
 use Rattle.sg_post.proofs.write.put_story.Goals as goal
 
-pub put_later-requires-clause-version : goal.put_later-requires-clause-version
-put_later-requires-clause-version g c = c.in_ok-put_commitments.ensures.version ∙ c.requires.version
+pub key_of-key-requires : goal.key_of-key-requires
+key_of-key-requires g c = story-draw c.args.tables.now.plan c.args.story.now _ c.requires.fits c.draw_of-draw.ensures
 
-pub put_later-requires-clause-seal : goal.put_later-requires-clause-seal
-put_later-requires-clause-seal g c =
-    let plan = c.args.tables.now.plan in
-    sealed-after _ _ _ plan.version [] (section_1 plan c.args.tables.now.seed) c.requires.version c.requires.seal c.in_ok-put_commitments.ensures
+pub put_stage-requires-clause-ready : goal.put_stage-requires-clause-ready
+put_stage-requires-clause-ready g c =
+    let parts = story-parts c.args.tables.now.plan c.args.story.now c.requires.fits in
+    record { posting = c.requires.posting; fates = parts.fates; claims = parts.claims; key = c.key_of-key.ensures }
 
-pub returns-in_err-put_commitments : goal.returns-in_err-put_commitments
-returns-in_err-put_commitments g c =
+pub put_stage-requires-clause-formed : goal.put_stage-requires-clause-formed
+put_stage-requires-clause-formed g c =
     let plan = c.args.tables.now.plan in
-    let seed = c.args.tables.now.seed in
     let story = c.args.story.now in
-    rw (story-lines plan seed story c.args.posting.now c.requires.posting)
-    (puts_stop _ _ _ _ (section_1 plan seed) (later_lines plan seed story.fates story.claims c.args.posting.now story.stage) c.from_residual.ensures.0 c.in_err-put_commitments.ensures)
+    let parts = story-parts plan story c.requires.fits in
+    posted-formed plan c.args.tables.now.seed story.fates _ story.claims c.requires.limits parts.fates (draw-fits plan story _ c.requires.fits c.draw_of-draw.ensures) parts.claims
+
+pub put_stage-requires-clause-index : goal.put_stage-requires-clause-index
+put_stage-requires-clause-index g c = c.requires.posting.index
+
+pub put_stage-requires-clause-seal : goal.put_stage-requires-clause-seal
+put_stage-requires-clause-seal g c = seal-where c.args.pen.now.seal [] c.requires.seal
 
 pub returns : goal.returns
-returns g c =
-    let plan = c.args.tables.now.plan in
-    let seed = c.args.tables.now.seed in
-    let story = c.args.story.now in
-    rw (story-lines plan seed story c.args.posting.now c.requires.posting)
-    (puts_then _ _ _ _ _ (section_1 plan seed) (later_lines plan seed story.fates story.claims c.args.posting.now story.stage) c.in_ok-put_commitments.ensures c.put_later.ensures)
+returns g c = puts_same _ _ _ _ _ (story-lines c.args.tables.now.plan c.args.tables.now.seed c.args.story.now _ c.draw_of-draw.ensures) c.put_stage.ensures

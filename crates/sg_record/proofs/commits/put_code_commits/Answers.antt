@@ -1,16 +1,28 @@
 -- The races follow one another.
-use Rattle.std.proofs.Common.{arith}
-use Rattle.sg_record.proofs.Putting.{list_end, list_fault, list_next}
+use Rattle.std.proofs.Common.{[], arith}
+use Rattle.std.proofs.lemmas.List.{drop_more}
+use Rattle.sg_record.proofs.FormedLists.{entries_len, formed_parts}
+use Rattle.sg_record.proofs.Putting.{left_all, list_end, list_fault, list_next}
 use Rattle.sg_record.specs.Lines.{race_code_commit_lines}
 use Rattle.sg_record.proofs.commits.put_code_commits.Goals as goal
 
-pub returns-in_err-put_race_code_commits : goal.returns-in_err-put_race_code_commits
-returns-in_err-put_race_code_commits g c =
-    list_fault _ _ _ _ _ (race_code_commit_lines) c.args.lists.now c.loop-race.race c.get.result.now c.loop-race.invariant c.get.ensures.rest c.from_residual.ensures.0 c.in_err-put_race_code_commits.ensures
+pub loop-race-init : goal.loop-race-init
+loop-race-init g c = left_all _ _
+
+pub returns-in_err-put_race_codes : goal.returns-in_err-put_race_codes
+returns-in_err-put_race_codes g c =
+    let posted = g.P.Posts.posted c.args.posted.now in
+    let many = entries_len posted.plan posted.code_commits (formed_parts posted c.requires.formed).code_commits in
+    list_fault _ _ _ _ _ race_code_commit_lines posted.code_commits c.loop-race.race _ c.loop-race.invariant (drop_more posted.code_commits c.loop-race.race [] (omega (arith, many, c.count_races-race-end.ensures))) c.from_residual.ensures.0 c.in_err-put_race_codes.ensures
 
 pub loop-race-preserved : goal.loop-race-preserved
 loop-race-preserved g c =
-    list_next _ _ _ _ (race_code_commit_lines) c.args.lists.now c.loop-race.race c.get.result.now c.loop-race.invariant c.get.ensures.rest c.in_ok-put_race_code_commits.ensures
+    let posted = g.P.Posts.posted c.args.posted.now in
+    let many = entries_len posted.plan posted.code_commits (formed_parts posted c.requires.formed).code_commits in
+    list_next _ _ _ _ race_code_commit_lines posted.code_commits c.loop-race.race _ c.loop-race.invariant (drop_more posted.code_commits c.loop-race.race [] (omega (arith, many, c.count_races-race-end.ensures))) c.in_ok-put_race_codes.ensures
 
 pub returns : goal.returns
-returns g c = list_end _ _ _ (race_code_commit_lines) c.args.lists.now c.loop-race.race c.loop-race.invariant (omega arith)
+returns g c =
+    let posted = g.P.Posts.posted c.args.posted.now in
+    let many = entries_len posted.plan posted.code_commits (formed_parts posted c.requires.formed).code_commits in
+    list_end _ _ _ race_code_commit_lines posted.code_commits c.loop-race.race c.loop-race.invariant (omega (arith, many, c.count_races-race-end.ensures))

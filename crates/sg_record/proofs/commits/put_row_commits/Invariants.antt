@@ -5,4 +5,4 @@ use Rattle.sg_record.specs.Pens.{moment}
 use Rattle.sg_record.proofs.commits.put_row_commits.Given as goal
 
 abbrev pub invariant-loop-race : goal.invariant-loop-race
-invariant-loop-race g l = LeftFrom (moment g.O.Sink.written g.O.Sink.faults l.fn.pen l.fn.out) (moment g.O.Sink.written g.O.Sink.faults l.pen l.out) (race_row_commit_lines) l.lists l.race
+invariant-loop-race g l = LeftFrom (moment g.O.Sink.written g.O.Sink.faults l.fn.pen l.fn.out) (moment g.O.Sink.written g.O.Sink.faults l.pen l.out) race_row_commit_lines (g.P.Posts.posted l.posted).row_commits l.race

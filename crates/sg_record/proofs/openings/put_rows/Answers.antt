@@ -1,16 +1,28 @@
 -- The races follow one another.
-use Rattle.std.proofs.Common.{arith}
-use Rattle.sg_record.proofs.Putting.{list_end, list_fault, list_next}
+use Rattle.std.proofs.Common.{[], arith}
+use Rattle.std.proofs.lemmas.List.{drop_more}
+use Rattle.sg_record.proofs.FormedLists.{formed_parts, rows_have}
+use Rattle.sg_record.proofs.Putting.{left_all, list_end, list_fault, list_next}
 use Rattle.sg_record.specs.Lines.{race_row_lines}
 use Rattle.sg_record.proofs.openings.put_rows.Goals as goal
 
+pub loop-race-init : goal.loop-race-init
+loop-race-init g c = left_all _ _
+
 pub returns-in_err-put_race_rows : goal.returns-in_err-put_race_rows
 returns-in_err-put_race_rows g c =
-    list_fault _ _ _ _ _ (race_row_lines) c.args.lists.now c.loop-race.race c.get.result.now c.loop-race.invariant c.get.ensures.rest c.from_residual.ensures.0 c.in_err-put_race_rows.ensures
+    let posted = g.P.Posts.posted c.args.posted.now in
+    let many = (rows_have posted.plan posted.rows (formed_parts posted c.requires.formed).rows).many in
+    list_fault _ _ _ _ _ race_row_lines posted.rows c.loop-race.race _ c.loop-race.invariant (drop_more posted.rows c.loop-race.race [] (omega (arith, many, c.count_races-race-end.ensures))) c.from_residual.ensures.0 c.in_err-put_race_rows.ensures
 
 pub loop-race-preserved : goal.loop-race-preserved
 loop-race-preserved g c =
-    list_next _ _ _ _ (race_row_lines) c.args.lists.now c.loop-race.race c.get.result.now c.loop-race.invariant c.get.ensures.rest c.in_ok-put_race_rows.ensures
+    let posted = g.P.Posts.posted c.args.posted.now in
+    let many = (rows_have posted.plan posted.rows (formed_parts posted c.requires.formed).rows).many in
+    list_next _ _ _ _ race_row_lines posted.rows c.loop-race.race _ c.loop-race.invariant (drop_more posted.rows c.loop-race.race [] (omega (arith, many, c.count_races-race-end.ensures))) c.in_ok-put_race_rows.ensures
 
 pub returns : goal.returns
-returns g c = list_end _ _ _ (race_row_lines) c.args.lists.now c.loop-race.race c.loop-race.invariant (omega arith)
+returns g c =
+    let posted = g.P.Posts.posted c.args.posted.now in
+    let many = (rows_have posted.plan posted.rows (formed_parts posted c.requires.formed).rows).many in
+    list_end _ _ _ race_row_lines posted.rows c.loop-race.race c.loop-race.invariant (omega (arith, many, c.count_races-race-end.ensures))

@@ -1,10 +1,10 @@
 -- The pen is one of the record's version, and its lines are the text.
-use Rattle.std.proofs.Common.{ℕ, ap, subst}
+use Rattle.std.proofs.Common.{ℕ, [], ap, subst, sym}
 use Rattle.std.specs.Io.KnownBytes.{Appends}
 use Rattle.sg_record.proofs.FormedLists.{formed_parts}
 use Rattle.sg_record.proofs.Limits.{version_of}
 use Rattle.sg_record.specs.Lines.{lines_in, text_of}
-use Rattle.sg_record.specs.Pens.{Ink}
+use Rattle.sg_record.specs.Pens.{Ink, SealsWhere}
 use Rattle.sg_record.specs.Writing.{text_in}
 use Rattle.sg_record.proofs.write.write_record.Goals as goal
 
@@ -19,3 +19,6 @@ unfolding text_of
 returns-in-Ok-put_record-clause-ends g c =
     let bytes = rw c.in-Ok-put_record.is at c.put_record.ensures.bytes in
     subst (λ (v : ℕ). Appends (g.O.Sink.written c.args.out.now) (g.O.Sink.written c.put_record.new.out) (text_in v (lines_in c.args.posted.now))) (ap (λ (pen : Ink). pen.version) c.in-Ok.ensures) bytes
+
+pub put_record-requires-clause-seal : goal.put_record-requires-clause-seal
+put_record-requires-clause-seal g c = subst (λ (pen : Ink). SealsWhere ⊥ pen.seal []) (sym c.in-Ok.ensures) (λ never. never)

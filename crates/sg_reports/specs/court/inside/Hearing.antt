@@ -1,22 +1,20 @@
--- What was heard of an input.
-use Rattle.std.specs.Prelude.{◌≡◌, ℕ, ◌+◌, ◌<◌, ◌≤◌, ◌⊎◌, List, [], ◌∷◌, ◌++◌, length, IfSome, Option}
-use Rattle.std.specs.Io.KnownBytes.{Consumes, IsAtEnd}
-use Rattle.sg_plan.specs.Limits.{longest_line}
-use Rattle.sg_outside.specs.Cutting.{Cutting}
-use Rattle.sg_outside.specs.Faults.{Rose}
-use Rattle.sg_outside.specs.Streams.{Seen}
-use Rattle.sg_outside.specs.TextLines.{lines_of}
-use Rattle.sg_check.specs.Verdict.{IsVerdict}
-use Rattle.sg_check.specs.declared.judged.Judged.TheVariants as judged
-use Rattle.sg_check.specs.declared.judged.Kind.{Kind}
-use Rattle.sg_check.specs.declared.judged.Total.{Total}
-use Rattle.sg_driver.specs.Taken.{TookOneMore}
-use Rattle.sg_parts.specs.Faults.{IsAccepting, lines_behind, record_lines}
+-- What was heard of the lines so far.
+use Rattle.std.specs.Prelude.{◌≡◌, ℕ, ◌+◌, ◌<◌, ◌≤◌, true, false, List, ◌∷◌, ◌++◌, length}
+use Rattle.sg_check.specs.Verdict.{AreFine}
+use Rattle.sg_driver.specs.declared.judge.Standing.{Standing}
+use Rattle.sg_driver.specs.declared.judge.Standing.TheVariants.{Open, Settled}
+use Rattle.sg_judge.specs.Pass.{StandsFor, is_open as is_unbroken, left_in}
+use Rattle.sg_parts.specs.Faults.{lines_behind, record_lines}
 use Rattle.sg_parts.specs.Given.{printing_line}
-use Rattle.sg_reports.specs.court.Heard.{EndsLong, HasOneMore, IsRead, IsUnsettled, TookUnsettled, most_bytes}
-use Rattle.sg_reports.specs.court.inside.Taking.{HasTaken}
-use Rattle.sg_reports.specs.declared.court.hearing.Heard.{Heard}
-use Rattle.sg_reports.specs.declared.court.hearing.Heard.TheVariants as heard
+use Rattle.sg_parts.specs.Reads.{HasRead, lines_left}
+use Rattle.sg_record.specs.Taking.{HasTaken}
+use Rattle.sg_reports.specs.court.inside.Answering.{IsFault}
+use Rattle.sg_reports.specs.declared.court.hearing.Fed.{Fed}
+use Rattle.sg_reports.specs.declared.court.hearing.Fed.TheVariants as fed
+use Rattle.sg_reports.specs.declared.court.hearing.Hearing.{Hearing}
+use Rattle.sg_reports.specs.declared.court.hearing.Taken.{Taken}
+use Rattle.sg_reports.specs.declared.court.hearing.Taken.TheVariants as taken
+use Rattle.sg_reports.specs.declared.court.record.RecordTaken.{RecordTaken}
 
 -- WHERE THE RECORD ENDS
 
@@ -32,48 +30,84 @@ pub record HasNoWord (lines : List (List ℕ)) : Type 0 where
   pub before : (more : List (List ℕ)) → record_lines (lines ++ more) ≡ lines ++ record_lines more
   pub behind : (more : List (List ℕ)) → lines_behind (lines ++ more) ≡ lines_behind more
 
--- so many lines were taken, and are the text; the record ends among them, and its verdict is yes
-pub record IsPosted (count : ℕ) (text : List ℕ) (lines : Cutting) (first now : Seen) : Type 0 where
-  pub has : HasTaken count text lines first.bytes now.bytes
-  pub totals : List Total
-  pub good : IsVerdict (record_lines has.done) (judged.Yes totals)
-  pub word : HasWord has.done
-  pub later : first.faults ≤ now.faults
+-- all are these lines of the record, that line and these behind it
+pub record HasPrinting (lines all more : List (List ℕ)) : Type 0 where
+  pub before : record_lines all ≡ lines
+  pub behind : lines_behind all ≡ printing_line ∷ more
 
-abbrev pub IsPostedSome : ℕ → List ℕ → Cutting → Seen → Type 0
-IsPostedSome count text lines now = (first : Seen) × IsPosted count text lines first now
+-- THE RECORD
 
--- WHAT WAS HEARD
+-- the lines are of a record, and fine, and were taken
+pub record IsTaken (taken : RecordTaken) (lines : List (List ℕ)) : Type 0 where
+  pub stands : StandsFor taken.pass lines
+  pub unbroken : is_unbroken taken.pass ≡ true
+  pub fine : AreFine lines
+  pub reads : HasTaken taken.reader lines
+  pub count : taken.count ≡ length lines
+  pub wordless : HasNoWord lines
 
--- the input was read to its end, or until no text that goes on so has all parts for its length
-pub record IsReadOn (before now : Option (List ℕ)) (text : List ℕ) : Type 0 where
-  pub ahead : List ℕ
-  pub few : length ahead < longest_line
-  pub taken : Consumes before now (text ++ ahead)
-  pub bound : length text + length ahead ≤ most_bytes
-  pub stops : ((ahead ≡ []) × IsAtEnd now) ⊎ (HasOneMore text ⊎ EndsLong text)
+-- and the last of them is bad
+pub record IsBroken (taken : RecordTaken) (lines : List (List ℕ)) : Type 0 where
+  pub stands : StandsFor taken.pass lines
+  pub broken : is_unbroken taken.pass ≡ false
+  pub wordless : HasNoWord lines
 
--- the verdict on the record is yes
-abbrev pub IsYes : List (List ℕ) → Type 0
-IsYes lines = IsAccepting (record_lines lines)
+abbrev pub RecordGoes : Standing → RecordTaken → List (List ℕ) → Type 0
+RecordGoes Open taken lines = IsTaken taken lines
+RecordGoes Settled taken lines = IsBroken taken lines
 
--- this text was read, and the verdict on its record is yes
-pub record HearsText (text : List ℕ) (before now : Option (List ℕ)) : Type 0 where
-  pub is_read : IsReadOn before now text
-  pub good : IsYes (lines_of text)
-  pub took : TookUnsettled before now
+abbrev pub record_left : RecordTaken → ℕ
+record_left taken = left_in taken.pass
 
--- the verdict on the record is no
-pub record HearsNo (line : ℕ) (broken : Kind) (before now : Option (List ℕ)) : Type 0 where
-  pub read : List ℕ
-  pub is_read : IsRead before now read
-  pub no : IsVerdict (record_lines (lines_of read)) (judged.No line broken)
-  pub told : IfSome before (λ bytes. IsVerdict (record_lines (lines_of bytes)) (judged.No line broken))
-  pub took : TookOneMore IsUnsettled before now
+-- ALL LINES
 
--- what was heard of an input
-abbrev pub Hears : Heard → List ℕ → Seen → Seen → Type 0
-Hears heard.Text text input input' = HearsText text input.bytes input'.bytes
-Hears (heard.No line broken) text input input' = HearsNo line broken input.bytes input'.bytes
-Hears heard.Fault text input input' = Rose input.faults input'.faults × TookUnsettled input.bytes input'.bytes
-Hears heard.NoMemory text input input' = TookUnsettled input.bytes input'.bytes
+-- they were taken, and settle nothing
+abbrev pub Stands : Taken → List (List ℕ) → Type 0
+Stands (taken.Record posted) lines = IsTaken posted lines
+Stands (taken.Parts parts) lines = HasRead parts lines
+Stands (taken.Fault wrong) lines = ⊥
+
+abbrev pub StandsSome : Taken → Type 0
+StandsSome taken = (lines : List (List ℕ)) × Stands taken lines
+
+-- they settle a fault, however they go on
+abbrev pub IsSettled : Taken → List (List ℕ) → Type 0
+IsSettled (taken.Record posted) lines = IsBroken posted lines
+IsSettled (taken.Parts parts) lines = ⊥
+IsSettled (taken.Fault wrong) lines = (more : List (List ℕ)) → IsFault (lines ++ more) wrong
+
+abbrev pub HearingGoes : Standing → Taken → List (List ℕ) → Type 0
+HearingGoes Open taken lines = Stands taken lines
+HearingGoes Settled taken lines = IsSettled taken lines
+
+-- more lines than may still come: of the record, and those of the parts that are longest; or of the parts
+abbrev pub taken_left : Taken → ℕ
+taken_left (taken.Record posted) = record_left posted + 860010
+taken_left (taken.Parts parts) = lines_left parts
+taken_left (taken.Fault wrong) = 0
+
+abbrev pub hearing_left : Hearing → ℕ
+hearing_left hearing = taken_left hearing.taken
+
+-- the last of the lines is `printing`, and those before it are of a record, and were taken
+pub record IsAtPrinting (taken : RecordTaken) (all : List (List ℕ)) : Type 0 where
+  pub lines : List (List ℕ)
+  pub is_taken : IsTaken taken lines
+  pub printing : (more : List (List ℕ)) → HasPrinting lines (all ++ more) more
+
+abbrev pub AtPrinting : Taken → List (List ℕ) → Type 0
+AtPrinting (taken.Record posted) lines = IsAtPrinting posted lines
+AtPrinting _ lines = ⊥
+
+-- what the last of the lines was
+abbrev pub Feeds : Fed → Taken → List (List ℕ) → Type 0
+Feeds fed.Open taken lines = Stands taken lines
+Feeds fed.Bad taken lines = IsSettled taken lines
+Feeds fed.Printing taken lines = AtPrinting taken lines
+Feeds (fed.Off wrong) taken lines = (more : List (List ℕ)) → IsFault (lines ++ more) wrong
+
+-- then fewer may still come, or at the line `printing` no more
+abbrev pub Falls : Fed → Taken → Taken → Type 0
+Falls fed.Open old new = taken_left new < taken_left old
+Falls fed.Printing old new = taken_left new ≤ taken_left old
+Falls _ old new = Unit {0}

@@ -1,5 +1,5 @@
 use Rattle.std.proofs.Common.{◌≡◌, ◌||◌, Bool, get_or, false, Option, sym, ap₂, ◌∙◌}
-use Rattle.sg_check.specs.Facts.{is_flagged, is_marked, is_set, left_of, right_of}
+use Rattle.sg_check.specs.Facts.{is_flagged, is_marked, is_set, opened_left, opened_right}
 use Rattle.sg_check.specs.Kinds.{wrong_left_flag, wrong_right_flag}
 use Rattle.sg_commit.specs.declared.Opening.{Opening}
 use Rattle.sg_ledger.proofs.Judged.{flag_judged}
@@ -14,12 +14,12 @@ returns c = λ lines tells.
     let told : get_or c.args.self.now.bits.flagged c.args.at false ≡ is_flagged race c.args.instance c.args.row lines =
     rw c.requires.at (tells.bits.flagged race c.args.instance c.args.row in_plan.0 in_plan.1 in_plan.2) in
     let flag_is : c.look-flag.result ≡ is_flagged race c.args.instance c.args.row lines = sym (c.look-flag.ensures false) ∙ told in
-    let left : c.is_flag_wrong-left.result ≡ wrong_left_flag plan lines race (is_flagged race c.args.instance c.args.row lines) (left_of c.args.opening.now) =
+    let left : c.is_flag_wrong-left.result ≡ wrong_left_flag plan lines race (is_flagged race c.args.instance c.args.row lines) (opened_left c.args.opening.now) =
     c.is_flag_wrong-left.ensures
     ∙ (flag_judged (entries_of plan race) (λ k. get_or c.args.self.now.codes.marked (entry_place plan race k) false) (λ k. is_marked plan race k lines) c.look-flag.result c.left_opening.result
     (λ k below. tells.codes.marked race k in_plan.0 below)
     ∙ ap₂ (λ (f : Bool) (o : Option Opening). wrong_left_flag plan lines race f o) flag_is c.left_opening.ensures) in
-    let right : c.is_flag_wrong-right.result ≡ wrong_right_flag plan lines race (is_flagged race c.args.instance c.args.row lines) (right_of c.args.opening.now) =
+    let right : c.is_flag_wrong-right.result ≡ wrong_right_flag plan lines race (is_flagged race c.args.instance c.args.row lines) (opened_right c.args.opening.now) =
     c.is_flag_wrong-right.ensures
     ∙ (flag_judged (entries_of plan race) (λ k. get_or c.args.self.now.bits.places (entry_place plan race k) false) (λ k. is_set race k lines) c.look-flag.result c.right_opening.result
     (λ k below. tells.bits.places race k in_plan.0 below)

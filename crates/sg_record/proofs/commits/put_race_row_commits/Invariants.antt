@@ -1,8 +1,0 @@
--- What is written so far, and what is left.
-use Rattle.sg_record.proofs.Putting.{LeftFrom}
-use Rattle.sg_record.specs.Lines.{instance_row_commit_lines}
-use Rattle.sg_record.specs.Pens.{moment}
-use Rattle.sg_record.proofs.commits.put_race_row_commits.Given as goal
-
-abbrev pub invariant-loop-instance : goal.invariant-loop-instance
-invariant-loop-instance g l = LeftFrom (moment g.O.Sink.written g.O.Sink.faults l.fn.pen l.fn.out) (moment g.O.Sink.written g.O.Sink.faults l.pen l.out) (instance_row_commit_lines l.race) l.instances l.instance
