@@ -29,7 +29,8 @@ use Rattle.sg_record.specs.Places.{code_place, commit_places, dispute_places, dr
 use Rattle.sg_record.specs.declared.record.Record.{Record}
 use Rattle.sg_check.proofs.Fronts.{any-before}
 use Rattle.sg_check.specs.Facts.{DisputedCode, last_claim, marks_code, shows_disputed}
-use Rattle.sg_check.specs.Kinds.{bad_dispute, is_right, wrong_answer}
+use Rattle.sg_check.specs.Kinds.{is_right, wrong_answer}
+use Rattle.sg_check.specs.inside.ByKind.{bad_dispute}
 use Rattle.sg_post.proofs.FormedCodes.{has-within}
 use Rattle.sg_post.proofs.MarkedCodes.{marked-counted, posts_code, right-same}
 use Rattle.sg_post.specs.Posted.{code_in_row, code_line_of, dispute_of, posted_record}

@@ -2,6 +2,7 @@
 use Rattle.std.proofs.Common.{◌≡◌, ℕ, ◌<◌, ◌==◌, nat_lt, Bool, true, false, ◌&&◌, ◌||◌, not, List, [], None, Some, refl, sym, ap, ◌∙◌, arith}
 use Rattle.std.proofs.lemmas.Bool.{and_right, eq-eqb, ne_eqb, or_from}
 use Rattle.std.specs.List.{list_all}
+use Rattle.sg_plan.specs.declared.plan.Side.TheVariants as side
 use Rattle.sg_plan.specs.Ballots.{entries_of}
 use Rattle.sg_plan.specs.Limits.{fault_of}
 use Rattle.sg_plan.specs.declared.plan.Draw.{Draw}
@@ -14,8 +15,9 @@ use Rattle.sg_grammar.specs.Placed.{Placed}
 use Rattle.sg_grammar.specs.Placed.Placed.{RowAt}
 use Rattle.sg_record.specs.Places.{places_in}
 use Rattle.sg_check.specs.Completions.{IsHalfOf}
-use Rattle.sg_check.specs.Facts.{is_flagged, is_marked as posted_marked, is_set as posted_set, opened_left, opened_right}
-use Rattle.sg_check.specs.Kinds.{bad_flag, differ, wrong_left_flag, wrong_right_flag}
+use Rattle.sg_check.specs.Facts.{is_flagged, is_marked as posted_marked, is_set as posted_set, opened_on}
+use Rattle.sg_check.specs.Kinds.{differ}
+use Rattle.sg_check.specs.inside.ByKind.{bad_flag, wrong_flag_on}
 use Rattle.sg_post.specs.Fits.{claim_fits, fates_fit}
 use Rattle.sg_post.specs.Marks.{flag_of, is_entry_marked, is_place_set}
 use Rattle.sg_post.specs.Posted.{posted_record}
@@ -57,7 +59,7 @@ module _ (plan : Plan) (seed : List ℕ) (fates : List Told) (draw : Draw) (clai
     unfolding flag_of
     flagged = flagged-kept lines before (RowAt race instance number opening) front (omega arith) race instance number ∙ flag_is plan seed fates draw claims race instance number within
 
-    left_fine : wrong_left_flag plan before race (is_flagged race instance number before) (Some (left_opening_of plan seed race instance number)) ≡ false
+    left_fine : wrong_flag_on side.Left plan before race (is_flagged race instance number before) (Some (left_opening_of plan seed race instance number)) ≡ false
     left_fine =
         let pointer = (left_opening_of plan seed race instance number).value in
         and_right (nat_lt pointer (entries_of plan race)) _
@@ -66,7 +68,7 @@ module _ (plan : Plan) (seed : List ℕ) (fates : List Told) (draw : Draw) (clai
         ∙ sym (ap (λ (e : ℕ). posted_marked plan race e before) (opening_laws.left plan seed race instance number)
         ∙ (marked-kept lines before (RowAt race instance number opening) front (omega arith) plan race entry ∙ marked_is plan seed fates draw claims fine fit race entry within.0))))
 
-    right_fine : wrong_right_flag plan before race (is_flagged race instance number before) (Some (right_opening_of plan seed race instance number)) ≡ false
+    right_fine : wrong_flag_on side.Right plan before race (is_flagged race instance number before) (Some (right_opening_of plan seed race instance number)) ≡ false
     right_fine =
         let pointer = (right_opening_of plan seed race instance number).value in
         let path = path_of plan seed race entry in
@@ -78,7 +80,7 @@ module _ (plan : Plan) (seed : List ℕ) (fates : List Told) (draw : Draw) (clai
         ∙ (set_is plan seed fates draw claims race path within.0 ((pointer_laws.paths plan seed race).below entry below) ∙ set-marked plan seed fates race entry below)))))
 
     row-fine : (opened : RowOpening) → OpensRow plan seed race instance number opened
-        → (wrong_left_flag plan before race (is_flagged race instance number before) (opened_left opened) || wrong_right_flag plan before race (is_flagged race instance number before) (opened_right opened)) ≡ false
+        → (wrong_flag_on side.Left plan before race (is_flagged race instance number before) (opened_on side.Left opened) || wrong_flag_on side.Right plan before race (is_flagged race instance number before) (opened_on side.Right opened)) ≡ false
     row-fine (row.Left o) is = rw is (or_from _ false left_fine refl)
     row-fine (row.Right o) is = rw is right_fine
     row-fine (row.Both o p) is = rw (is.0, is.1) (or_from _ _ left_fine right_fine)

@@ -26,9 +26,9 @@ use Rattle.sg_grammar.specs.Placed.Placed.{CodeAt, RowAt}
 use Rattle.sg_grammar.specs.declared.state.Block.{Block}
 use Rattle.sg_grammar.specs.declared.state.Block.TheVariants as block
 use Rattle.sg_record.specs.Places.{places_in}
-use Rattle.sg_check.specs.Completions.{half_commitment}
-use Rattle.sg_check.specs.Facts.{code_commitment, opened_left, opened_right}
-use Rattle.sg_check.specs.Kinds.{bad_opening, bad_pointer_opening, opens_digest}
+use Rattle.sg_check.specs.Facts.{code_commitment, opened_on, half_commitment}
+use Rattle.sg_check.specs.Kinds.{opens_digest}
+use Rattle.sg_check.specs.inside.ByKind.{bad_opening, bad_pointer_opening}
 use Rattle.sg_post.specs.Fits.{claim_fits, fates_fit}
 use Rattle.sg_post.specs.Marks.{is_entry_audited}
 use Rattle.sg_post.specs.Posted.{both_sides, code_commit_of, code_in_row, committed, one_side, opened_row, posted_record, row_commit_of}
@@ -64,7 +64,7 @@ opens-committed digest kind race instance place opening is =
 
 row-opens : (plan : Plan) (seed : List ℕ) (race instance number : ℕ) (opening : RowOpening) (left right : Option Digest)
     → left ≡ Some (row_commit_of plan seed race instance number).left → right ≡ Some (row_commit_of plan seed race instance number).right → OpensRow plan seed race instance number opening
-    → (bad_pointer_opening left commit.L race instance number (opened_left opening) || bad_pointer_opening right commit.R race instance number (opened_right opening)) ≡ false
+    → (bad_pointer_opening left commit.L race instance number (opened_on side.Left opening) || bad_pointer_opening right commit.R race instance number (opened_on side.Right opening)) ≡ false
 unfolding row_commit_of
 row-opens plan seed race instance number (row.Left o) left right l r is =
     rw (is, opens-committed left commit.L race instance number (left_opening_of plan seed race instance number) l) refl

@@ -1,5 +1,5 @@
 -- Kind path: rows lead each entry to its own place, and entries of a ballot row to different candidates.
-use Rattle.std.proofs.Common.{◌≡◌, ◌≢◌, ℕ, ◌/◌, ◌%◌, ◌<◌, ◌==◌, nat_lt, Bool, false, ◌&&◌, ◌||◌, inl, inr, List, [], ◌∷◌, refl, sym, subst, ap, ◌∙◌}
+use Rattle.std.proofs.Common.{◌≡◌, ◌≢◌, ℕ, ◌/◌, ◌%◌, ◌<◌, ◌==◌, nat_lt, if◌then◌else◌, Bool, false, ◌&&◌, ◌||◌, not, inl, inr, List, [], ◌∷◌, refl, sym, subst, ap, ◌∙◌}
 use Rattle.std.proofs.lemmas.Bool.{and_left, and_right, cases_eq, eq-eqb, ne_eqb}
 use Rattle.std.specs.List.{list_any}
 use Rattle.sg_plan.specs.Ballots.{candidates_of, entries_of}
@@ -11,7 +11,8 @@ use Rattle.sg_tables.specs.Tables.{left_of as row_left, left_opening_of, path_of
 use Rattle.sg_forms.specs.declared.line.RowOpening.TheVariants as row
 use Rattle.sg_grammar.specs.Placed.{Placed}
 use Rattle.sg_grammar.specs.Placed.Placed.{RowAt}
-use Rattle.sg_check.specs.Kinds.{bad_path, clashes_with, leads_elsewhere}
+use Rattle.sg_check.specs.Kinds.{clashes_with}
+use Rattle.sg_check.specs.inside.ByKind.{bad_path}
 use Rattle.sg_accepted.proofs.Late.{Good}
 use Rattle.sg_record.specs.Places.{places_in}
 use Rattle.sg_post.specs.Posted.{posted_record}
@@ -44,7 +45,8 @@ leads plan seed race instance number left right within is also =
 
 -- such a row leads no other way than another such row
 elsewhere-not : (plan : Plan) (seed : List ℕ) (race entry place : ℕ) (left right : Opening) → entry < entries_of plan race → place ≡ path_of plan seed race entry → Leads plan seed race left right
-    → leads_elsewhere plan race entry place (row.Both left right) ≡ false
+    → ((nat_lt left.value (entries_of plan race) && nat_lt right.value (entries_of plan race))
+    && (if left.value == entry then not (right.value == place) else (left.value / candidates_of plan race == entry / candidates_of plan race && right.value % candidates_of plan race == place % candidates_of plan race))) ≡ false
 elsewhere-not plan seed race entry place left right within path other =
     and_right (nat_lt left.value (entries_of plan race) && nat_lt right.value (entries_of plan race)) _
     (elim (cases_eq left.value entry) [
@@ -75,8 +77,6 @@ clash-not plan seed race entry place (RowAt of instance number (row.Both left ri
           and_right (of == race) _ (elsewhere-not plan seed race entry place left right within path here)
       | inr differ ↦ and_left (of == race) _ (ne_eqb of race differ)
     ]
-clash-not plan seed race entry place (RowAt of instance number (row.Left left)) within path is = and_right (of == race) false refl
-clash-not plan seed race entry place (RowAt of instance number (row.Right right)) within path is = and_right (of == race) false refl
 clash-not plan seed race entry place line within path is = refl
 
 clashes-none : (plan : Plan) (seed : List ℕ) (race entry place : ℕ) (before : List Placed) → entry < entries_of plan race → place ≡ path_of plan seed race entry → EachOf (RowsRight plan seed) before

@@ -2,6 +2,7 @@
 use Rattle.std.proofs.Common.{◌≡◌, ◌≢◌, ℕ, ◌==◌, nat_le, false, ◌&&◌, List, [], Some, refl, sym, ◌∙◌, arith}
 use Rattle.std.proofs.lemmas.Bool.{and_left, and_right, ne_eqb, or_from}
 use Rattle.std.specs.List.{list_any}
+use Rattle.sg_plan.specs.declared.plan.Side.TheVariants as side
 use Rattle.sg_plan.specs.Ballots.{entries_of}
 use Rattle.sg_plan.specs.declared.plan.Draw.{Draw}
 use Rattle.sg_plan.specs.declared.plan.Plan.{Plan}
@@ -15,8 +16,8 @@ use Rattle.sg_record.specs.Places.{places_in}
 use Rattle.sg_record.specs.declared.record.Record.{Record}
 use Rattle.sg_check.proofs.BitsFound.{not_le}
 use Rattle.sg_check.specs.Completions.{IsHalfOf}
-use Rattle.sg_check.specs.Facts.{opened_left, opens_left, opens_right, points_to, opened_right}
-use Rattle.sg_check.specs.Kinds.{bad_left_pointer, bad_pointer, bad_right_pointer}
+use Rattle.sg_check.specs.Facts.{opened_on, opens_pointer, points_to}
+use Rattle.sg_check.specs.inside.ByKind.{bad_pointer, bad_pointer_on}
 use Rattle.sg_post.specs.Posted.{opened_row, posted_record}
 use Rattle.sg_post.specs.declared.story.Claimed.{Claimed}
 use Rattle.sg_post.specs.declared.story.Told.{Told}
@@ -29,12 +30,12 @@ use Rattle.sg_accepted.proofs.Posted.{SaysRight}
 use Rattle.sg_accepted.proofs.Rows.{any-earlier, in_instance, opened}
 
 -- a row with another left pointer does not open this one, nor one with another right pointer
-left-other : (plan : Plan) (seed : List ℕ) (race instance number v : ℕ) (opening : RowOpening) → OpensRow plan seed race instance number opening → row_left plan seed race instance number ≢ v → points_to v (opened_left opening) ≡ false
+left-other : (plan : Plan) (seed : List ℕ) (race instance number v : ℕ) (opening : RowOpening) → OpensRow plan seed race instance number opening → row_left plan seed race instance number ≢ v → points_to v (opened_on side.Left opening) ≡ false
 left-other plan seed race instance number v (row.Left o) is other = rw is (ne_eqb (left_opening_of plan seed race instance number).value v (λ e. other (sym (opening_laws.left plan seed race instance number) ∙ e)))
 left-other plan seed race instance number v (row.Right o) is other = refl
 left-other plan seed race instance number v (row.Both o p) is other = rw is.0 (ne_eqb (left_opening_of plan seed race instance number).value v (λ e. other (sym (opening_laws.left plan seed race instance number) ∙ e)))
 
-right-other : (plan : Plan) (seed : List ℕ) (race instance number v : ℕ) (opening : RowOpening) → OpensRow plan seed race instance number opening → row_right plan seed race instance number ≢ v → points_to v (opened_right opening) ≡ false
+right-other : (plan : Plan) (seed : List ℕ) (race instance number v : ℕ) (opening : RowOpening) → OpensRow plan seed race instance number opening → row_right plan seed race instance number ≢ v → points_to v (opened_on side.Right opening) ≡ false
 right-other plan seed race instance number v (row.Left o) is other = refl
 right-other plan seed race instance number v (row.Right o) is other = rw is (ne_eqb (right_opening_of plan seed race instance number).value v (λ e. other (sym (opening_laws.right plan seed race instance number) ∙ e)))
 right-other plan seed race instance number v (row.Both o p) is other = rw is.1 (ne_eqb (right_opening_of plan seed race instance number).value v (λ e. other (sym (opening_laws.right plan seed race instance number) ∙ e)))
@@ -48,36 +49,36 @@ module _ (plan : Plan) (seed : List ℕ) (fates : List Told) (draw : Draw) (clai
 
   module _ (before : List Placed) (race instance number : ℕ) (opening : RowOpening) (front : IsFront lines before (RowAt race instance number opening)) (within : IsHalfOf plan race instance number) where
     -- an earlier row has another pointer
-    left-none : list_any (opens_left race instance (row_left plan seed race instance number)) before ≡ false
+    left-none : list_any (opens_pointer side.Left race instance (row_left plan seed race instance number)) before ≡ false
     left-none =
-        any-earlier plan seed fates draw claims race instance before number opening front within (opens_left race instance (row_left plan seed race instance number)) only
-        ∙ none-below (λ n. opens_left race instance (row_left plan seed race instance number) (opened plan seed fates draw claims race instance n)) number
+        any-earlier plan seed fates draw claims race instance before number opening front within (opens_pointer side.Left race instance (row_left plan seed race instance number)) only
+        ∙ none-below (λ n. opens_pointer side.Left race instance (row_left plan seed race instance number) (opened plan seed fates draw claims race instance n)) number
         (λ n less. and_right (race == race && instance == instance) _
         (left-other plan seed race instance n (row_left plan seed race instance number) (opened_row plan seed fates draw race instance n) (opened-opens plan seed fates draw race instance n)
         (λ same. let one : n ≡ number = (pointer_laws.lefts plan seed race instance).one n number (omega (arith, less, within.2)) within.2 same in omega (arith, one, less))))
       where
-        only : (line : Placed) → in_instance race instance line ≡ false → opens_left race instance (row_left plan seed race instance number) line ≡ false
+        only : (line : Placed) → in_instance race instance line ≡ false → opens_pointer side.Left race instance (row_left plan seed race instance number) line ≡ false
         only (RowAt of i n o) is = and_left (of == race && i == instance) _ is
         only line is = refl
 
-    right-none : list_any (opens_right race instance (row_right plan seed race instance number)) before ≡ false
+    right-none : list_any (opens_pointer side.Right race instance (row_right plan seed race instance number)) before ≡ false
     right-none =
-        any-earlier plan seed fates draw claims race instance before number opening front within (opens_right race instance (row_right plan seed race instance number)) only
-        ∙ none-below (λ n. opens_right race instance (row_right plan seed race instance number) (opened plan seed fates draw claims race instance n)) number
+        any-earlier plan seed fates draw claims race instance before number opening front within (opens_pointer side.Right race instance (row_right plan seed race instance number)) only
+        ∙ none-below (λ n. opens_pointer side.Right race instance (row_right plan seed race instance number) (opened plan seed fates draw claims race instance n)) number
         (λ n less. and_right (race == race && instance == instance) _
         (right-other plan seed race instance n (row_right plan seed race instance number) (opened_row plan seed fates draw race instance n) (opened-opens plan seed fates draw race instance n)
         (λ same. let one : n ≡ number = (pointer_laws.rights plan seed race instance).one n number (omega (arith, less, within.2)) within.2 same in omega (arith, one, less))))
       where
-        only : (line : Placed) → in_instance race instance line ≡ false → opens_right race instance (row_right plan seed race instance number) line ≡ false
+        only : (line : Placed) → in_instance race instance line ≡ false → opens_pointer side.Right race instance (row_right plan seed race instance number) line ≡ false
         only (RowAt of i n o) is = and_left (of == race && i == instance) _ is
         only line is = refl
 
-    left-fine : bad_left_pointer plan before race instance (Some (left_opening_of plan seed race instance number)) ≡ false
+    left-fine : bad_pointer_on side.Left plan before race instance (Some (left_opening_of plan seed race instance number)) ≡ false
     left-fine =
         rw (opening_laws.left plan seed race instance number)
         (or_from (nat_le (entries_of plan race) (row_left plan seed race instance number)) _ (not_le (entries_of plan race) (row_left plan seed race instance number) ((pointer_laws.lefts plan seed race instance).below number within.2)) left-none)
 
-    right-fine : bad_right_pointer plan before race instance (Some (right_opening_of plan seed race instance number)) ≡ false
+    right-fine : bad_pointer_on side.Right plan before race instance (Some (right_opening_of plan seed race instance number)) ≡ false
     right-fine =
         rw (opening_laws.right plan seed race instance number)
         (or_from (nat_le (entries_of plan race) (row_right plan seed race instance number)) _ (not_le (entries_of plan race) (row_right plan seed race instance number) ((pointer_laws.rights plan seed race instance).below number within.2)) right-none)

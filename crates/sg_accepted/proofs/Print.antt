@@ -38,7 +38,8 @@ use Rattle.sg_record.specs.declared.record.BlockFate.{BlockFate}
 use Rattle.sg_record.specs.declared.record.Record.{Record}
 use Rattle.sg_check.specs.Completions.{IsHalfOf}
 use Rattle.sg_check.specs.Facts.{audited_code, audited_entries, audits_entry, audits_race, both_rows, draws_digits, first_given, is_audited as posted_audited, is_both, opens_both, paper_code, public_bytes, shows_paper}
-use Rattle.sg_check.specs.Kinds.{bad_print, is_there, wrong_audit, wrong_number, wrong_paper}
+use Rattle.sg_check.specs.Kinds.{is_there, wrong_audit, wrong_number, wrong_paper}
+use Rattle.sg_check.specs.inside.ByKind.{bad_print}
 use Rattle.sg_post.specs.Marks.{is_audit_fate, is_entry_audited, is_entry_of, told_audits}
 use Rattle.sg_post.specs.Posted.{audited_codes, both_sides, code_in_row, code_line_of, fate_blocks, one_side, opened_row, posted_record, told_blocks}
 use Rattle.sg_post.specs.declared.story.Claimed.{Claimed}

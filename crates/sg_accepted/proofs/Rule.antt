@@ -30,7 +30,8 @@ use Rattle.sg_grammar.specs.declared.state.Block.TheVariants as block
 use Rattle.sg_record.specs.Places.{code_place, paper_places, places_in}
 use Rattle.sg_record.specs.declared.record.Record.{Record}
 use Rattle.sg_check.specs.Facts.{marks_ballot}
-use Rattle.sg_check.specs.Kinds.{bad_rule, has_repeat, shows_against}
+use Rattle.sg_check.specs.Kinds.{has_repeat, shows_against}
+use Rattle.sg_check.specs.inside.ByKind.{bad_rule}
 use Rattle.sg_post.proofs.Each.{of-flat, of-passing}
 use Rattle.sg_post.proofs.MarkedCodes.{cast_overs, shows_mark}
 use Rattle.sg_post.proofs.OwnCodes.{HoldsOfOwn, marks-have}

@@ -19,7 +19,8 @@ use Rattle.sg_forms.specs.declared.line.RowOpening.{RowOpening}
 use Rattle.sg_grammar.specs.Placed.{Placed}
 use Rattle.sg_grammar.specs.Placed.Placed.{RowAt}
 use Rattle.sg_check.specs.Facts.{draws_digits, draws_full, first_given, is_both, is_full_draw, public_bytes}
-use Rattle.sg_check.specs.Kinds.{bad_side, is_off_coin, is_on_side}
+use Rattle.sg_check.specs.Kinds.{is_on_side}
+use Rattle.sg_check.specs.inside.ByKind.{bad_side}
 use Rattle.sg_record.specs.Typed.{AreDrawn}
 use Rattle.sg_post.specs.Fits.{claim_fits, fates_fit}
 use Rattle.sg_post.specs.Marks.{is_entry_audited}
@@ -45,13 +46,13 @@ row-sided : (plan : Plan) (seed : List ℕ) (fates : List Told) (draw : Draw) (b
 unfolding opened_row
 row-sided plan seed fates drawn.Full before race instance number are full digits =
     let none : public_bytes before ≡ None = ap (option_map bytes_of_digits) digits in
-    ap (λ (b : Bool). b || option_map_or (is_off_coin race instance number (both_sides plan seed race instance number)) (public_bytes before) false) (and-false (is_full_draw before))
-    ∙ ap (λ (o : Option (List ℕ)). option_map_or (is_off_coin race instance number (both_sides plan seed race instance number)) o false) none
+    ap (λ (b : Bool). b || option_map_or (λ public. not (is_on_side (coin_of (coin_seed public) race instance number) (both_sides plan seed race instance number))) (public_bytes before) false) (and-false (is_full_draw before))
+    ∙ ap (λ (o : Option (List ℕ)). option_map_or (λ public. not (is_on_side (coin_of (coin_seed public) race instance number) (both_sides plan seed race instance number))) o false) none
 row-sided plan seed fates (drawn.Public bytes) before race instance number are full digits =
     let opening : RowOpening = opened_row plan seed fates (drawn.Public bytes) race instance number in
     let some : public_bytes before ≡ Some bytes = ap (option_map bytes_of_digits) digits ∙ ap (λ (l : List ℕ). Some l) (spelled_are_public (encode_lower bytes) bytes (bytes_everywhere bytes are) refl) in
-    ap (λ (b : Bool). (b && not (is_both opening)) || option_map_or (is_off_coin race instance number opening) (public_bytes before) false) full
-    ∙ (ap (λ (o : Option (List ℕ)). option_map_or (is_off_coin race instance number opening) o false) some
+    ap (λ (b : Bool). (b && not (is_both opening)) || option_map_or (λ public. not (is_on_side (coin_of (coin_seed public) race instance number) opening)) (public_bytes before) false) full
+    ∙ (ap (λ (o : Option (List ℕ)). option_map_or (λ public. not (is_on_side (coin_of (coin_seed public) race instance number) opening)) o false) some
     ∙ ap not (on_side plan seed race instance number (coin_of (coin_seed bytes) race instance number) (is_entry_audited plan fates race (row_left plan seed race instance number))))
 
 module _ (plan : Plan) (seed : List ℕ) (fates : List Told) (draw : Draw) (claims : List Claimed) (are : AreDrawn draw) where

@@ -15,7 +15,7 @@ use Rattle.sg_record.specs.Places.{places_in}
 use Rattle.sg_check.proofs.Counting.{count-same}
 use Rattle.sg_check.proofs.Votes.{is_vote, places_in as in_plan, votes-count, votes_before}
 use Rattle.sg_check.specs.Facts.{votes_for}
-use Rattle.sg_check.specs.Kinds.{bad_total}
+use Rattle.sg_check.specs.inside.ByKind.{bad_total}
 use Rattle.sg_post.specs.Fits.{claim_fits, fates_fit}
 use Rattle.sg_post.specs.Marks.{is_place_set, total_of}
 use Rattle.sg_post.specs.Posted.{posted_record}

@@ -30,9 +30,9 @@ use Rattle.sg_record.specs.Lines.{lines_in}
 use Rattle.sg_record.specs.Places.{commit_places, draw_place, places_in, result_places}
 use Rattle.sg_check.proofs.BoundLaws.{whole_is}
 use Rattle.sg_check.proofs.Rows.{posted_row}
-use Rattle.sg_check.specs.Completions.{IsHalfOf, OpensNoneTwice, half_commitment, half_kind, opened_on}
-use Rattle.sg_check.specs.Facts.{is_both, is_full_draw}
-use Rattle.sg_check.specs.Kinds.{opens_digest}
+use Rattle.sg_check.specs.Completions.{IsHalfOf, OpensNoneTwice}
+use Rattle.sg_check.specs.Facts.{is_both, is_full_draw, half_commitment, opened_on}
+use Rattle.sg_check.specs.Kinds.{opens_digest, half_kind}
 use Rattle.sg_check.specs.Laws.{IsAccepted}
 use Rattle.sg_check.specs.Verdict.{totals_of}
 use Rattle.sg_post.specs.Fits.{claim_fits, fates_fit, stage_fits}

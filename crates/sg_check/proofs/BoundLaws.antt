@@ -26,7 +26,7 @@ use Rattle.sg_grammar.specs.declared.state.Head.TheVariants as head
 use Rattle.sg_grammar.specs.declared.state.Part.{Part}
 use Rattle.sg_grammar.specs.declared.state.Slot.{Slot}
 use Rattle.sg_check.proofs.FineLines.{do_flags_agree, pointers_stand_once, sides_are_drawn, totals_count}
-use Rattle.sg_check.specs.Facts.{draws_full, first_given, is_both, is_full_draw}
+use Rattle.sg_check.specs.Facts.{draws_full, first_given, is_both, is_full_draw, opened_on}
 use Rattle.sg_check.specs.Laws.{FullDrawEquals, IsAccepted, IsFineWalk, TotalsBound, TotalsStand}
 use Rattle.sg_check.specs.Verdict.{IsGood, total_on, totals_in}
 use Rattle.sg_check.specs.declared.judged.Total.{Total}
@@ -34,7 +34,7 @@ use Rattle.sg_check.proofs.Bounding.{total_bound}
 use Rattle.sg_check.proofs.Counting.{count-none}
 use Rattle.sg_check.proofs.Rows.{none_behind_row}
 use Rattle.sg_check.specs.Bounds.{AreTotalsEqual, DifferByAtMost}
-use Rattle.sg_check.specs.Completions.{Completion, OpensNoneTwice, altered_rows, is_altered, opened_on, posted_half, posts_half}
+use Rattle.sg_check.specs.Completions.{Completion, OpensNoneTwice, altered_rows, is_altered, posted_half, posts_half}
 use Rattle.sg_check.specs.Printings.{AreCodesDifferent, Printing, StandsWith, posted_count}
 
 -- a value that one of the lines gives is found

@@ -17,7 +17,7 @@ use Rattle.sg_grammar.specs.Parting.{Apart, IsLineIn, clash}
 use Rattle.sg_grammar.specs.Placed.{Placed}
 use Rattle.sg_grammar.specs.Placed.Placed.{CodeAt, RowAt, TotalAt}
 use Rattle.sg_grammar.specs.declared.state.Block.{Block}
-use Rattle.sg_check.specs.Facts.{is_marked, is_set, opened_left, opened_right, votes_for}
+use Rattle.sg_check.specs.Facts.{is_marked, is_set, opened_on, votes_for}
 use Rattle.sg_check.specs.Laws.{ArePointersOnce, AreTotalsCounted, DoFlagsAgree}
 use Rattle.sg_check.proofs.Counting.{IsOneToOne, count-same, counts_within}
 use Rattle.sg_check.proofs.Rows.{GoodHalf, first_given-some, good_half, one_half, one_row, posted_row}
@@ -74,7 +74,7 @@ posts plan lines race entry shown e =
             }
     at_line line among gives = cc
 
-both_of : (opening : RowOpening) (left right : Opening) → opened_left opening ≡ Some left → opened_right opening ≡ Some right → opening ≡ opened.Both left right
+both_of : (opening : RowOpening) (left right : Opening) → opened_on side.Left opening ≡ Some left → opened_on side.Right opening ≡ Some right → opening ≡ opened.Both left right
 both_of (opened.Left o) left right e d = cc
 both_of (opened.Right o) left right e d = cc
 both_of (opened.Both l r) left right e d = rw (same_Some l left e, same_Some r right d) refl
@@ -123,7 +123,7 @@ module _ (plan : Plan) (lines : List Placed) (apart : Apart clash lines) (once :
       let on_left = posted_row lines side.Left race instance row left e in
       let on_right = posted_row lines side.Right race instance row right d in
       let same = one_row lines race instance row on_left.0 on_right.0 apart on_left.1 on_right.1 in
-      let both = both_of on_left.0 left right on_left.2 (ap opened_right same ∙ on_right.2) in
+      let both = both_of on_left.0 left right on_left.2 (ap (opened_on side.Right) same ∙ on_right.2) in
       let post = posts plan lines race left.value shown code in
       stands race instance row left right post.block post.ballot post.column post.code (subst (λ (o : RowOpening). IsAmong lines (RowAt race instance row o)) both on_left.1) post.among post.entry_is
       ∙ post.code_is

@@ -12,9 +12,10 @@ use Rattle.sg_commit.specs.declared.Digest.{Digest}
 use Rattle.sg_grammar.specs.Lines.{IsAmong, placed_of}
 use Rattle.sg_check.proofs.Judging.{walked-least}
 use Rattle.sg_check.proofs.OneMore.{fine-all}
-use Rattle.sg_check.specs.Facts.{audited_code, audited_entries, both_rows, is_audited, is_both, is_flagged, is_full_draw, is_marked, is_set, left_commitment, opened_left, opens_both, opens_left, opens_right, paper_code, points_to, public_bytes, right_commitment, opened_right, votes_for}
+use Rattle.sg_check.specs.Facts.{audited_code, audited_entries, both_rows, is_audited, is_both, is_flagged, is_full_draw, is_marked, is_set, half_commitment, opened_on, opens_both, opens_pointer, paper_code, points_to, public_bytes, votes_for}
 use Rattle.sg_check.specs.Judging.{first_late, later_kinds}
-use Rattle.sg_check.specs.Kinds.{bad_left_pointer, bad_placed, bad_pointer_opening, bad_right_pointer, clashes_with, differ, is_bad, is_off_coin, is_on_side, is_there, opens_digest, shows_against, wrong_audit, wrong_left_flag, wrong_number, wrong_right_flag}
+use Rattle.sg_check.specs.Kinds.{bad_placed, clashes_with, differ, is_bad, is_on_side, is_there, opens_digest, shows_against, wrong_audit, wrong_number}
+use Rattle.sg_check.specs.inside.ByKind.{bad_pointer_on, bad_pointer_opening, wrong_flag_on}
 use Rattle.sg_check.specs.Laws.{AreCodesKnown, ArePointersOnce, AreSidesDrawn, AreTotalsCounted, CodesAreKnown, DoFlagsAgree, DoOpeningsOpen, DoPathsAgree, DoPrintsAgree, FlagsAgree, IsBefore, IsFineWalk, OpeningsOpen, PathsAgree, PointersStandOnce, PrintsAgree, SidesAreDrawn, TotalsCount}
 use Rattle.sg_check.specs.Verdict.{late}
 use Rattle.sg_check.specs.declared.judged.Kind.{Kind}
@@ -28,6 +29,7 @@ use Rattle.sg_grammar.specs.Placed.{Placed}
 use Rattle.sg_grammar.specs.Placed.Placed.{CodeAt, RowAt, TotalAt}
 use Rattle.sg_grammar.specs.Walk.{Posted, Walked}
 use Rattle.sg_grammar.specs.declared.state.Block.{Block}
+use Rattle.sg_plan.specs.declared.plan.Side.TheVariants as side
 use Rattle.sg_plan.specs.Ballots.{candidates_of, entries_of}
 use Rattle.sg_plan.specs.declared.plan.Plan.{Plan}
 
@@ -181,35 +183,35 @@ module _ (plan : Plan) (lines : List Placed) (rule : Fails kind.Rule plan lines)
 -- POINTERS
 
 module _ (plan : Plan) (lines : List Placed) (pointer : Fails kind.Pointer plan lines) where
-  left_good : (front rest : List Placed) (race instance row : ℕ) (opening : RowOpening) (left : Opening) → lines ≡ front ++ RowAt race instance row opening ∷ rest → opened_left opening ≡ Some left
-      → (nat_le (entries_of plan race) left.value || list_any (opens_left race instance left.value) front) ≡ false
+  left_good : (front rest : List Placed) (race instance row : ℕ) (opening : RowOpening) (left : Opening) → lines ≡ front ++ RowAt race instance row opening ∷ rest → opened_on side.Left opening ≡ Some left
+      → (nat_le (entries_of plan race) left.value || list_any (opens_pointer side.Left race instance left.value) front) ≡ false
   left_good front rest race instance row opening left is of =
-      sym (ap (bad_left_pointer plan front race instance) of) ∙ neither_left _ _ (pointer front rest (RowAt race instance row opening) is)
+      sym (ap (bad_pointer_on side.Left plan front race instance) of) ∙ neither_left _ _ (pointer front rest (RowAt race instance row opening) is)
 
-  right_good : (front rest : List Placed) (race instance row : ℕ) (opening : RowOpening) (right : Opening) → lines ≡ front ++ RowAt race instance row opening ∷ rest → opened_right opening ≡ Some right
-      → (nat_le (entries_of plan race) right.value || list_any (opens_right race instance right.value) front) ≡ false
+  right_good : (front rest : List Placed) (race instance row : ℕ) (opening : RowOpening) (right : Opening) → lines ≡ front ++ RowAt race instance row opening ∷ rest → opened_on side.Right opening ≡ Some right
+      → (nat_le (entries_of plan race) right.value || list_any (opens_pointer side.Right race instance right.value) front) ≡ false
   right_good front rest race instance row opening right is of =
-      sym (ap (bad_right_pointer plan front race instance) of) ∙ neither_right _ _ (pointer front rest (RowAt race instance row opening) is)
+      sym (ap (bad_pointer_on side.Right plan front race instance) of) ∙ neither_right _ _ (pointer front rest (RowAt race instance row opening) is)
 
-  left_below : (race instance row : ℕ) (opening : RowOpening) (left : Opening) → IsAmong lines (RowAt race instance row opening) → opened_left opening ≡ Some left → left.value < entries_of plan race
+  left_below : (race instance row : ℕ) (opening : RowOpening) (left : Opening) → IsAmong lines (RowAt race instance row opening) → opened_on side.Left opening ≡ Some left → left.value < entries_of plan race
   left_below race instance row opening left (front, rest, is) of = above (entries_of plan race) left.value (neither_left _ _ (left_good front rest race instance row opening left is of))
 
-  right_below : (race instance row : ℕ) (opening : RowOpening) (right : Opening) → IsAmong lines (RowAt race instance row opening) → opened_right opening ≡ Some right → right.value < entries_of plan race
+  right_below : (race instance row : ℕ) (opening : RowOpening) (right : Opening) → IsAmong lines (RowAt race instance row opening) → opened_on side.Right opening ≡ Some right → right.value < entries_of plan race
   right_below race instance row opening right (front, rest, is) of = above (entries_of plan race) right.value (neither_left _ _ (right_good front rest race instance row opening right is of))
 
   left_differ : (race instance row other_row : ℕ) (opening other : RowOpening) (left other_left : Opening) → IsBefore lines (RowAt race instance row opening) (RowAt race instance other_row other)
-      → opened_left opening ≡ Some left → opened_left other ≡ Some other_left → left.value ≢ other_left.value
+      → opened_on side.Left opening ≡ Some left → opened_on side.Left other ≡ Some other_left → left.value ≢ other_left.value
   left_differ race instance row other_row opening other left other_left (front, between, rest, is) of other_of =
       let good = left_good (front ++ RowAt race instance row opening ∷ between) rest race instance other_row other other_left (later_parts lines front between rest _ _ is) other_of in
-      let none = any_at (opens_left race instance other_left.value) front between (RowAt race instance row opening) (neither_right _ _ good) in
+      let none = any_at (opens_pointer side.Left race instance other_left.value) front between (RowAt race instance row opening) (neither_right _ _ good) in
       not_equal left.value other_left.value
       (sym (ap (points_to other_left.value) of) ∙ not_both ((race == race) && (instance == instance)) _ (both_so (race == race) (instance == instance) (eq-eqb race race refl) (eq-eqb instance instance refl)) none)
 
   right_differ : (race instance row other_row : ℕ) (opening other : RowOpening) (right other_right : Opening) → IsBefore lines (RowAt race instance row opening) (RowAt race instance other_row other)
-      → opened_right opening ≡ Some right → opened_right other ≡ Some other_right → right.value ≢ other_right.value
+      → opened_on side.Right opening ≡ Some right → opened_on side.Right other ≡ Some other_right → right.value ≢ other_right.value
   right_differ race instance row other_row opening other right other_right (front, between, rest, is) of other_of =
       let good = right_good (front ++ RowAt race instance row opening ∷ between) rest race instance other_row other other_right (later_parts lines front between rest _ _ is) other_of in
-      let none = any_at (opens_right race instance other_right.value) front between (RowAt race instance row opening) (neither_right _ _ good) in
+      let none = any_at (opens_pointer side.Right race instance other_right.value) front between (RowAt race instance row opening) (neither_right _ _ good) in
       not_equal right.value other_right.value
       (sym (ap (points_to other_right.value) of) ∙ not_both ((race == race) && (instance == instance)) _ (both_so (race == race) (instance == instance) (eq-eqb race race refl) (eq-eqb instance instance refl)) none)
 
@@ -224,16 +226,16 @@ module _ (plan : Plan) (lines : List Placed) (pointer : Fails kind.Pointer plan 
   -- FLAGS
 
   module _ (flag : Fails kind.Flag plan lines) where
-    left_agrees : (front rest : List Placed) (race instance row : ℕ) (opening : RowOpening) (left : Opening) → lines ≡ front ++ RowAt race instance row opening ∷ rest → opened_left opening ≡ Some left
+    left_agrees : (front rest : List Placed) (race instance row : ℕ) (opening : RowOpening) (left : Opening) → lines ≡ front ++ RowAt race instance row opening ∷ rest → opened_on side.Left opening ≡ Some left
         → is_flagged race instance row front ≡ is_marked plan race left.value front
     left_agrees front rest race instance row opening left is of =
-        let good = sym (ap (wrong_left_flag plan front race (is_flagged race instance row front)) of) ∙ neither_left _ _ (flag front rest (RowAt race instance row opening) is) in
+        let good = sym (ap (wrong_flag_on side.Left plan front race (is_flagged race instance row front)) of) ∙ neither_left _ _ (flag front rest (RowAt race instance row opening) is) in
         same_test _ _ (not_both _ _ (lt-ltb left.value (entries_of plan race) (left_below race instance row opening left (front, rest, is) of)) good)
 
-    right_agrees : (front rest : List Placed) (race instance row : ℕ) (opening : RowOpening) (right : Opening) → lines ≡ front ++ RowAt race instance row opening ∷ rest → opened_right opening ≡ Some right
+    right_agrees : (front rest : List Placed) (race instance row : ℕ) (opening : RowOpening) (right : Opening) → lines ≡ front ++ RowAt race instance row opening ∷ rest → opened_on side.Right opening ≡ Some right
         → is_flagged race instance row front ≡ is_set race right.value front
     right_agrees front rest race instance row opening right is of =
-        let good = sym (ap (wrong_right_flag plan front race (is_flagged race instance row front)) of) ∙ neither_right _ _ (flag front rest (RowAt race instance row opening) is) in
+        let good = sym (ap (wrong_flag_on side.Right plan front race (is_flagged race instance row front)) of) ∙ neither_right _ _ (flag front rest (RowAt race instance row opening) is) in
         same_test _ _ (not_both _ _ (lt-ltb right.value (entries_of plan race) (right_below race instance row opening right (front, rest, is) of)) good)
 
     flags_agree : DoFlagsAgree plan lines
@@ -329,20 +331,20 @@ openings_open : (plan : Plan) (lines : List Placed) → Fails kind.Opening plan 
 openings_open plan lines opens = record {
   code = λ front rest block ballot race column code is. not_false _ (opens front rest (CodeAt block ballot race column code) is);
   left = λ front rest race instance row opening left is of.
-      opening_there (left_commitment race instance row front) commit.L race instance row (opened_left opening) left of (neither_left _ _ (opens front rest (RowAt race instance row opening) is));
+      opening_there (half_commitment front side.Left race instance row) commit.L race instance row (opened_on side.Left opening) left of (neither_left _ _ (opens front rest (RowAt race instance row opening) is));
   right = λ front rest race instance row opening right is of.
-      opening_there (right_commitment race instance row front) commit.R race instance row (opened_right opening) right of (neither_right _ _ (opens front rest (RowAt race instance row opening) is));
+      opening_there (half_commitment front side.Right race instance row) commit.R race instance row (opened_on side.Right opening) right of (neither_right _ _ (opens front rest (RowAt race instance row opening) is));
 }
 
 -- SIDES
 
 sides_drawn : (plan : Plan) (lines : List Placed) → Fails kind.Side plan lines → AreSidesDrawn lines
-sides_drawn plan lines side = record {
+sides_drawn plan lines sided = record {
   full = λ front rest race instance row opening is full.
-      not_false (is_both opening) (not_both (is_full_draw front) _ full (neither_left _ _ (side front rest (RowAt race instance row opening) is)));
+      not_false (is_both opening) (not_both (is_full_draw front) _ full (neither_left _ _ (sided front rest (RowAt race instance row opening) is)));
   coin = λ front rest race instance row opening public is of.
       not_false (is_on_side (coin_of (coin_seed public) race instance row) opening)
-      (sym (ap (λ (o : Option (List ℕ)). option_map_or (is_off_coin race instance row opening) o false) of) ∙ neither_right _ _ (side front rest (RowAt race instance row opening) is));
+      (sym (ap (λ (o : Option (List ℕ)). option_map_or (λ bytes. not (is_on_side (coin_of (coin_seed bytes) race instance row) opening)) o false) of) ∙ neither_right _ _ (sided front rest (RowAt race instance row opening) is));
 }
 
 -- TOTALS

@@ -16,13 +16,13 @@ use Rattle.sg_grammar.specs.Parting.{IsLineIn}
 use Rattle.sg_grammar.specs.Placed.{Placed}
 use Rattle.sg_grammar.specs.Placed.Placed.{RowAt}
 use Rattle.sg_check.proofs.FineLines.{do_openings_open}
-use Rattle.sg_check.specs.Facts.{commits_left, commits_right, first_given}
-use Rattle.sg_check.specs.Kinds.{opens_digest}
+use Rattle.sg_check.specs.Facts.{commits_half, first_given, half_commitment, opened_on}
+use Rattle.sg_check.specs.Kinds.{opens_digest, half_kind}
 use Rattle.sg_check.specs.Laws.{CompletionExists, DoOpeningsOpen}
 use Rattle.sg_check.proofs.BoundLaws.{are_in_plan, fine}
 use Rattle.sg_check.proofs.Rows.{posted_row}
 use Rattle.sg_check.specs.Bounds.{HasCompletion}
-use Rattle.sg_check.specs.Completions.{half_commitment, half_kind, opened_on, posted_half}
+use Rattle.sg_check.specs.Completions.{posted_half}
 
 -- the first value of a front is the first of all
 first_of_front : {B : Type 0} (given : Placed → Option B) (front rest : List Placed) (value : B) → first_given given front ≡ Some value → first_given given (front ++ rest) ≡ Some value
@@ -58,10 +58,10 @@ module _ (plan : Plan) (lines : List Placed) (opens : DoOpeningsOpen plan lines)
       → opens_digest (half_commitment lines on race instance row) (half_kind on) race instance row o ≡ true
   side_opens side.Left race instance row opening o (front, rest, is) of =
       subst (λ (l : List Placed). opens_digest (half_commitment l side.Left race instance row) (half_kind side.Left) race instance row o ≡ true) (sym is)
-      (opens_all (commits_left race instance row) front (RowAt race instance row opening ∷ rest) (half_kind side.Left) race instance row o (opens.left front rest race instance row opening o is of))
+      (opens_all (commits_half side.Left race instance row) front (RowAt race instance row opening ∷ rest) (half_kind side.Left) race instance row o (opens.left front rest race instance row opening o is of))
   side_opens side.Right race instance row opening o (front, rest, is) of =
       subst (λ (l : List Placed). opens_digest (half_commitment l side.Right race instance row) (half_kind side.Right) race instance row o ≡ true) (sym is)
-      (opens_all (commits_right race instance row) front (RowAt race instance row opening ∷ rest) (half_kind side.Right) race instance row o (opens.right front rest race instance row opening o is of))
+      (opens_all (commits_half side.Right race instance row) front (RowAt race instance row opening ∷ rest) (half_kind side.Right) race instance row o (opens.right front rest race instance row opening o is of))
 
   pub has_completion : HasCompletion plan lines
   has_completion = record {

@@ -14,11 +14,11 @@ use Rattle.sg_grammar.specs.Lines.{IsAmong, is_cast}
 use Rattle.sg_grammar.specs.Parting.{Apart, None_of, clash, is_before_rows}
 use Rattle.sg_grammar.specs.Placed.{Placed}
 use Rattle.sg_grammar.specs.Placed.Placed.{CodeAt, FlagsAt, PlacesAt, RowAt}
-use Rattle.sg_check.specs.Facts.{first_given, flags_row, is_flagged, marks_entry, points_to, sets_place}
-use Rattle.sg_check.specs.Kinds.{differ}
+use Rattle.sg_check.specs.Facts.{first_given, flags_row, is_flagged, marks_entry, points_to, sets_place, opened_on}
+use Rattle.sg_check.specs.Kinds.{differ, is_counted}
 use Rattle.sg_check.specs.Laws.{ArePointersOnce, DoFlagsAgree, IsBefore}
 use Rattle.sg_grammar.proofs.Lists.{apart-behind, none-weaken}
-use Rattle.sg_check.specs.Completions.{Completion, OpensNoneTwice, any_below, is_counted, is_half_altered, is_repeated, is_wrong_pointer, opened_on, posted_half, posts_half}
+use Rattle.sg_check.specs.Completions.{Completion, OpensNoneTwice, any_below, is_half_altered, is_repeated, is_wrong_pointer, posted_half, posts_half}
 
 -- LINES AMONG LINES
 

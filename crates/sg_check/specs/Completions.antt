@@ -2,28 +2,19 @@
 -- (this project's rules for the record).
 use Rattle.std.specs.Prelude.{◌≡◌, ℕ, zero, suc, ◌/◌, ◌%◌, ◌<◌, ◌==◌, nat_le, nat_lt, if◌then◌else◌, Bool, true, false, ◌&&◌, ◌||◌, not, List, length, Option, Some, None, IsSome, is_none}
 use Rattle.std.specs.Option.{option_map_or}
-use Rattle.sg_commit.specs.declared.CommitKind.{CommitKind}
-use Rattle.sg_commit.specs.declared.CommitKind.TheVariants as commit
-use Rattle.sg_commit.specs.declared.Digest.{Digest}
 use Rattle.sg_commit.specs.declared.Opening.{Opening}
 use Rattle.sg_forms.specs.Spelling.{IsOpening}
-use Rattle.sg_forms.specs.declared.line.RowOpening.{RowOpening}
 use Rattle.sg_plan.specs.Ballots.{candidates_of, entries_of}
 use Rattle.sg_plan.specs.declared.plan.Plan.{Plan}
 use Rattle.sg_plan.specs.declared.plan.Side.{Side}
 use Rattle.sg_plan.specs.declared.plan.Side.TheVariants as side
 use Rattle.sg_grammar.specs.Placed.{Placed}
 use Rattle.sg_grammar.specs.Placed.Placed.{RowAt}
-use Rattle.sg_check.specs.Facts.{first_given, is_flagged, is_marked, is_set, left_commitment, opened_left, points_to, right_commitment, opened_right}
-use Rattle.sg_check.specs.Kinds.{differ, opens_digest}
+use Rattle.sg_check.specs.Facts.{first_given, half_commitment, is_flagged, opened_on, points_to}
+use Rattle.sg_check.specs.Kinds.{differ, half_kind, is_counted, opens_digest}
 use Rattle.sg_check.specs.Printings.{Printing, count_below, marked_code}
 
 -- THE HALVES OF ROWS: a half is a side, a race, an instance and a row
-
--- the opening of a half on its row's line
-abbrev pub opened_on : Side → RowOpening → Option Opening
-opened_on side.Left opening = opened_left opening
-opened_on side.Right opening = opened_right opening
 
 -- the line posts this half
 abbrev pub posts_half : Side → ℕ → ℕ → ℕ → Placed → Option Opening
@@ -33,16 +24,6 @@ posts_half on race instance row line = None
 -- what the record posts of a half: none where the half is unopened
 abbrev pub posted_half : List Placed → Side → ℕ → ℕ → ℕ → Option Opening
 posted_half lines on race instance row = first_given (posts_half on race instance row) lines
-
--- the commitment of a half
-abbrev pub half_commitment : List Placed → Side → ℕ → ℕ → ℕ → Option Digest
-half_commitment lines side.Left race instance row = left_commitment race instance row lines
-half_commitment lines side.Right race instance row = right_commitment race instance row lines
-
--- the kind of that commitment
-abbrev pub half_kind : Side → CommitKind
-half_kind side.Left = commit.L
-half_kind side.Right = commit.R
 
 -- the plan has this row
 abbrev pub IsHalfOf : Plan → ℕ → ℕ → ℕ → Type 0
@@ -72,11 +53,6 @@ OpensNoneTwice lines completion =
 abbrev pub any_below : (ℕ → Bool) → ℕ → Bool
 any_below test zero = false
 any_below test (suc n) = any_below test n || test n
-
--- the entry that a left pointer leads to is marked, or the place that a right pointer leads to is set
-abbrev pub is_counted : Plan → List Placed → Side → ℕ → ℕ → Bool
-is_counted plan lines side.Left race pointer = is_marked plan race pointer lines
-is_counted plan lines side.Right race pointer = is_set race pointer lines
 
 -- another row of the instance has this pointer on the side
 abbrev pub is_repeated : Plan → Completion → Side → ℕ → ℕ → ℕ → ℕ → Bool

@@ -7,10 +7,12 @@ use Rattle.sg_commit.specs.declared.Digest.{Digest}
 use Rattle.sg_commit.specs.declared.Opening.{Opening}
 use Rattle.sg_forms.specs.Reading.{bytes_of_digits}
 use Rattle.sg_forms.specs.declared.line.RowOpening.{RowOpening}
-use Rattle.sg_forms.specs.declared.line.RowOpening.TheVariants as row
+use Rattle.sg_forms.specs.declared.line.RowOpening.TheVariants as opened
 use Rattle.sg_plan.specs.Ballots.{ballot_row, candidates_of, entry_at}
 use Rattle.sg_plan.specs.declared.plan.ClaimWord.{ClaimWord}
 use Rattle.sg_plan.specs.declared.plan.Plan.{Plan}
+use Rattle.sg_plan.specs.declared.plan.Side.{Side}
+use Rattle.sg_plan.specs.declared.plan.Side.TheVariants as side
 use Rattle.sg_grammar.specs.Lines.{is_audit, is_cast, is_dispute}
 use Rattle.sg_grammar.specs.Placed.{Placed}
 use Rattle.sg_grammar.specs.Placed.Placed.{CodeCommitAt, RowCommitAt, CodeAt, PaperAt, FlagsAt, PlacesAt, DrawnFull, DrawnPublic, RowAt, Disputed}
@@ -31,21 +33,19 @@ commits_code race entry line = None
 abbrev pub code_commitment : ℕ → ℕ → List Placed → Option Digest
 code_commitment race entry lines = first_given (commits_code race entry) lines
 
--- the line commits to the left pointer of this row
-abbrev pub commits_left : ℕ → ℕ → ℕ → Placed → Option Digest
-commits_left race instance number (RowCommitAt of within at left right) = (if (of == race && within == instance) && at == number then Some left else None)
-commits_left race instance number line = None
+-- of what is given of both sides, that of this side
+abbrev pub of_side : {A : Type 0} → Side → A → A → A
+of_side side.Left left right = left
+of_side side.Right left right = right
 
--- the line commits to the right pointer of this row
-abbrev pub commits_right : ℕ → ℕ → ℕ → Placed → Option Digest
-commits_right race instance number (RowCommitAt of within at left right) = (if (of == race && within == instance) && at == number then Some right else None)
-commits_right race instance number line = None
+-- the line commits to this half: to the pointer of this row on this side
+abbrev pub commits_half : Side → ℕ → ℕ → ℕ → Placed → Option Digest
+commits_half on race instance row (RowCommitAt of within at left right) = (if (of == race && within == instance) && at == row then Some (of_side on left right) else None)
+commits_half on race instance row line = None
 
-abbrev pub left_commitment : ℕ → ℕ → ℕ → List Placed → Option Digest
-left_commitment race instance number lines = first_given (commits_left race instance number) lines
-
-abbrev pub right_commitment : ℕ → ℕ → ℕ → List Placed → Option Digest
-right_commitment race instance number lines = first_given (commits_right race instance number) lines
+-- the commitment of a half
+abbrev pub half_commitment : List Placed → Side → ℕ → ℕ → ℕ → Option Digest
+half_commitment lines on race instance row = first_given (commits_half on race instance row) lines
 
 -- CODES AND MARKS
 
@@ -142,34 +142,25 @@ votes_for plan race candidate lines = sum_by (votes_on plan race candidate) line
 -- ROWS
 
 -- the pointer that is opened on a side
-abbrev pub opened_left : RowOpening → Option Opening
-opened_left (row.Left opening) = Some opening
-opened_left (row.Right opening) = None
-opened_left (row.Both left right) = Some left
-
-abbrev pub opened_right : RowOpening → Option Opening
-opened_right (row.Left opening) = None
-opened_right (row.Right opening) = Some opening
-opened_right (row.Both left right) = Some right
+abbrev pub opened_on : Side → RowOpening → Option Opening
+opened_on on (opened.Both left right) = Some (of_side on left right)
+opened_on side.Left (opened.Left opening) = Some opening
+opened_on side.Right (opened.Right opening) = Some opening
+opened_on on opening = None
 
 -- the opening is of this pointer
 abbrev pub points_to : ℕ → Option Opening → Bool
 points_to pointer opening = option_map_or (λ o. o.value == pointer) opening false
 
--- the line is a row of the instance that opens this left pointer
-abbrev pub opens_left : ℕ → ℕ → ℕ → Placed → Bool
-opens_left race instance pointer (RowAt of within number opening) = (of == race && within == instance) && points_to pointer (opened_left opening)
-opens_left race instance pointer line = false
+-- the line is a row of the instance that opens this pointer on the side
+abbrev pub opens_pointer : Side → ℕ → ℕ → ℕ → Placed → Bool
+opens_pointer on race instance pointer (RowAt of within number opening) = (of == race && within == instance) && points_to pointer (opened_on on opening)
+opens_pointer on race instance pointer line = false
 
--- the line is a row of the instance that opens this right pointer
-abbrev pub opens_right : ℕ → ℕ → ℕ → Placed → Bool
-opens_right race instance pointer (RowAt of within number opening) = (of == race && within == instance) && points_to pointer (opened_right opening)
-opens_right race instance pointer line = false
-
+-- the row is opened on both sides
 abbrev pub is_both : RowOpening → Bool
-is_both (row.Left opening) = false
-is_both (row.Right opening) = false
-is_both (row.Both left right) = true
+is_both (opened.Both left right) = true
+is_both opening = false
 
 -- the line is a row of the instance that is opened on both sides
 abbrev pub opens_both : ℕ → ℕ → Placed → Bool

@@ -7,6 +7,7 @@ use Rattle.sg_forms.specs.declared.line.RowOpening.{RowOpening}
 use Rattle.sg_forms.specs.declared.line.RowOpening.TheVariants as opened
 use Rattle.sg_plan.specs.Ballots.{candidates_of, entries_of, entry_at}
 use Rattle.sg_plan.specs.declared.plan.Plan.{Plan}
+use Rattle.sg_plan.specs.declared.plan.Side.TheVariants as side
 use Rattle.sg_streams.specs.CoinSides.{coin_of, coin_seed}
 use Rattle.sg_grammar.specs.Lines.{IsAmong, placed_of}
 use Rattle.sg_grammar.specs.Placed.{Placed}
@@ -14,7 +15,7 @@ use Rattle.sg_grammar.specs.Placed.Placed.{CodeAt, RowAt, TotalAt}
 use Rattle.sg_grammar.specs.Walk.{Taken, Walked, start, take_bytes, walk}
 use Rattle.sg_grammar.specs.declared.state.Block.{Block}
 use Rattle.sg_check.specs.Bounds.{AreAllTotalled, AreTotalsBound, AreTotalsEqual, HasCompletion, HasPrinting}
-use Rattle.sg_check.specs.Facts.{audited_code, audited_entries, both_rows, code_commitment, is_audited, is_both, is_flagged, is_full_draw, is_marked, is_set, left_commitment, opened_left, paper_code, public_bytes, right_commitment, opened_right, votes_for}
+use Rattle.sg_check.specs.Facts.{audited_code, audited_entries, both_rows, code_commitment, half_commitment, is_audited, is_both, is_flagged, is_full_draw, is_marked, is_set, opened_on, paper_code, public_bytes, votes_for}
 use Rattle.sg_check.specs.Judging.{AreOfPlan, bad_in, later_kinds}
 use Rattle.sg_check.specs.Kinds.{code_opening, is_on_side, kinds, opens_digest}
 use Rattle.sg_check.specs.Verdict.{AreFine, IsFirstBad, IsVerdict, are_whole, least_broken, totals_of}
@@ -85,24 +86,24 @@ pub record AreCodesKnown (plan : Plan) (lines : List Placed) : Type 0 where
 -- the pointers that are opened on a side of an instance are below n and different
 pub record ArePointersOnce (plan : Plan) (lines : List Placed) : Type 0 where
   pub left_below : (race instance row : ℕ) (opening : RowOpening) (left : Opening)
-      → IsAmong lines (RowAt race instance row opening) → opened_left opening ≡ Some left → left.value < entries_of plan race
+      → IsAmong lines (RowAt race instance row opening) → opened_on side.Left opening ≡ Some left → left.value < entries_of plan race
   pub right_below : (race instance row : ℕ) (opening : RowOpening) (right : Opening)
-      → IsAmong lines (RowAt race instance row opening) → opened_right opening ≡ Some right → right.value < entries_of plan race
+      → IsAmong lines (RowAt race instance row opening) → opened_on side.Right opening ≡ Some right → right.value < entries_of plan race
   pub left_differ : (race instance row other_row : ℕ) (opening other : RowOpening) (left other_left : Opening)
       → IsBefore lines (RowAt race instance row opening) (RowAt race instance other_row other)
-      → opened_left opening ≡ Some left → opened_left other ≡ Some other_left → left.value ≢ other_left.value
+      → opened_on side.Left opening ≡ Some left → opened_on side.Left other ≡ Some other_left → left.value ≢ other_left.value
   pub right_differ : (race instance row other_row : ℕ) (opening other : RowOpening) (right other_right : Opening)
       → IsBefore lines (RowAt race instance row opening) (RowAt race instance other_row other)
-      → opened_right opening ≡ Some right → opened_right other ≡ Some other_right → right.value ≢ other_right.value
+      → opened_on side.Right opening ≡ Some right → opened_on side.Right other ≡ Some other_right → right.value ≢ other_right.value
 
 -- by the lines before it, a row is flagged exactly where its left pointer's entry is marked, and exactly where its
 -- right pointer's place is set
 pub record DoFlagsAgree (plan : Plan) (lines : List Placed) : Type 0 where
   pub left : (front rest : List Placed) (race instance row : ℕ) (opening : RowOpening) (left : Opening)
-      → lines ≡ front ++ RowAt race instance row opening ∷ rest → opened_left opening ≡ Some left
+      → lines ≡ front ++ RowAt race instance row opening ∷ rest → opened_on side.Left opening ≡ Some left
       → is_flagged race instance row front ≡ is_marked plan race left.value front
   pub right : (front rest : List Placed) (race instance row : ℕ) (opening : RowOpening) (right : Opening)
-      → lines ≡ front ++ RowAt race instance row opening ∷ rest → opened_right opening ≡ Some right
+      → lines ≡ front ++ RowAt race instance row opening ∷ rest → opened_on side.Right opening ≡ Some right
       → is_flagged race instance row front ≡ is_set race right.value front
 
 -- a total is the number of the candidate's set places before it
@@ -142,11 +143,11 @@ pub record DoOpeningsOpen (plan : Plan) (lines : List Placed) : Type 0 where
       → lines ≡ front ++ CodeAt block ballot race column code ∷ rest
       → opens_digest (code_commitment race (entry_at plan race ballot column) front) commit.Q race 0 (entry_at plan race ballot column) (code_opening code) ≡ true
   pub left : (front rest : List Placed) (race instance row : ℕ) (opening : RowOpening) (left : Opening)
-      → lines ≡ front ++ RowAt race instance row opening ∷ rest → opened_left opening ≡ Some left
-      → opens_digest (left_commitment race instance row front) commit.L race instance row left ≡ true
+      → lines ≡ front ++ RowAt race instance row opening ∷ rest → opened_on side.Left opening ≡ Some left
+      → opens_digest (half_commitment front side.Left race instance row) commit.L race instance row left ≡ true
   pub right : (front rest : List Placed) (race instance row : ℕ) (opening : RowOpening) (right : Opening)
-      → lines ≡ front ++ RowAt race instance row opening ∷ rest → opened_right opening ≡ Some right
-      → opens_digest (right_commitment race instance row front) commit.R race instance row right ≡ true
+      → lines ≡ front ++ RowAt race instance row opening ∷ rest → opened_on side.Right opening ≡ Some right
+      → opens_digest (half_commitment front side.Right race instance row) commit.R race instance row right ≡ true
 
 -- by the draw before it, each row is opened on both sides; or it is so or on the side of its coin
 pub record AreSidesDrawn (lines : List Placed) : Type 0 where

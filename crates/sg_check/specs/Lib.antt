@@ -7,3 +7,4 @@ pub mod Kinds
 pub mod Laws
 pub mod Printings
 pub mod Verdict
+pub mod inside

@@ -23,8 +23,9 @@ use Rattle.sg_grammar.specs.declared.state.Block.{Block}
 use Rattle.sg_record.specs.Places.{places_in}
 use Rattle.sg_record.specs.declared.record.Record.{Record}
 use Rattle.sg_check.proofs.Bounding.{posts}
-use Rattle.sg_check.specs.Completions.{IsHalfOf, half_commitment, half_kind, opened_on, posted_half}
-use Rattle.sg_check.specs.Kinds.{opens_digest}
+use Rattle.sg_check.specs.Completions.{IsHalfOf, posted_half}
+use Rattle.sg_check.specs.Kinds.{opens_digest, half_kind}
+use Rattle.sg_check.specs.Facts.{half_commitment, opened_on}
 use Rattle.sg_check.specs.Printings.{marked_code}
 use Rattle.sg_post.specs.Fits.{claim_fits, fates_fit}
 use Rattle.sg_post.specs.Marks.{total_of}

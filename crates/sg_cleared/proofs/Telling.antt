@@ -32,8 +32,9 @@ use Rattle.sg_record.specs.Lines.{lines_in, text_of, texts_in}
 use Rattle.sg_record.specs.Places.{places_in}
 use Rattle.sg_record.specs.declared.record.Record.{Record}
 use Rattle.sg_check.proofs.Verdicts.{one_verdict}
-use Rattle.sg_check.specs.Completions.{Completion, IsHalfOf, half_commitment, half_kind}
-use Rattle.sg_check.specs.Kinds.{opens_digest}
+use Rattle.sg_check.specs.Completions.{Completion, IsHalfOf}
+use Rattle.sg_check.specs.Kinds.{opens_digest, half_kind}
+use Rattle.sg_check.specs.Facts.{half_commitment}
 use Rattle.sg_check.specs.Printings.{StandsWith}
 use Rattle.sg_check.specs.Verdict.{IsVerdict}
 use Rattle.sg_check.specs.declared.judged.Judged.{Judged}

@@ -18,8 +18,9 @@ use Rattle.sg_tables.specs.Laws.{Permutes}
 use Rattle.sg_tables.specs.Tables.{code_beside, code_of_entry, left_of, left_opening_of, path_of, right_of, right_opening_of, shown_by}
 use Rattle.sg_grammar.specs.Placed.{Placed}
 use Rattle.sg_record.specs.Places.{places_in}
-use Rattle.sg_check.specs.Completions.{Completion, IsHalfOf, any_below, is_altered, is_counted, is_half_altered, is_misprinted, is_repeated, is_row_misprinted, is_unopened, is_wrong_pointer, posted_half}
+use Rattle.sg_check.specs.Completions.{Completion, IsHalfOf, any_below, is_altered, is_half_altered, is_misprinted, is_repeated, is_row_misprinted, is_unopened, is_wrong_pointer, posted_half}
 use Rattle.sg_check.specs.Facts.{is_flagged, is_marked as posted_marked, is_set as posted_set, points_to}
+use Rattle.sg_check.specs.Kinds.{is_counted}
 use Rattle.sg_check.specs.Printings.{Printing, marked_code}
 use Rattle.sg_post.specs.Fits.{claim_fits, fates_fit}
 use Rattle.sg_post.specs.Marks.{flag_of}

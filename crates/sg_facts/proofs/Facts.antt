@@ -25,8 +25,8 @@ use Rattle.sg_record.specs.declared.record.BlockFate.TheVariants as fate
 use Rattle.sg_record.specs.declared.record.DisputeBlock.{DisputeBlock}
 use Rattle.sg_record.specs.declared.record.Record.{Record}
 use Rattle.sg_record.specs.declared.record.RowCommit.{RowCommit}
-use Rattle.sg_check.specs.Completions.{half_commitment, opened_on, posted_half, posts_half}
-use Rattle.sg_check.specs.Facts.{code_commitment, commits_code, commits_left, commits_right, draws_digits, draws_full, first_given, flags_row, is_flagged, is_full_draw, is_set, known_code, sets_place, shows_code}
+use Rattle.sg_check.specs.Completions.{posted_half, posts_half}
+use Rattle.sg_check.specs.Facts.{code_commitment, commits_code, commits_half, draws_digits, draws_full, first_given, flags_row, is_flagged, is_full_draw, is_set, known_code, sets_place, shows_code, half_commitment, opened_on}
 use Rattle.sg_check.specs.Printings.{marked_code, posts_code}
 use Rattle.sg_check.proofs.BitsFound.{bits-found}
 use Rattle.sg_check.proofs.Fronts.{any-at, any-before, any-behind, given-before, given-behind}
@@ -126,19 +126,19 @@ module _ (posted : Record) where
 
   commitment : (on : Side) (race instance row : ℕ) → half_commitment (places_in posted) on race instance row ≡ option_map (digest_on on) (row_in posted.row_commits race instance row)
   commitment side.Left race instance row =
-      let g = commits_left race instance row in
+      let g = commits_half side.Left race instance row in
       commit_found g (λ commit. Some commit.left) race instance row (λ r i x a b. refl) others (codes-of (NoneBy g) posted (λ r e d. refl)) (λ d. refl)
       ∙ as_map (λ commit. commit.left) (row_in posted.row_commits race instance row)
     where
-      others : (line : Placed) → part_of line ≢ 2 → commits_left race instance row line ≡ None
+      others : (line : Placed) → part_of line ≢ 2 → commits_half side.Left race instance row line ≡ None
       others (RowCommitAt of within at left right) other = absurd (other refl)
       others line other = refl
   commitment side.Right race instance row =
-      let g = commits_right race instance row in
+      let g = commits_half side.Right race instance row in
       commit_found g (λ commit. Some commit.right) race instance row (λ r i x a b. refl) others (codes-of (NoneBy g) posted (λ r e d. refl)) (λ d. refl)
       ∙ as_map (λ commit. commit.right) (row_in posted.row_commits race instance row)
     where
-      others : (line : Placed) → part_of line ≢ 2 → commits_right race instance row line ≡ None
+      others : (line : Placed) → part_of line ≢ 2 → commits_half side.Right race instance row line ≡ None
       others (RowCommitAt of within at left right) other = absurd (other refl)
       others line other = refl
 

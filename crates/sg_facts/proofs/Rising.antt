@@ -15,8 +15,7 @@ use Rattle.sg_grammar.specs.declared.state.Block.TheVariants as block
 use Rattle.sg_record.specs.Lines.{indexed, plan_lines}
 use Rattle.sg_record.specs.Places.{block_places, commit_places, dispute_places, draw_place, opening_places, places_in, race_row_places, result_places, seal_place}
 use Rattle.sg_record.specs.declared.record.Record.{Record}
-use Rattle.sg_check.specs.Completions.{half_commitment}
-use Rattle.sg_check.specs.Facts.{code_commitment, commits_code, commits_left, commits_right, draws_digits, draws_full, first_given, flags_row, is_flagged, is_full_draw, is_marked, is_set, marks_entry, sets_place}
+use Rattle.sg_check.specs.Facts.{code_commitment, commits_code, commits_half, draws_digits, draws_full, first_given, flags_row, is_flagged, is_full_draw, is_marked, is_set, marks_entry, sets_place, half_commitment}
 use Rattle.sg_check.specs.Verdict.{late}
 use Rattle.sg_check.proofs.Fronts.{any-before, given-before, given-behind}
 use Rattle.sg_facts.specs.Items.{row_in}
@@ -244,14 +243,14 @@ module _ (whole before : List Placed) (line : Placed) (front : IsFront whole bef
       none later less = refl
 
   pub half_commitment-kept : 3 ≤ part_of line → (on : Side) (race instance row : ℕ) → half_commitment before on race instance row ≡ half_commitment whole on race instance row
-  half_commitment-kept late side.Left race instance row = given-kept (commits_left race instance row) none
+  half_commitment-kept late side.Left race instance row = given-kept (commits_half side.Left race instance row) none
     where
-      none : (later : Placed) → part_of line ≤ part_of later → commits_left race instance row later ≡ None
+      none : (later : Placed) → part_of line ≤ part_of later → commits_half side.Left race instance row later ≡ None
       none (RowCommitAt of within at left right) less = absurd (omega (arith, late, less))
       none later less = refl
-  half_commitment-kept late side.Right race instance row = given-kept (commits_right race instance row) none
+  half_commitment-kept late side.Right race instance row = given-kept (commits_half side.Right race instance row) none
     where
-      none : (later : Placed) → part_of line ≤ part_of later → commits_right race instance row later ≡ None
+      none : (later : Placed) → part_of line ≤ part_of later → commits_half side.Right race instance row later ≡ None
       none (RowCommitAt of within at left right) less = absurd (omega (arith, late, less))
       none later less = refl
 

@@ -14,8 +14,8 @@ use Rattle.sg_record.specs.declared.record.BlockFate.TheVariants as fate
 use Rattle.sg_record.specs.declared.record.DisputeBlock.{DisputeBlock}
 use Rattle.sg_record.specs.declared.record.Record.{Record}
 use Rattle.sg_record.specs.declared.record.RowCommit.{RowCommit}
-use Rattle.sg_check.specs.Completions.{half_commitment, opened_on, posted_half}
-use Rattle.sg_check.specs.Facts.{first_given, is_flagged, is_set, known_code}
+use Rattle.sg_check.specs.Completions.{posted_half}
+use Rattle.sg_check.specs.Facts.{first_given, is_flagged, is_set, known_code, half_commitment, opened_on}
 use Rattle.sg_check.specs.Printings.{marked_code}
 use Rattle.sg_facts.specs.Items.{item_in, row_in}
 use Rattle.sg_facts.specs.Totals.{totals_candidate}

@@ -149,7 +149,7 @@ pub fn marked_codes(
     requires index { index.now ≡ posted.now.plan }
     ensures { IfOk result (λ table. HasTable posted.now.plan table (λ race entry. marked_code posted.now.plan race entry (places_in posted.now))) }
 {
-    let mut table = blank_table(alloc, index.plan())?;
+    let mut table = blank_table(alloc, index)?;
     note_marks(alloc, &mut table, index, &posted.ballots);
     Ok(table)
 }
@@ -164,7 +164,7 @@ pub fn known_codes(
     requires index { index.now ≡ posted.now.plan }
     ensures { IfOk result (λ table. HasTable posted.now.plan table (λ race entry. known_code posted.now.plan race entry (places_in posted.now))) }
 {
-    let mut table = blank_table(alloc, index.plan())?;
+    let mut table = blank_table(alloc, index)?;
     note_blocks(alloc, &mut table, index, &posted.ballots);
     note_disputes(alloc, &mut table, index, &posted.disputes);
     Ok(table)

@@ -4,16 +4,18 @@ ghost use Rattle.std.specs.Option.{option_map};
 ghost use Rattle.sg_facts.specs.Items.{item_in};
 ghost use Rattle.sg_facts.specs.Tables.{HasTable};
 ghost use Rattle.sg_facts.specs.inside.Putting.{or_code, with_first};
-ghost use Rattle.sg_plan.specs.Limits.{fault_of};
 
-use sg_plan::{Items, NoMemory, Plan};
+use sg_plan::{BallotIndex, Items, NoMemory};
 use std::alloc::Global;
 
 /// A table in which nothing stands yet.
-pub(crate) fn blank_table(alloc: Global, plan: &Plan) -> Result<Items<Items<Option<u16>>>, NoMemory>
-    requires { fault_of plan.now ≡ None }
-    ensures { IfOk result (λ table. HasTable plan.now table (λ _ _. None)) }
+pub(crate) fn blank_table(
+    alloc: Global,
+    index: &BallotIndex,
+) -> Result<Items<Items<Option<u16>>>, NoMemory>
+    ensures { IfOk result (λ table. HasTable index.now table (λ _ _. None)) }
 {
+    let plan = index.plan();
     let mut table = Items::with_room(alloc, plan.races.len())?;
     for race in 0..plan.races.len() {
         let entries = plan.entries(race as u32) as usize;

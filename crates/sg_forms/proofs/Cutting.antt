@@ -1,13 +1,13 @@
 -- Words are cut at single spaces.
-use Rattle.std.proofs.Common.{◌≡◌, ℕ, suc, ◌+◌, ◌-◌, ◌<◌, false, List, [], ◌∷◌, length, take, drop, get_or, slice_index, None, refl, sym, ap, ◌∙◌, arith, add-one, length-drop}
+use Rattle.std.proofs.Common.{◌≡◌, ℕ, suc, ◌+◌, ◌-◌, ◌^◌, ◌<◌, false, List, [], ◌∷◌, ◌++◌, length, take, drop, get_or, slice_index, None, refl, sym, ap, ◌∙◌, arith, add-one, length-drop, take-append-drop}
 use Rattle.std.proofs.Math.Seq.{split_at}
 use Rattle.std.proofs.lemmas.List.{take_all, take_more}
 use Rattle.std.proofs.lemmas.List.Elements.{All-append, All-from_recursion, All-cons, All-nil}
 use Rattle.std.proofs.lemmas.List.Splits.{slice_split_at, slice_split_none, length-slice_split}
 use Rattle.std.specs.Prelude.{codes}
 use Rattle.std.proofs.lemmas.Bool.{eq-eqb}
-use Rattle.sg_lines.specs.Words.{HasNoSpace, encode_lower}
-use Rattle.sg_lines.proofs.Spaces.{HasNoSpace-encode_lower}
+use Rattle.sg_lines.specs.Words.{HasNoSpace, decimal, encode_lower}
+use Rattle.sg_lines.proofs.Spaces.{HasNoSpace-decimal, HasNoSpace-encode_lower}
 use Rattle.sg_forms.specs.Said.{Said}
 use Rattle.sg_forms.specs.Reading.{is_space, words_in, whole}
 
@@ -35,6 +35,10 @@ cut_whole text none = slice_split_none is_space text none
 pub spelled : (word bytes : List ℕ) → word ≡ encode_lower bytes → HasNoSpace word
 spelled word bytes is = rw is (HasNoSpace-encode_lower bytes)
 
+-- a number is one word
+pub counted : (word : List ℕ) (n : ℕ) → n < 2 ^ 32 → word ≡ decimal n → HasNoSpace word
+counted word n small is = rw is (HasNoSpace-decimal n small)
+
 -- where words are left, the line is not whole
 not_whole_here : (line : Said) (words : List (List ℕ)) → 0 < length words → whole line words ≡ None
 not_whole_here line [] some = absurd (omega arith)
@@ -44,11 +48,32 @@ not_whole_here line (word ∷ words) some = refl
 pub not_whole : (line : Said) (text : List ℕ) → whole line (words_in text) ≡ None
 not_whole line text = not_whole_here line (words_in text) (omega (arith, length-slice_split is_space text))
 
--- the longest first words have no space
+-- a word of two parts
+joined : (at : ℕ) (word front back : List ℕ) → take at word ≡ front → take (length word - at) (drop at word) ≡ back → word ≡ front ++ back
+joined at word front back before behind =
+    let rest : take (length word - at) (drop at word) ≡ drop at word = take_all _ (drop at word) (omega (arith, length-drop at word)) in
+    sym (take-append-drop at word) ∙ (ap (λ (list : List ℕ). list ++ drop at word) before ∙ ap (λ (list : List ℕ). front ++ list) (sym rest ∙ behind))
+
+pub row_commit_joined : (word : List ℕ) → take 5 word ≡ codes "row-c" → take (length word - 5) (drop 5 word) ≡ codes "ommit" → word ≡ codes "row-commit"
+row_commit_joined word before behind = joined 5 word (codes "row-c") (codes "ommit") before behind
+
+pub code_commit_joined : (word : List ℕ) → take 6 word ≡ codes "code-c" → take (length word - 6) (drop 6 word) ≡ codes "ommit" → word ≡ codes "code-commit"
+code_commit_joined word before behind = joined 6 word (codes "code-c") (codes "ommit") before behind
+
+-- the first words that most lines have, have no space
 pub row_commit_word : HasNoSpace (codes "row-commit")
 row_commit_word = All-from_recursion (λ byte. is_space byte ≡ false) (codes "row-commit") (refl, (refl, (refl, (refl, (refl, (refl, (refl, (refl, (refl, (refl, tt))))))))))
 
 pub code_commit_word : HasNoSpace (codes "code-commit")
 code_commit_word = All-from_recursion (λ byte. is_space byte ≡ false) (codes "code-commit") (refl, (refl, (refl, (refl, (refl, (refl, (refl, (refl, (refl, (refl, (refl, tt)))))))))))
 
-pub ruleset long_words = (row_commit_word, code_commit_word)
+pub left_word : HasNoSpace (codes "left")
+left_word = All-from_recursion (λ byte. is_space byte ≡ false) (codes "left") (refl, (refl, (refl, (refl, tt))))
+
+pub right_word : HasNoSpace (codes "right")
+right_word = All-from_recursion (λ byte. is_space byte ≡ false) (codes "right") (refl, (refl, (refl, (refl, (refl, tt)))))
+
+pub both_word : HasNoSpace (codes "both")
+both_word = All-from_recursion (λ byte. is_space byte ≡ false) (codes "both") (refl, (refl, (refl, (refl, tt))))
+
+pub ruleset long_words = (row_commit_word, code_commit_word, left_word, right_word, both_word)

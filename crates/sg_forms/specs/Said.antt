@@ -3,6 +3,7 @@ use Rattle.std.specs.Prelude.{ℕ, List, take}
 use Rattle.sg_commit.specs.declared.Digest.{Digest}
 use Rattle.sg_plan.specs.declared.plan.ClaimWord.{ClaimWord}
 use Rattle.sg_forms.specs.declared.line.CodeLine.{CodeLine}
+use Rattle.sg_forms.specs.declared.line.RowCommitLine.{RowCommitLine}
 use Rattle.sg_forms.specs.declared.line.RowOpening.{RowOpening}
 use Rattle.sg_forms.specs.declared.line.Line.{Line}
 use Rattle.sg_forms.specs.declared.line.Line.TheVariants as line
@@ -59,3 +60,7 @@ said (line.DrawPublic digits) = DrawPublic digits.now
 said (line.Row opening) = Row opening
 said (line.Dispute ballot race code word) = Dispute ballot race code word
 said (line.Voided ballot) = Voided ballot
+
+-- what a line of a row's commitments says
+abbrev pub said_commits : RowCommitLine → Said
+said_commits line = RowCommit line.race line.instance line.left line.right

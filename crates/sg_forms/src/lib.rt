@@ -17,7 +17,7 @@ mod words;
 mod write;
 
 pub use draw::draw_bytes;
-pub use line::{CodeLine, Line, RowOpening};
-pub use read::read_form;
+pub use line::{CodeLine, Line, RowCommitLine, RowOpening};
+pub use read::{read_code_commit, read_form, read_row, read_row_commit};
 pub use types::{know_bytes, know_digest, know_key, know_line, know_numbers, know_row};
 pub use write::write_line;

@@ -16,6 +16,19 @@ pub struct CodeLine {
     pub code: u16,
 }
 
+/// What a `row-commit` line says: the commitments of a row's pointers.
+#[derive(Clone, Copy, Debug, PartialEq, Eq)]
+pub struct RowCommitLine {
+    /// The race's number.
+    pub race: u32,
+    /// The instance's number.
+    pub instance: u32,
+    /// The commitment of the left pointer.
+    pub left: Digest,
+    /// The commitment of the right pointer.
+    pub right: Digest,
+}
+
 /// What is opened of a row: the left pointer, the right one, or both, the left one first.
 #[derive(Clone, Copy, Debug, PartialEq, Eq)]
 pub enum RowOpening {

@@ -1,17 +1,22 @@
 //! A line of the record, read.
-ghost use Rattle.std.specs.Prelude.{◌≡◌, IfSome, Some};
+ghost use Rattle.std.specs.Prelude.{◌≡◌, ℕ, IfSome, Some};
 ghost use Rattle.std.specs.Option.{option_map, option_copied};
 ghost use Rattle.sg_forms.specs.Reading.{text_of, words_in, words_left, form_in, form_of, ballot_form, result_form, plan_form, line_of};
-ghost use Rattle.sg_forms.specs.Said.{Said, said};
+ghost use Rattle.sg_forms.specs.Said.{Said, said, said_commits};
+ghost use Rattle.sg_forms.specs.Said.Said.{CodeCommit, Row};
 ghost use Rattle.sg_forms.specs.Spelling.{IsInRange, spelling};
 ghost use Rattle.sg_forms.specs.Zeros.{HasZeros};
 
 use crate::ballots::{audited, cast, code, dispute, over, paper, spoiled, voided};
-use crate::line::Line;
+use crate::line::{Line, RowCommitLine, RowOpening};
 use crate::plan::{ballots, cand, election, instances, race, style, version};
 use crate::results::{draw, flags, places, seal, total};
-use crate::rows::{both, code_commit, left, right, row_commit};
-use crate::words::{Words, behind_code_commit, behind_row_commit, cut, is_word};
+use crate::rows::{both, code_commit, commit, commits, left, right, row_commit, row_line};
+use crate::words::{
+    Words, behind_both, behind_code_commit, behind_left, behind_right, behind_row_commit, cut,
+    is_word,
+};
+use sg_commit::Digest;
 use sg_plan::limits::LONGEST_LINE;
 
 /// What stands before the line feed that ends a line.
@@ -122,13 +127,13 @@ fn any_line<'a>(version: u32, first: &[u8], words: Words<'a>) -> Option<Line<'a>
         return row_commit(words);
     }
     if is_word(first, b"both") {
-        return both(words);
+        return row_line(both(words));
     }
     if is_word(first, b"left") {
-        return left(words);
+        return row_line(left(words));
     }
     if is_word(first, b"right") {
-        return right(words);
+        return row_line(right(words));
     }
     if is_word(first, b"code-commit") {
         return code_commit(words);
@@ -175,4 +180,79 @@ pub fn read_form(version: u32, bytes: &[u8]) -> Option<Line<'_>>
     ensures zeros { IfSome result HasZeros }
 {
     read_bytes(version, bytes)
+}
+
+/// The commitments of a row that a text says.
+#[tactic(auto, unfolding(crate::specs::Reading::form_of))]
+#[inline(always)]
+fn commits_in(text: &[u8]) -> Option<RowCommitLine>
+    ensures { IfSome result (λ line. (version : ℕ) → form_in version (words_in text.now) ≡ Some (said_commits line)) }
+{
+    let words = behind_row_commit(text)?;
+    commits(words)
+}
+
+/// What a text opens of a row.
+#[tactic(auto, unfolding(crate::specs::Reading::form_of))]
+#[inline(always)]
+fn row_in(text: &[u8]) -> Option<RowOpening>
+    ensures { IfSome result (λ opening. (version : ℕ) → form_in version (words_in text.now) ≡ Some (Row opening)) }
+{
+    if let Some(words) = behind_left(text) {
+        return left(words);
+    }
+    if let Some(words) = behind_right(text) {
+        return right(words);
+    }
+    if let Some(words) = behind_both(text) {
+        return both(words);
+    }
+    None
+}
+
+/// Reads the line of a row's commitments, in a record of any version, as a value of its own. It says nothing of other lines:
+/// `read_form` reads these too. Of the lines of a record most are such ones, and this takes half of its time.
+#[tactic(auto, unfolding(crate::specs::Reading::line_of))]
+pub fn read_row_commit(bytes: &[u8]) -> Option<RowCommitLine>
+    ensures { IfSome result (λ line. (version : ℕ) → line_of version bytes.now ≡ Some (said_commits line)) }
+{
+    if bytes.len() > LONGEST_LINE {
+        return None;
+    }
+    let text = line_text(bytes)?;
+    commits_in(text)
+}
+
+/// Reads the line of what is opened of a row, in the same way.
+#[tactic(auto, unfolding(crate::specs::Reading::line_of))]
+pub fn read_row(bytes: &[u8]) -> Option<RowOpening>
+    ensures { IfSome result (λ opening. (version : ℕ) → line_of version bytes.now ≡ Some (Row opening)) }
+{
+    if bytes.len() > LONGEST_LINE {
+        return None;
+    }
+    let text = line_text(bytes)?;
+    row_in(text)
+}
+
+/// The race and the commitment of a code that a text says.
+#[tactic(auto, unfolding(crate::specs::Reading::form_of))]
+#[inline(always)]
+fn commit_in(text: &[u8]) -> Option<(u32, Digest)>
+    ensures { IfSome result (λ line. (version : ℕ) → form_in version (words_in text.now) ≡ Some (CodeCommit line.0 line.1)) }
+{
+    let words = behind_code_commit(text)?;
+    commit(words)
+}
+
+/// Reads the line of a code's commitment, in the same way: its race and the commitment.
+#[tactic(auto, unfolding(crate::specs::Reading::line_of))]
+pub fn read_code_commit(bytes: &[u8]) -> Option<(u32, Digest)>
+    ensures { IfSome result (λ line. (version : ℕ) → line_of version bytes.now ≡ Some (CodeCommit line.0 line.1)) }
+{
+    if bytes.len() > LONGEST_LINE {
+        return None;
+    }
+    let text = line_text(bytes)?;
+    commit_in(text)
 }

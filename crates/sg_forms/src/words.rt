@@ -1,9 +1,9 @@
 //! The words of a line, read one after another.
-ghost use Rattle.std.specs.Prelude.{◌≡◌, ◌<◌, ◌∷◌, [], IfSome, MatchOption, Some, bytes_eq, codes, length, slice_index, take};
+ghost use Rattle.std.specs.Prelude.{◌≡◌, ◌<◌, ◌∷◌, [], IfSome, MatchOption, None, Some, bytes_eq, codes, false, length, slice_index, take, true};
 ghost use Rattle.std.specs.Option.{option_map, option_copied};
 ghost use Rattle.sg_lines.specs.Words.{HasNoSpace, decimal_of, key_of, digest_of, code_of};
 ghost use Rattle.sg_forms.specs.Reading.{words_in, words_left, name_of, bits_of, first_by, whole};
-ghost use Rattle.sg_forms.specs.Said.{said};
+ghost use Rattle.sg_forms.specs.Said.{Said, said};
 ghost use Rattle.sg_forms.specs.Zeros.{HasZeros};
 
 use crate::kinds::{read_bits, read_name};
@@ -39,6 +39,7 @@ pub(crate) fn cut(text: &[u8]) -> (&[u8], Option<&[u8]>)
 /// The first so many bytes of a text, and what stands behind the space after them, where there is a space, or nothing
 /// behind them.
 #[tactic(auto, using(crate::proofs::Cutting::cut_at_width, crate::proofs::Cutting::cut_whole))]
+#[inline(always)]
 fn cut_at(text: &[u8], width: usize) -> Option<(&[u8], Option<&[u8]>)>
     ensures { IfSome result (λ cut. HasNoSpace cut.0.now → words_in text.now ≡ cut.0.now ∷ words_left (option_copied cut.1)) }
 {
@@ -57,6 +58,7 @@ fn cut_at(text: &[u8], width: usize) -> Option<(&[u8], Option<&[u8]>)>
 /// The key that a text begins with, and what stands behind the space after it, where the first word is a key. No byte of
 /// it is looked at twice.
 #[tactic(auto, using(crate::proofs::Cutting::spelled))]
+#[inline(always)]
 fn cut_key(text: &[u8]) -> Option<(Key, Option<&[u8]>)>
     ensures { IfSome result (λ found. first_by key_of (words_in text.now) ≡ Some (found.0.0, words_left (option_copied found.1))) }
 {
@@ -68,12 +70,25 @@ fn cut_key(text: &[u8]) -> Option<(Key, Option<&[u8]>)>
 /// The digest that a text begins with, and what stands behind the space after it, where the first word is a digest. No
 /// byte of it is looked at twice.
 #[tactic(auto, using(crate::proofs::Cutting::spelled))]
+#[inline(always)]
 fn cut_digest(text: &[u8]) -> Option<(Digest, Option<&[u8]>)>
     ensures { IfSome result (λ found. first_by digest_of (words_in text.now) ≡ Some (found.0.0, words_left (option_copied found.1))) }
 {
     let (word, rest) = cut_at(text, 64)?;
     let bytes = read_digest(word)?;
     Some((Digest(bytes), rest))
+}
+
+/// The number of one digit that a text begins with, and what stands behind the space after it, where the first word is such
+/// a number.
+#[tactic(auto, using(crate::proofs::Cutting::counted))]
+#[inline(always)]
+fn cut_digit(text: &[u8]) -> Option<(u32, Option<&[u8]>)>
+    ensures { IfSome result (λ found. first_by decimal_of (words_in text.now) ≡ Some (found.0, words_left (option_copied found.1))) }
+{
+    let (word, rest) = cut_at(text, 1)?;
+    let number = read_decimal(word)?;
+    Some((number, rest))
 }
 
 /// The two words are the same.
@@ -83,17 +98,33 @@ pub(crate) fn is_word(word: &[u8], other: &[u8]) -> bool
     word == other
 }
 
-/// The words behind a text's first word, where that is this one. Of the text no further byte is looked at.
-fn behind<'a>(word: &[u8], text: &'a [u8]) -> Option<Words<'a>>
-    requires { HasNoSpace word.now }
-    ensures { IfSome result (λ words. words_in text.now ≡ word.now ∷ words) }
+/// The end of the longest first words. Each byte is compared by itself: that takes less time than a loop over so few.
+fn ends_commit(word: &[u8]) -> bool
+    ensures { result ≡ true → word.now ≡ codes "ommit" }
 {
-    let (first, rest) = cut_at(text, word.len())?;
-    if is_word(first, word) {
-        Some(Words::new(rest))
-    } else {
-        None
+    matches!(word, b"ommit")
+}
+
+/// The word begins as `row-commit` does.
+fn begins_row_commit(word: &[u8]) -> bool
+    ensures { result ≡ true → word.now ≡ codes "row-c" }
+{
+    matches!(word, b"row-c")
+}
+
+/// The word is `row-commit`.
+#[tactic(auto, using(crate::proofs::Cutting::row_commit_joined))]
+#[inline(always)]
+fn is_row_commit(word: &[u8]) -> bool
+    ensures { result ≡ true → word.now ≡ codes "row-commit" }
+{
+    if word.len() != 10 {
+        return false;
     }
+    if !begins_row_commit(&word[..5]) {
+        return false;
+    }
+    ends_commit(&word[5..])
 }
 
 /// The words behind `row-commit`, where that is a text's first word.
@@ -101,7 +132,34 @@ fn behind<'a>(word: &[u8], text: &'a [u8]) -> Option<Words<'a>>
 pub(crate) fn behind_row_commit(text: &[u8]) -> Option<Words<'_>>
     ensures { IfSome result (λ words. words_in text.now ≡ codes "row-commit" ∷ words) }
 {
-    behind(b"row-commit", text)
+    let (first, rest) = cut_at(text, 10)?;
+    if is_row_commit(first) {
+        Some(Words::new(rest))
+    } else {
+        None
+    }
+}
+
+/// The word begins as `code-commit` does.
+fn begins_code_commit(word: &[u8]) -> bool
+    ensures { result ≡ true → word.now ≡ codes "code-c" }
+{
+    matches!(word, b"code-c")
+}
+
+/// The word is `code-commit`.
+#[tactic(auto, using(crate::proofs::Cutting::code_commit_joined))]
+#[inline(always)]
+fn is_code_commit(word: &[u8]) -> bool
+    ensures { result ≡ true → word.now ≡ codes "code-commit" }
+{
+    if word.len() != 11 {
+        return false;
+    }
+    if !begins_code_commit(&word[..6]) {
+        return false;
+    }
+    ends_commit(&word[6..])
 }
 
 /// The words behind `code-commit`, where that is a text's first word.
@@ -109,7 +167,48 @@ pub(crate) fn behind_row_commit(text: &[u8]) -> Option<Words<'_>>
 pub(crate) fn behind_code_commit(text: &[u8]) -> Option<Words<'_>>
     ensures { IfSome result (λ words. words_in text.now ≡ codes "code-commit" ∷ words) }
 {
-    behind(b"code-commit", text)
+    let (first, rest) = cut_at(text, 11)?;
+    if is_code_commit(first) {
+        Some(Words::new(rest))
+    } else {
+        None
+    }
+}
+
+/// The words behind `left`, where that is a text's first word.
+#[tactic(auto, using(crate::proofs::Cutting::long_words))]
+pub(crate) fn behind_left(text: &[u8]) -> Option<Words<'_>>
+    ensures { IfSome result (λ words. words_in text.now ≡ codes "left" ∷ words) }
+{
+    let (first, rest) = cut_at(text, 4)?;
+    match first {
+        b"left" => Some(Words::new(rest)),
+        _ => None,
+    }
+}
+
+/// The words behind `right`, where that is a text's first word.
+#[tactic(auto, using(crate::proofs::Cutting::long_words))]
+pub(crate) fn behind_right(text: &[u8]) -> Option<Words<'_>>
+    ensures { IfSome result (λ words. words_in text.now ≡ codes "right" ∷ words) }
+{
+    let (first, rest) = cut_at(text, 5)?;
+    match first {
+        b"right" => Some(Words::new(rest)),
+        _ => None,
+    }
+}
+
+/// The words behind `both`, where that is a text's first word.
+#[tactic(auto, using(crate::proofs::Cutting::long_words))]
+pub(crate) fn behind_both(text: &[u8]) -> Option<Words<'_>>
+    ensures { IfSome result (λ words. words_in text.now ≡ codes "both" ∷ words) }
+{
+    let (first, rest) = cut_at(text, 4)?;
+    match first {
+        b"both" => Some(Words::new(rest)),
+        _ => None,
+    }
 }
 
 /// The words of a line that are still to be read.
@@ -147,14 +246,21 @@ impl<'a> Words<'a> {
     }
 
     /// Takes a number.
+    #[inline(always)]
     pub(crate) fn number(&mut self) -> Option<u32>
         ensures { option_map (λ number. (number, self.new)) result ≡ first_by decimal_of self.old }
     {
+        let text = self.rest?;
+        if let Some((number, rest)) = cut_digit(text) {
+            self.rest = rest;
+            return Some(number);
+        }
         let word = self.word()?;
         read_decimal(word)
     }
 
     /// Takes a key.
+    #[inline(always)]
     pub(crate) fn key(&mut self) -> Option<Key>
         ensures { option_map (λ key. (key.0, self.new)) result ≡ first_by key_of self.old }
     {
@@ -169,6 +275,7 @@ impl<'a> Words<'a> {
     }
 
     /// Takes a digest.
+    #[inline(always)]
     pub(crate) fn digest(&mut self) -> Option<Digest>
         ensures { option_map (λ digest. (digest.0, self.new)) result ≡ first_by digest_of self.old }
     {
@@ -204,6 +311,15 @@ impl<'a> Words<'a> {
     {
         let word = self.word()?;
         read_bits(word)
+    }
+
+    /// A word is left.
+    #[tactic(auto, using(crate::proofs::Cutting::not_whole))]
+    pub(crate) fn are_left(&self) -> bool
+        ensures some { result ≡ true → (line : Said) → whole line self.now ≡ None }
+        ensures none { result ≡ false → (line : Said) → whole line self.now ≡ Some line }
+    {
+        self.rest.is_some()
     }
 
     /// The line, where no word is left.

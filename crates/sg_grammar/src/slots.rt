@@ -92,6 +92,7 @@ pub(crate) fn first_commit(plan: &CountedPlan) -> Slot
 
 /// The line behind the commitment of a code.
 #[tactic(auto, using(crate::proofs::Steps::commit_steps))]
+#[inline(always)]
 fn after_code_commit(plan: &CountedPlan, race: u32, entry: u32) -> Slot
     requires sized { HasSizes plan.now }
     requires race { race < length plan.now.races }
@@ -111,6 +112,7 @@ fn after_code_commit(plan: &CountedPlan, race: u32, entry: u32) -> Slot
 
 /// The line behind the commitments of a row.
 #[tactic(auto, using(crate::proofs::Steps::commit_steps))]
+#[inline(always)]
 fn after_row_commit(plan: &CountedPlan, race: u32, instance: u32, row: u32) -> Slot
     requires sized { HasSizes plan.now }
     requires race { race < length plan.now.races }
@@ -376,6 +378,7 @@ fn first_row(plan: &CountedPlan, from: u32) -> Slot
 
 /// The line behind the opening of a row.
 #[tactic(auto, using(crate::proofs::Steps::row_steps))]
+#[inline(always)]
 fn after_row(plan: &CountedPlan, race: u32, instance: u32, row: u32) -> Slot
     requires sized { HasSizes plan.now }
     requires race { race < length plan.now.races }

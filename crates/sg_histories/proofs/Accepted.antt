@@ -1,17 +1,18 @@
 -- What an accepted act tells of the history before it.
-use Rattle.std.proofs.Common.{◌≡◌, ℕ, ◌==◌, Bool, true, false, not, List, ◌∷◌, Option, Some, None, is_none, refl}
+use Rattle.std.proofs.Common.{◌≡◌, ℕ, ◌==◌, Bool, true, false, ◌&&◌, not, cond, List, [], ◌∷◌, Option, Some, None, is_none, refl, sym, ap, ◌∙◌}
 use Rattle.sg_plan.specs.declared.plan.Fate.{Fate}
 use Rattle.sg_plan.specs.declared.plan.Fate.TheVariants as fate
 use Rattle.sg_plan.specs.declared.plan.Plan.{Plan}
 use Rattle.sg_acts.specs.declared.asks.Act.{Act}
+use Rattle.sg_acts.specs.declared.asks.Ask.TheVariants as ask
 use Rattle.sg_acts.specs.declared.asks.Stamp.{Stamp}
 use Rattle.sg_acts.specs.declared.replies.FateWord.{FateWord}
 use Rattle.sg_acts.specs.declared.replies.Phase.{Phase}
 use Rattle.sg_acts.specs.declared.replies.Reply.{Reply}
 use Rattle.sg_acts.specs.declared.replies.Reply.TheVariants as reply
 use Rattle.sg_keeper.specs.declared.setup.Setup.{Setup}
-use Rattle.sg_histories.specs.Answers.{accepts, early_refusal, early_reply, first_reply, is_ballot, is_cast_word, is_unused, is_voting, knows_secret_of, refusal_of, repeat_of, unless, void_refusal}
-use Rattle.sg_histories.specs.Histories.{Entry, fate_word}
+use Rattle.sg_histories.specs.Answers.{accepts, early_refusal, early_reply, entry_of, first_reply, is_ballot, is_cast_word, is_unused, is_voting, knows_secret_of, next_history, refusal_of, repeat_of, unless, void_refusal}
+use Rattle.sg_histories.specs.Histories.{Entry, act_of_stamp, fate_word, is_stamped}
 
 pub first_none : (o : Option Reply) (os : List (Option Reply)) → first_reply (o ∷ os) ≡ None → (o ≡ None) × (first_reply os ≡ None)
 first_none None os e = (refl, e)
@@ -25,6 +26,38 @@ pub none_is : {A : Type 0} (o : Option A) → is_none o ≡ true → o ≡ None
 none_is None e = refl
 none_is (Some x) e = cc
 
+-- no act has the number of a stamp just where none is repeated
+unstamped : (setup : Setup) (history : List Entry) (stamp : Stamp) (asked : Act) → is_none (act_of_stamp history stamp.station stamp.number) ≡ is_none (repeat_of setup history stamp asked)
+unstamped setup [] stamp asked = refl
+unstamped setup (entry ∷ history) stamp asked = by_test _ (is_stamped stamp.station stamp.number entry) (unstamped setup history stamp asked)
+  where
+    by_test : (r : Reply) (b : Bool) → is_none (act_of_stamp history stamp.station stamp.number) ≡ is_none (repeat_of setup history stamp asked)
+        → is_none (cond b (Some entry.act) (act_of_stamp history stamp.station stamp.number)) ≡ is_none (cond b (Some r) (repeat_of setup history stamp asked))
+    by_test r true ih = refl
+    by_test r false ih = ih
+
+-- so an act is accepted just where nothing is replied early
+pub accepts_is : (setup : Setup) (history : List Entry) (stamp : Stamp) (asked : Act) → accepts setup history stamp asked ≡ is_none (early_reply setup history stamp asked)
+accepts_is setup history stamp asked =
+    ap (λ (b : Bool). knows_secret_of setup.secrets stamp && (b && is_none (refusal_of setup history stamp.station asked))) (unstamped setup history stamp asked)
+    ∙ by_parts (knows_secret_of setup.secrets stamp) (repeat_of setup history stamp asked) (refusal_of setup history stamp.station asked)
+  where
+    by_parts : (secret : Bool) (again refusal : Option Reply) → (secret && (is_none again && is_none refusal)) ≡ is_none (first_reply (unless secret reply.Secret ∷ again ∷ refusal ∷ []))
+    by_parts true None None = refl
+    by_parts true None (Some said) = refl
+    by_parts true (Some said) refusal = refl
+    by_parts false again refusal = refl
+
+-- and the history goes on by it
+pub next_early : (setup : Setup) (history : List Entry) (stamp : Stamp) (asked : Act)
+    → next_history setup history (ask.Do stamp asked) ≡ cond (is_none (early_reply setup history stamp asked)) (entry_of stamp asked ∷ history) history
+unfolding next_history
+next_early setup history stamp asked = ap (λ (b : Bool). cond b (entry_of stamp asked ∷ history) history) (accepts_is setup history stamp asked)
+
+-- then there is no such reply
+pub none_early : (setup : Setup) (history : List Entry) (stamp : Stamp) (asked : Act) → accepts setup history stamp asked ≡ true → early_reply setup history stamp asked ≡ None
+none_early setup history stamp asked accepted = none_is (early_reply setup history stamp asked) (sym (accepts_is setup history stamp asked) ∙ accepted)
+
 -- a new act that is accepted
 pub record Passed (setup : Setup) (history : List Entry) (stamp : Stamp) (asked : Act) : Type 0 where
   pub secret : knows_secret_of setup.secrets stamp ≡ true
@@ -33,7 +66,7 @@ pub record Passed (setup : Setup) (history : List Entry) (stamp : Stamp) (asked 
 
 pub passed : (setup : Setup) (history : List Entry) (stamp : Stamp) (asked : Act) → accepts setup history stamp asked ≡ true → Passed setup history stamp asked
 passed setup history stamp asked e =
-    let one = first_none _ _ (none_is (early_reply setup history stamp asked) e) in
+    let one = first_none _ _ (none_early setup history stamp asked e) in
     let two = first_none _ _ one.1 in
     let three = first_none _ _ two.1 in
     record { secret = unless_none _ _ one.0; new = two.0; refusal = three.0 }

@@ -23,6 +23,7 @@ use Rattle.sg_histories.specs.Histories.{Entry, is_stamped}
 use Rattle.sg_histories.specs.KeptRows.{done_row, rows_of}
 use Rattle.sg_histories.specs.Lawful.{IsAccepted, IsAskable}
 use Rattle.sg_histories.specs.ValidRows.{climbs, is_stamp, natural}
+use Rattle.sg_histories.proofs.Accepted.{accepts_is}
 use Rattle.sg_histories.proofs.NewKeys.{any_put}
 use Rattle.sg_histories.proofs.OutDones.{same_done}
 use Rattle.sg_histories.proofs.Pairing.{BeforeAll, Rises}
@@ -186,6 +187,6 @@ accepted setup text history row done good new is r =
       is = refl;
       number = n.1;
       act_is = is;
-      accepted = all_pass (knows_secret_of setup.secrets stamp) (repeat_of setup history stamp done) (refusal_of setup history stamp.station done)
+      accepted = accepts_is setup history stamp done ∙ all_pass (knows_secret_of setup.secrets stamp) (repeat_of setup history stamp done) (refusal_of setup history stamp.station done)
           (knows setup.secrets stamp.station s.1) (repeat_new setup text history stamp done row.act fresh) r;
     }

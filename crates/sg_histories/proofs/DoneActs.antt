@@ -26,7 +26,7 @@ use Rattle.sg_histories.specs.HistoryLaws.{ActsStay, DoneActsAreKept, DoneActsSt
 use Rattle.sg_histories.specs.KeptRows.{done_row, rows_of}
 use Rattle.sg_histories.specs.Lawful.{Answered, Lawful, NoMemory, NotStored, Turn}
 use Rattle.sg_histories.specs.Standing.{text_at}
-use Rattle.sg_histories.proofs.Accepted.{passed}
+use Rattle.sg_histories.proofs.Accepted.{next_early, passed}
 use Rattle.sg_histories.proofs.Fitting.{fits_new}
 use Rattle.sg_histories.proofs.OutDones.{same_done}
 use Rattle.sg_histories.proofs.ReadingActs.{numbers_fit}
@@ -121,12 +121,12 @@ did setup history stamp asked said e =
       where
         clash : reply.Secret ≡ reply.Done said → ⊥
         clash k = cc
-    by_parts true (Some first) refusal s r f not_done = Repeated (r ∙ ap (λ (x : Reply). Some x) (rw (s, r) at e)) (rw (s, r) refl)
+    by_parts true (Some first) refusal s r f not_done = Repeated (r ∙ ap (λ (x : Reply). Some x) (rw (s, r) at e)) (next_early setup history stamp asked ∙ (rw (s, r) refl))
     by_parts true None (Some refused) s r f not_done = absurd (clash refused (rw (s, r, f) at e) not_done)
       where
         clash : (x : Reply) → x ≡ reply.Done said → is_done x ≡ false → ⊥
         clash x k n = (let z : is_done x ≡ true = ap is_done k in cc)
-    by_parts true None None s r f not_done = Accepted r (rw (s, r, f) refl)
+    by_parts true None None s r f not_done = Accepted r (next_early setup history stamp asked ∙ (rw (s, r, f) refl))
 
 -- THE LAWS
 

@@ -1,5 +1,5 @@
 -- An act that comes again is answered as at first.
-use Rattle.std.proofs.Common.{◌≡◌, Bool, true, false, cond, List, [], ◌∷◌, ◌++◌, Option, Some, None, refl}
+use Rattle.std.proofs.Common.{◌≡◌, Bool, true, false, cond, List, [], ◌∷◌, ◌++◌, Option, Some, None, refl, ◌∙◌}
 use Rattle.std.proofs.lemmas.Slice.Eq.{bytes_eq-Decides}
 use Rattle.sg_acts.specs.declared.asks.Act.{Act}
 use Rattle.sg_acts.specs.declared.asks.Stamp.{Stamp}
@@ -11,6 +11,7 @@ use Rattle.sg_histories.specs.Answers.{answer_of, body_of, entry_of, next_histor
 use Rattle.sg_histories.specs.Histories.{Entry, act_of_stamp, is_stamped}
 use Rattle.sg_histories.specs.HistoryLaws.{RepeatsAreAnswered}
 use Rattle.sg_histories.specs.Lawful.{Lawful}
+use Rattle.sg_histories.proofs.Accepted.{next_early}
 use Rattle.sg_histories.proofs.DoneActs.{found_self, stamped_self}
 use Rattle.sg_histories.proofs.Stamps.{entry_new, passed_by}
 
@@ -46,4 +47,4 @@ pub repeats_are_answered : RepeatsAreAnswered
 unfolding answer_of next_history
 repeats_are_answered setup later history stamp asked lawful secret =
     let again = repeat_later setup later history stamp asked lawful in
-    (rw (secret, again) refl, rw (secret, again) refl)
+    (rw (secret, again) refl, next_early setup (later ++ entry_of stamp asked ∷ history) stamp asked ∙ (rw (secret, again) refl))

@@ -35,7 +35,7 @@ use Rattle.sg_desks.specs.Papers.{same_paper}
 use Rattle.sg_desks.specs.Receipts.{posted_of}
 use Rattle.sg_post.specs.Marks.{total_of}
 use Rattle.sg_post.specs.Posted.{by_candidate}
-use Rattle.sg_histories.specs.Histories.{Entry, claims_of, fate_of, fate_word, is_stamped, phase_of, scanner_of}
+use Rattle.sg_histories.specs.Histories.{Entry, act_of_stamp, claims_of, fate_of, fate_word, is_stamped, phase_of, scanner_of}
 use Rattle.sg_histories.specs.Stories.{told_fates}
 
 -- REFUSALS
@@ -180,6 +180,11 @@ body_of setup history done = body_with setup (fate_of history) done
 abbrev pub knows_secret_of : List (List ℕ) → Stamp → Bool
 knows_secret_of secrets stamp = option_map_or (λ secret. bytes_eq secret stamp.secret) (slice_get secrets stamp.station) false
 
+-- the act is new and accepted: the station shows its secret, no act has its number, and nothing refuses it
+abbrev pub accepts : Setup → List Entry → Stamp → Act → Bool
+accepts setup history stamp asked =
+    knows_secret_of setup.secrets stamp && (is_none (act_of_stamp history stamp.station stamp.number) && is_none (refusal_of setup history stamp.station asked))
+
 -- the two acts have the same text, and so are the same act
 abbrev pub same_act : Setup → Act → Act → Bool
 same_act setup a b = bytes_eq (act_text setup.plan.version a) (act_text setup.plan.version b)
@@ -229,10 +234,6 @@ look_reply setup now fates look.Totals =
 unfoldable pub answer_of : Setup → List Entry → Ask → Reply
 answer_of setup history (ask.Do stamp asked) = unwrap_or (early_reply setup history stamp asked) (reply.Done (body_of setup history asked))
 answer_of setup history (ask.See seen) = look_reply setup (phase_of history) (fate_of history) seen
-
--- the act is new and accepted
-abbrev pub accepts : Setup → List Entry → Stamp → Act → Bool
-accepts setup history stamp asked = is_none (early_reply setup history stamp asked)
 
 -- the entry that an act makes
 abbrev pub entry_of : Stamp → Act → Entry

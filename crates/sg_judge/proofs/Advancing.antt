@@ -16,9 +16,9 @@ use Rattle.sg_commit.specs.Seals.{StandsFor as HasTaken}
 use Rattle.sg_commit.specs.declared.Sealer.{Sealer}
 use Rattle.sg_forms.specs.Said.{Said}
 use Rattle.sg_ledger.specs.declared.ledger.Ledger.{Ledger}
-use Rattle.sg_ledger.specs.Tells.{Tells}
+use Rattle.sg_ledger.specs.Tells.{Tells, TellsSome, plan_kept}
 use Rattle.sg_judge.proofs.Placing.{found_refused, found_taken, plan_taken, taken_there}
-use Rattle.sg_judge.specs.inside.Taking.{Advances, IsRefused, IsTaken, Keeps, Stands, opened_by}
+use Rattle.sg_judge.specs.inside.Taking.{Advances, IsRefused, IsTaken, Keeps, Stands, StandsSome, opened_by}
 use Rattle.sg_plan.specs.declared.plan.Plan.{Plan}
 use Rattle.sg_grammar.proofs.Counting.{most_lines_stand, start-made}
 use Rattle.sg_grammar.proofs.Walking.{take_bytes-not_read, take_bytes-read, take_line-behind, take_line-head, walk-push}
@@ -91,6 +91,16 @@ still_stands expect new sealer sealer' ledger ledger' lines bytes said placed st
       sealed = subst (λ (all : List ℕ). HasTaken sealer' all) (sym (posted_bytes-push stands.posted line)) (adds (posted_bytes stands.posted) stands.sealed);
       kept = subst (λ (all : List Placed). Keeps new.plan ledger' all) (sym (placed_of-push stands.posted line)) taken.kept;
     }
+
+-- THE LEDGER'S PLAN
+
+-- the ledger has the plan of the lines
+pub kept_plan : (expect : Next) (sealer : Sealer) (ledger : Ledger) → StandsSome expect sealer (Some ledger) → plan_kept ledger ≡ expect.plan
+kept_plan expect sealer ledger some = some.1.kept.sized.book
+
+-- and tells some lines of it
+pub kept_some : (expect : Next) (sealer : Sealer) (ledger : Ledger) → StandsSome expect sealer (Some ledger) → TellsSome (plan_kept ledger) ledger
+kept_some expect sealer ledger some = subst (λ (p : Plan). TellsSome p ledger) (sym (kept_plan expect sealer ledger some)) (placed_of some.1.posted, some.1.kept)
 
 -- WHAT WAS ANSWERED OF A LINE
 

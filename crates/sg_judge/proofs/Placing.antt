@@ -27,6 +27,7 @@ use Rattle.sg_grammar.specs.Standing.{taken_at}
 use Rattle.sg_grammar.specs.declared.body.Standing.{Standing}
 use Rattle.sg_grammar.specs.Walk.{Next, Taken, behind, headed, take_line, took}
 use Rattle.sg_grammar.specs.declared.state.Head.TheVariants as head
+use Rattle.sg_grammar.specs.declared.state.Spot.{Spot}
 
 -- a line that has a place is taken there
 pub taken_there : (next : Next) (said : Said) (placed : Placed) → placed_next next said ≡ Some placed → (t : Taken) × (take_line next said ≡ Some t) × (t.placed ≡ placed)
@@ -121,6 +122,10 @@ found_refused old plan ledger said placed found k same named place judges is lin
 -- where a line that was read stands, and what may stand behind it
 pub place_of : (next : Next) (said : Said) (standing : Standing) → take_line next said ≡ Some (taken_at next.plan said standing) → placed_next next said ≡ Some (placed_at standing.spot said)
 place_of next said standing taken = ap (option_map (λ (t : Taken). t.placed)) taken
+
+pub place_at : (next : Next) (said : Said) (standing : Standing) (at : Spot) → at ≡ standing.spot → take_line next said ≡ Some (taken_at next.plan said standing)
+    → placed_next next said ≡ Some (placed_at at said)
+place_at next said standing at is taken = place_of next said standing taken ∙ ap (λ (s : Spot). Some (placed_at s said)) (sym is)
 
 pub step_of : (old new : Next) (said : Said) (standing : Standing) → take_line old said ≡ Some (taken_at old.plan said standing)
     → new ≡ behind old.plan (due_of old.plan standing.slot) standing.part → option_map (λ (t : Taken). t.next) (take_line old said) ≡ Some new

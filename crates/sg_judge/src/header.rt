@@ -2,7 +2,6 @@
 ghost use Rattle.std.specs.Prelude.{◌≡◌, ℕ, ◌<◌, is_some, List, IfOk, IsSome, OnErr, None, Some};
 ghost use Rattle.sg_grammar.specs.Head.{is_behind};
 ghost use Rattle.sg_judge.specs.inside.Taking.{Advances, IsNoPlanLine, Stands, StandsSome, next_seal, opened_by, or_seal};
-ghost use Rattle.sg_plan.specs.Limits.{fault_of};
 ghost use Rattle.sg_grammar.specs.Left.{lines_left};
 
 use crate::taking::advance;
@@ -10,7 +9,7 @@ use sg_check::Kind;
 use sg_commit::{Digest, Sealer};
 use sg_grammar::{Expect, read_line};
 use sg_ledger::Ledger;
-use sg_plan::NoMemory;
+use sg_plan::{BallotIndex, NoMemory};
 use std::alloc::Global;
 use std::mem;
 
@@ -43,12 +42,14 @@ pub(crate) fn advance_header(
         sealer.add(bytes);
         return Ok(None);
     }
-    advance_behind(alloc, expect, sealer, ledger, seal, bytes)
+    let index = BallotIndex::make(alloc, expect.plan())?;
+    advance_behind(alloc, index, expect, sealer, ledger, seal, bytes)
 }
 
-/// Takes the first line behind those of the plan: where it is fine, it opens the ledger.
+/// Takes the first line behind those of the plan, which is indexed: where it is fine, it opens the ledger.
 fn advance_behind(
     alloc: Global,
+    index: BallotIndex,
     expect: &mut Expect,
     sealer: &mut Sealer,
     ledger: &mut Option<Ledger>,
@@ -57,7 +58,7 @@ fn advance_behind(
 ) -> Result<Option<Kind>, NoMemory>
     requires stands { StandsSome expect.old sealer.old None }
     requires closed { ledger.old ≡ None }
-    requires good { fault_of expect.old.plan ≡ None }
+    requires index { index ≡ expect.old.plan }
     requires behind { IsNoPlanLine expect.old bytes.now }
     ensures goes_on { IfOk result (λ broken. (lines : List (List ℕ)) → Stands expect.old sealer.old None lines → Advances broken expect.new sealer.new ledger.new lines bytes.now) }
     ensures seal { IfOk result (λ broken. broken ≡ None → seal.new ≡ or_seal seal.old (next_seal expect.old bytes.now)) }
@@ -66,7 +67,7 @@ fn advance_behind(
     ensures falls { IfOk result (λ broken. broken ≡ None → lines_left expect.new < lines_left expect.old) }
     ensures err { OnErr result ((expect.new ≡ expect.old) × (sealer.new ≡ sealer.old) × (ledger.new ≡ ledger.old) × (seal.new ≡ seal.old)) }
 {
-    let mut opened = Ledger::make(alloc, expect.plan())?;
+    let mut opened = Ledger::make(alloc, index)?;
     let broken = advance(expect, sealer, &mut opened, seal, bytes);
     keep_opened(ledger, opened, broken);
     Ok(broken)

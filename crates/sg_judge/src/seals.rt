@@ -14,6 +14,7 @@ use sg_grammar::{Line, Meaning, Spot, meaning_of};
 
 /// The line is a seal, and not the hash of the bytes before it.
 #[tactic(auto, using(crate::proofs::Sealing::elsewhere))]
+#[inline(always)]
 pub(crate) fn is_bad_seal(sealer: &Sealer, at: Spot, line: &Line) -> bool
     ensures { (before : List ℕ) → HasTaken sealer.now before → result ≡ bad_seal before (placed_at at (said line.now)) }
 {
@@ -55,6 +56,7 @@ fn is_bad_seal_there(sealer: &Sealer, at: Spot, line: &Line) -> bool
 
 /// Keeps the digest of the line `seal 1`.
 #[tactic(auto, using(crate::proofs::Sealing::elsewhere_first))]
+#[inline(always)]
 pub(crate) fn note_seal(seal: &mut Option<Digest>, at: Spot, line: &Line)
     ensures { seal.new ≡ or_seal seal.old (first_seal_on (placed_at at (said line.now))) }
 {

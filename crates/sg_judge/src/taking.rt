@@ -4,26 +4,57 @@ ghost use Rattle.sg_grammar.specs.Head.{is_behind};
 ghost use Rattle.sg_check.specs.Kinds.{first_bad};
 ghost use Rattle.sg_check.specs.Verdict.{total_on};
 ghost use Rattle.sg_forms.specs.Reading.{line_of};
-ghost use Rattle.sg_forms.specs.Said.{said};
+ghost use Rattle.sg_forms.specs.Said.{said, said_commits};
+ghost use Rattle.sg_forms.specs.Said.Said.{CodeCommit, Row};
 ghost use Rattle.sg_forms.specs.Spelling.{IsInRange};
-ghost use Rattle.sg_ledger.specs.Tells.{HasDigits, Tells, TellsSome, totals_kept};
+ghost use Rattle.sg_ledger.specs.Tells.{HasDigits, Tells, TellsSome, plan_kept, totals_kept};
 ghost use Rattle.sg_judge.specs.inside.Taking.{Advances, IsNoPlanLine, Stands, StandsSome, next_seal, or_seal};
-ghost use Rattle.sg_plan.specs.Limits.{fault_of};
 ghost use Rattle.sg_grammar.specs.Left.{lines_left};
 ghost use Rattle.sg_grammar.specs.Placed.{Placed};
+ghost use Rattle.sg_grammar.specs.Made.{IsMade};
 ghost use Rattle.sg_grammar.specs.Spots.{IsPlacedIn, placed_at};
+ghost use Rattle.sg_grammar.specs.Standing.{taken_at, IsStandingIn};
+ghost use Rattle.sg_grammar.specs.Walk.{take_line};
+ghost use Rattle.sg_grammar.specs.declared.state.Head.TheVariants as HeadIs;
 
 use crate::seals::{is_bad_seal, note_seal};
 use sg_check::Kind;
 use sg_commit::{Digest, Sealer};
-use sg_forms::read_form;
-use sg_grammar::{Expect, Line, Spot};
+use sg_forms::{RowCommitLine, RowOpening, read_code_commit, read_form, read_row, read_row_commit};
+use sg_grammar::{Expect, Line, Spot, Standing};
 use sg_ledger::Ledger;
-use sg_plan::Plan;
 
 /// Takes the next line, with its line feed, where it is none of the plan, and answers what it is bad in. It takes no
 /// memory.
 pub(crate) fn advance(
+    expect: &mut Expect,
+    sealer: &mut Sealer,
+    ledger: &mut Ledger,
+    seal: &mut Option<Digest>,
+    bytes: &[u8],
+) -> Option<Kind>
+    requires stands { StandsSome expect.old sealer.old (Some ledger.old) }
+    requires behind { IsNoPlanLine expect.old bytes.now }
+    ensures goes_on { (lines : List (List ℕ)) → Stands expect.old sealer.old (Some ledger.old) lines → Advances result expect.new sealer.new (Some ledger.new) lines bytes.now }
+    ensures seal { result ≡ None → seal.new ≡ or_seal seal.old (next_seal expect.old bytes.now) }
+    ensures whole { result ≡ None → is_behind expect.new.head ≡ true }
+    ensures falls { result ≡ None → lines_left expect.new < lines_left expect.old }
+{
+    if let Some(row) = read_row_commit(bytes) {
+        return advance_commits(expect, sealer, ledger, seal, bytes, row);
+    }
+    if let Some(opening) = read_row(bytes) {
+        return advance_row(expect, sealer, ledger, seal, bytes, opening);
+    }
+    if let Some((race, digest)) = read_code_commit(bytes) {
+        return advance_commit(expect, sealer, ledger, seal, bytes, race, digest);
+    }
+    advance_read(expect, sealer, ledger, seal, bytes)
+}
+
+/// The same of any line, in the general way.
+#[inline(never)]
+fn advance_read(
     expect: &mut Expect,
     sealer: &mut Sealer,
     ledger: &mut Ledger,
@@ -45,6 +76,7 @@ pub(crate) fn advance(
 }
 
 /// The same of bytes that were read as this line.
+#[inline(never)]
 fn advance_line(
     expect: &mut Expect,
     sealer: &mut Sealer,
@@ -65,11 +97,159 @@ fn advance_line(
     let Some(standing) = expect.stand(line) else {
         return Some(Kind::Form);
     };
-    let at = standing.spot;
+    advance_there(
+        expect,
+        sealer,
+        ledger,
+        seal,
+        bytes,
+        line,
+        standing,
+        standing.spot,
+    )
+}
+
+/// The same of bytes that were read as the commitments of a row, of which a record has most. Where they are due, the compiler
+/// makes of all that follows what is done for them alone.
+fn advance_commits(
+    expect: &mut Expect,
+    sealer: &mut Sealer,
+    ledger: &mut Ledger,
+    seal: &mut Option<Digest>,
+    bytes: &[u8],
+    row: RowCommitLine,
+) -> Option<Kind>
+    requires stands { StandsSome expect.old sealer.old (Some ledger.old) }
+    requires behind { IsNoPlanLine expect.old bytes.now }
+    requires read { line_of expect.old.plan.version bytes.now ≡ Some (said_commits row) }
+    requires range { IsInRange expect.old.plan.version (said_commits row) }
+    ensures goes_on { (lines : List (List ℕ)) → Stands expect.old sealer.old (Some ledger.old) lines → Advances result expect.new sealer.new (Some ledger.new) lines bytes.now }
+    ensures seal { result ≡ None → seal.new ≡ or_seal seal.old (next_seal expect.old bytes.now) }
+    ensures whole { result ≡ None → is_behind expect.new.head ≡ true }
+    ensures falls { result ≡ None → lines_left expect.new < lines_left expect.old }
+{
+    let line = Line::RowCommit {
+        race: row.race,
+        instance: row.instance,
+        left: row.left,
+        right: row.right,
+    };
+    let Some(standing) = expect.stand(&line) else {
+        return Some(Kind::Form);
+    };
+    let Spot::RowCommit {
+        race,
+        instance,
+        row,
+    } = standing.spot
+    else {
+        return advance_line(expect, sealer, ledger, seal, bytes, &line);
+    };
+    let at = Spot::RowCommit {
+        race,
+        instance,
+        row,
+    };
+    advance_there(expect, sealer, ledger, seal, bytes, &line, standing, at)
+}
+
+/// The same of bytes that were read as what is opened of a row.
+fn advance_row(
+    expect: &mut Expect,
+    sealer: &mut Sealer,
+    ledger: &mut Ledger,
+    seal: &mut Option<Digest>,
+    bytes: &[u8],
+    opening: RowOpening,
+) -> Option<Kind>
+    requires stands { StandsSome expect.old sealer.old (Some ledger.old) }
+    requires behind { IsNoPlanLine expect.old bytes.now }
+    requires read { line_of expect.old.plan.version bytes.now ≡ Some (Row opening) }
+    requires range { IsInRange expect.old.plan.version (Row opening) }
+    ensures goes_on { (lines : List (List ℕ)) → Stands expect.old sealer.old (Some ledger.old) lines → Advances result expect.new sealer.new (Some ledger.new) lines bytes.now }
+    ensures seal { result ≡ None → seal.new ≡ or_seal seal.old (next_seal expect.old bytes.now) }
+    ensures whole { result ≡ None → is_behind expect.new.head ≡ true }
+    ensures falls { result ≡ None → lines_left expect.new < lines_left expect.old }
+{
+    let line = Line::Row(opening);
+    let Some(standing) = expect.stand(&line) else {
+        return Some(Kind::Form);
+    };
+    let Spot::Row {
+        race,
+        instance,
+        row,
+    } = standing.spot
+    else {
+        return advance_line(expect, sealer, ledger, seal, bytes, &line);
+    };
+    let at = Spot::Row {
+        race,
+        instance,
+        row,
+    };
+    advance_there(expect, sealer, ledger, seal, bytes, &line, standing, at)
+}
+
+/// The same of bytes that were read as the commitment of a code.
+fn advance_commit(
+    expect: &mut Expect,
+    sealer: &mut Sealer,
+    ledger: &mut Ledger,
+    seal: &mut Option<Digest>,
+    bytes: &[u8],
+    race: u32,
+    digest: Digest,
+) -> Option<Kind>
+    requires stands { StandsSome expect.old sealer.old (Some ledger.old) }
+    requires behind { IsNoPlanLine expect.old bytes.now }
+    requires read { line_of expect.old.plan.version bytes.now ≡ Some (CodeCommit race digest) }
+    requires range { IsInRange expect.old.plan.version (CodeCommit race digest) }
+    ensures goes_on { (lines : List (List ℕ)) → Stands expect.old sealer.old (Some ledger.old) lines → Advances result expect.new sealer.new (Some ledger.new) lines bytes.now }
+    ensures seal { result ≡ None → seal.new ≡ or_seal seal.old (next_seal expect.old bytes.now) }
+    ensures whole { result ≡ None → is_behind expect.new.head ≡ true }
+    ensures falls { result ≡ None → lines_left expect.new < lines_left expect.old }
+{
+    let line = Line::CodeCommit { race, digest };
+    let Some(standing) = expect.stand(&line) else {
+        return Some(Kind::Form);
+    };
+    let Spot::CodeCommit { race, entry } = standing.spot else {
+        return advance_line(expect, sealer, ledger, seal, bytes, &line);
+    };
+    let at = Spot::CodeCommit { race, entry };
+    advance_there(expect, sealer, ledger, seal, bytes, &line, standing, at)
+}
+
+/// The same of a line that stands there.
+#[inline(always)]
+fn advance_there(
+    expect: &mut Expect,
+    sealer: &mut Sealer,
+    ledger: &mut Ledger,
+    seal: &mut Option<Digest>,
+    bytes: &[u8],
+    line: &Line,
+    standing: Standing,
+    at: Spot,
+) -> Option<Kind>
+    requires stands { StandsSome expect.old sealer.old (Some ledger.old) }
+    requires behind { IsNoPlanLine expect.old bytes.now }
+    requires read { line_of expect.old.plan.version bytes.now ≡ Some (said line.now) }
+    requires range { IsInRange expect.old.plan.version (said line.now) }
+    requires taken { take_line expect.old (said line.now) ≡ Some (taken_at expect.old.plan (said line.now) standing) }
+    requires within { IsStandingIn expect.old.plan (said line.now) standing }
+    requires made { IsMade expect.old.plan HeadIs.Whole }
+    requires spot { at ≡ standing.spot }
+    ensures goes_on { (lines : List (List ℕ)) → Stands expect.old sealer.old (Some ledger.old) lines → Advances result expect.new sealer.new (Some ledger.new) lines bytes.now }
+    ensures seal { result ≡ None → seal.new ≡ or_seal seal.old (next_seal expect.old bytes.now) }
+    ensures whole { result ≡ None → is_behind expect.new.head ≡ true }
+    ensures falls { result ≡ None → lines_left expect.new < lines_left expect.old }
+{
     if is_bad_seal(sealer, at, line) {
         return Some(Kind::Seal);
     }
-    match judge_and_keep(ledger, expect.plan(), at, line) {
+    match judge_and_keep(ledger, at, line) {
         Some(kind) => Some(kind),
         None => {
             note_seal(seal, at, line);
@@ -81,19 +261,19 @@ fn advance_line(
 }
 
 /// Judges a line by the ledger, and keeps it there where it is bad in nothing.
-fn judge_and_keep(ledger: &mut Ledger, plan: &Plan, at: Spot, line: &Line) -> Option<Kind>
-    requires good { fault_of plan.now ≡ None }
-    requires placed { IsPlacedIn plan.now (placed_at at (said line.now)) }
+#[inline(always)]
+fn judge_and_keep(ledger: &mut Ledger, at: Spot, line: &Line) -> Option<Kind>
+    requires placed { IsPlacedIn (plan_kept ledger.old) (placed_at at (said line.now)) }
     requires digits { HasDigits (placed_at at (said line.now)) }
-    requires some { TellsSome plan.now ledger.old }
+    requires some { TellsSome (plan_kept ledger.old) ledger.old }
     requires room { totals_kept ledger.old + length (total_on (placed_at at (said line.now))) ≤ 512 }
-    ensures judges { (lines : List Placed) → Tells plan.now ledger.old lines → result ≡ first_bad plan.now lines (placed_at at (said line.now)) }
-    ensures keeps { result ≡ None → (lines : List Placed) → Tells plan.now ledger.old lines → Tells plan.now ledger.new (lines ++ placed_at at (said line.now) ∷ []) }
+    ensures judges { (lines : List Placed) → Tells (plan_kept ledger.old) ledger.old lines → result ≡ first_bad (plan_kept ledger.old) lines (placed_at at (said line.now)) }
+    ensures keeps { result ≡ None → (lines : List Placed) → Tells (plan_kept ledger.old) ledger.old lines → Tells (plan_kept ledger.old) ledger.new (lines ++ placed_at at (said line.now) ∷ []) }
 {
-    match ledger.judge(plan, at, line) {
+    match ledger.judge(at, line) {
         Some(kind) => Some(kind),
         None => {
-            ledger.keep(plan, at, line);
+            ledger.keep(at, line);
             None
         }
     }

@@ -6,7 +6,7 @@ use Rattle.std.proofs.lemmas.Option.{slice_get_past}
 use Rattle.std.specs.List.{list_any}
 use Rattle.std.specs.Option.{option_or}
 use Rattle.sg_grammar.specs.Lines.{is_audit}
-use Rattle.sg_check.specs.Facts.{audited_entries, audits_entry, audits_race, both_rows, is_audited, is_both, opens_both, opens_left, paper_code, shows_paper}
+use Rattle.sg_check.specs.Facts.{audited_entries, audits_entry, audits_race, both_rows, is_audited, is_both, opens_both, opens_pointer, paper_code, shows_paper}
 use Rattle.sg_forms.specs.declared.line.CodeLine.{CodeLine}
 use Rattle.sg_forms.specs.declared.line.RowOpening.TheVariants as row
 use Rattle.sg_ledger.proofs.KeptSteps.{count-one, count-push, count-skip}
@@ -16,6 +16,7 @@ use Rattle.sg_ledger.specs.inside.Steps.{audit_counts_after, audited_after, both
 use Rattle.sg_ledger.specs.inside.Tables.{most_marks, with_first, with_firsts}
 use Rattle.sg_ledger.specs.Tells.{AtEntries, AtInstances, AtRaces, count_to, instance_place, opened_lefts}
 use Rattle.sg_plan.proofs.PlanLaws.{entry_place-below, entry_place-one, entry_tells}
+use Rattle.sg_plan.specs.declared.plan.Side.TheVariants as side
 use Rattle.sg_plan.specs.Ballots.{all_entries, ballot_row, candidates_of, entries_of, entry_at, entry_place}
 use Rattle.sg_plan.specs.declared.plan.Plan.{Plan}
 use Rattle.sg_grammar.specs.Placed.{Placed}
@@ -255,8 +256,8 @@ count_to-most (suc n) p = omega (arith, count_to-most n p, one-le (p n) true (λ
 -- the pointers opened by earlier lines are opened
 opened-le : (plan : Plan) (r i : ℕ) (lines : List Placed) (line : Placed) → opened_lefts plan r i lines ≤ opened_lefts plan r i (lines ++ line ∷ [])
 opened-le plan r i lines line =
-    count_to-le (entries_of plan r) (λ k. list_any (opens_left r i k) lines) (λ k. list_any (opens_left r i k) (lines ++ line ∷ []))
-    (λ k opened. any-push (opens_left r i k) lines line ∙ or_left (list_any (opens_left r i k) lines) (opens_left r i k line) opened)
+    count_to-le (entries_of plan r) (λ k. list_any (opens_pointer side.Left r i k) lines) (λ k. list_any (opens_pointer side.Left r i k) (lines ++ line ∷ []))
+    (λ k opened. any-push (opens_pointer side.Left r i k) lines line ∙ or_left (list_any (opens_pointer side.Left r i k) lines) (opens_pointer side.Left r i k line) opened)
 
 abbrev pub AreFewBoths : Plan → List Placed → Type 0
 AreFewBoths plan lines = (race instance : ℕ) → race < length plan.races → instance < plan.instances → both_rows race instance lines ≤ opened_lefts plan race instance lines
@@ -271,19 +272,19 @@ few_skip plan r i lines line none few =
 -- the left pointer of a fine row is below n, and no row of its instance opens it
 pub record IsFresh (plan : Plan) (lines : List Placed) (race instance pointer : ℕ) : Type 0 where
   pub below : pointer < entries_of plan race
-  pub fresh : list_any (opens_left race instance pointer) lines ≡ false
+  pub fresh : list_any (opens_pointer side.Left race instance pointer) lines ≡ false
 
 -- the left pointer of a row opened on both sides is fresh
 abbrev pub HasFresh : Plan → List Placed → Placed → Type 0
 HasFresh plan lines (RowAt race instance number (row.Both left right)) = IsFresh plan lines race instance left.value
 HasFresh plan lines line = Unit {0}
 
-few_same : (plan : Plan) (r i : ℕ) (lines : List Placed) (line : Placed) (pointer : ℕ) → IsFresh plan lines r i pointer → opens_left r i pointer line ≡ true
+few_same : (plan : Plan) (r i : ℕ) (lines : List Placed) (line : Placed) (pointer : ℕ) → IsFresh plan lines r i pointer → opens_pointer side.Left r i pointer line ≡ true
     → both_rows r i lines ≤ opened_lefts plan r i lines → both_rows r i (lines ++ line ∷ []) ≤ opened_lefts plan r i (lines ++ line ∷ [])
 few_same plan r i lines line pointer is_fresh opens few =
-    let more = count_to-more (entries_of plan r) pointer (λ k. list_any (opens_left r i k) lines) (λ k. list_any (opens_left r i k) (lines ++ line ∷ []))
-    is_fresh.below is_fresh.fresh (any-push (opens_left r i pointer) lines line ∙ or_right (list_any (opens_left r i pointer) lines) (opens_left r i pointer line) opens)
-    (λ k opened. any-push (opens_left r i k) lines line ∙ or_left (list_any (opens_left r i k) lines) (opens_left r i k line) opened) in
+    let more = count_to-more (entries_of plan r) pointer (λ k. list_any (opens_pointer side.Left r i k) lines) (λ k. list_any (opens_pointer side.Left r i k) (lines ++ line ∷ []))
+    is_fresh.below is_fresh.fresh (any-push (opens_pointer side.Left r i pointer) lines line ∙ or_right (list_any (opens_pointer side.Left r i pointer) lines) (opens_pointer side.Left r i pointer line) opens)
+    (λ k opened. any-push (opens_pointer side.Left r i k) lines line ∙ or_left (list_any (opens_pointer side.Left r i k) lines) (opens_pointer side.Left r i k line) opened) in
     let one = one-le (opens_both r i line) true (λ e. refl) in
     omega (arith, count-push (opens_both r i) lines line, one, more, few)
 

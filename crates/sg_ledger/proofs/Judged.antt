@@ -5,8 +5,9 @@ use Rattle.std.proofs.lemmas.Nat.{div-add-mod', div-mul-add, mod_below}
 use Rattle.std.specs.List.{list_any}
 use Rattle.std.specs.Option.{option_map_or}
 use Rattle.sg_grammar.specs.Lines.{is_cast}
-use Rattle.sg_check.specs.Facts.{marks_ballot, opens_left}
-use Rattle.sg_check.specs.Kinds.{bad_dispute, bad_flag, bad_left_pointer, bad_opening, bad_path, bad_pointer, bad_print, bad_right_pointer, bad_rule, bad_side, clashes_with, differ, first_bad, shows_against}
+use Rattle.sg_check.specs.Facts.{marks_ballot, opens_pointer}
+use Rattle.sg_check.specs.Kinds.{clashes_with, differ, first_bad, shows_against}
+use Rattle.sg_check.specs.inside.ByKind.{bad_dispute, bad_flag, bad_opening, bad_path, bad_pointer, bad_pointer_on, bad_print, bad_rule, bad_side}
 use Rattle.sg_check.specs.declared.judged.Kind.TheVariants as kind
 use Rattle.sg_commit.specs.declared.Opening.{Opening}
 use Rattle.sg_forms.specs.declared.line.CodeLine.{CodeLine}
@@ -20,6 +21,7 @@ use Rattle.sg_ledger.specs.inside.Reads.{code_kind, row_kind}
 use Rattle.sg_ledger.specs.inside.Tables.{leads_another, most_marks, shows_another}
 use Rattle.sg_ledger.specs.Tells.{ArePlacedIn, TellsPaths, is_value, leads_entry, shows_entry}
 use Rattle.sg_plan.proofs.PlanLaws.{entry_tells}
+use Rattle.sg_plan.specs.declared.plan.Side.TheVariants as side
 use Rattle.sg_plan.specs.Ballots.{ballot_has, candidates_of, entries_of, entry_at, entry_place, rows_of, votes_of}
 use Rattle.sg_plan.specs.declared.plan.Plan.{Plan}
 use Rattle.sg_grammar.specs.Placed.{Placed}
@@ -199,8 +201,6 @@ path_down plan race entry place first some first_is (RowAt of instance number (r
             is_against = rw (there, ne_eqb left.value entry other) halves.1;
           }
     ]
-path_down plan race entry place first some first_is (RowAt of instance number (row.Left opening)) placed clashes = absurd (false≢true (sym (and_right (of == race) false refl) ∙ clashes))
-path_down plan race entry place first some first_is (RowAt of instance number (row.Right opening)) placed clashes = absurd (false≢true (sym (and_right (of == race) false refl) ∙ clashes))
 path_down plan race entry place first some first_is line placed clashes = absurd (false≢true clashes)
 
 -- a path is bad, as the table says; `first` is the ballot's first entry, and `at` its place
@@ -287,8 +287,8 @@ pub freshness : (plan : Plan) (lines : List Placed) (line : Placed) → first_ba
 freshness plan lines (RowAt race instance number (row.Both left right)) none =
     let line = RowAt race instance number (row.Both left right) in
     let pointer = (row_kind-none (bad_opening plan lines line) (bad_side plan lines line) (bad_pointer plan lines line) (bad_flag plan lines line) (bad_path plan lines line) (bad_print plan lines line) none).0 in
-    let left_fine = (or_parts (bad_left_pointer plan lines race instance (Some left)) (bad_right_pointer plan lines race instance (Some right)) pointer).0 in
-    let parts = or_parts (nat_le (entries_of plan race) left.value) (list_any (opens_left race instance left.value) lines) left_fine in
+    let left_fine = (or_parts (bad_pointer_on side.Left plan lines race instance (Some left)) (bad_pointer_on side.Right plan lines race instance (Some right)) pointer).0 in
+    let parts = or_parts (nat_le (entries_of plan race) left.value) (list_any (opens_pointer side.Left race instance left.value) lines) left_fine in
     record { below = leb-false (entries_of plan race) left.value parts.0; fresh = parts.1 }
 freshness plan lines (RowAt race instance number (row.Left opening)) none = tt
 freshness plan lines (RowAt race instance number (row.Right opening)) none = tt

@@ -4,7 +4,7 @@ use Rattle.std.proofs.lemmas.Bool.{and_from, and_left, and_parts, and_right, bot
 use Rattle.std.proofs.lemmas.List.Sums.{sum_by_push}
 use Rattle.std.specs.List.{list_any}
 use Rattle.sg_grammar.specs.Lines.{is_cast}
-use Rattle.sg_check.specs.Facts.{code_commitment, commits_code, commits_left, commits_right, is_marked, left_commitment, opened_left, marks_ballot, marks_entry, opens_left, opens_right, points_to, right_commitment, opened_right}
+use Rattle.sg_check.specs.Facts.{code_commitment, commits_code, commits_half, is_marked, half_commitment, opened_on, marks_ballot, marks_entry, opens_pointer, points_to}
 use Rattle.sg_check.specs.Kinds.{clashes_with, shows_against}
 use Rattle.sg_commit.specs.declared.Digest.{Digest}
 use Rattle.sg_commit.specs.declared.Opening.{Opening}
@@ -15,6 +15,7 @@ use Rattle.sg_ledger.specs.inside.Steps.{codes_after, known_after, lefts_after, 
 use Rattle.sg_ledger.specs.inside.Tables.{most_marks}
 use Rattle.sg_ledger.specs.Tells.{ArePlacedIn, AtBallots, AtEntries, AtRows, is_value, shows_entry}
 use Rattle.sg_plan.proofs.PlanLaws.{entry_place-below, entry_place-one, entry_tells, row_place-below}
+use Rattle.sg_plan.specs.declared.plan.Side.TheVariants as side
 use Rattle.sg_plan.specs.Ballots.{all_entries, ballot_has, candidates_of, entries_of, entry_at, entry_place, r_rows, row_place}
 use Rattle.sg_plan.specs.declared.plan.Plan.{Plan}
 use Rattle.sg_grammar.specs.Placed.{Placed}
@@ -36,28 +37,28 @@ codes_step plan table lines (CodeCommitAt race entry digest) placed sized told =
 codes_step plan table lines line placed sized told = λ r e r_in e_in. told r e r_in e_in ∙ sym (given-skip (commits_code r e) lines line refl)
 
 abbrev pub TellsLefts : Plan → List (Option Digest) → List Placed → Type 0
-TellsLefts plan table lines = AtRows plan table None (λ race instance row digest. digest ≡ left_commitment race instance row lines)
+TellsLefts plan table lines = AtRows plan table None (λ race instance row digest. digest ≡ half_commitment lines side.Left race instance row)
 
 pub lefts_step : (plan : Plan) (table : List (Option Digest)) (lines : List Placed) (line : Placed) → IsPlacedIn plan line → length table ≡ r_rows plan
     → TellsLefts plan table lines → TellsLefts plan (lefts_after plan table line) (lines ++ line ∷ [])
 lefts_step plan table lines (RowCommitAt race instance row left right) placed sized told = λ r i k r_in i_in k_in.
     first-set table (row_place plan race instance row) (row_place plan r i k) left
-    (left_commitment r i k lines) (left_commitment r i k (lines ++ RowCommitAt race instance row left right ∷ [])) ((race == r && instance == i) && row == k)
+    (half_commitment lines side.Left r i k) (half_commitment (lines ++ RowCommitAt race instance row left right ∷ []) side.Left r i k) ((race == r && instance == i) && row == k)
     (rw sized (row_place-below plan race instance row placed.0 placed.1 placed.2)) (row_same plan race instance row r i k) (row_other plan race instance row r i k placed.1 placed.2 i_in k_in)
-    (told r i k r_in i_in k_in) (given-push (commits_left r i k) lines (RowCommitAt race instance row left right))
-lefts_step plan table lines line placed sized told = λ r i k r_in i_in k_in. told r i k r_in i_in k_in ∙ sym (given-skip (commits_left r i k) lines line refl)
+    (told r i k r_in i_in k_in) (given-push (commits_half side.Left r i k) lines (RowCommitAt race instance row left right))
+lefts_step plan table lines line placed sized told = λ r i k r_in i_in k_in. told r i k r_in i_in k_in ∙ sym (given-skip (commits_half side.Left r i k) lines line refl)
 
 abbrev pub TellsRights : Plan → List (Option Digest) → List Placed → Type 0
-TellsRights plan table lines = AtRows plan table None (λ race instance row digest. digest ≡ right_commitment race instance row lines)
+TellsRights plan table lines = AtRows plan table None (λ race instance row digest. digest ≡ half_commitment lines side.Right race instance row)
 
 pub rights_step : (plan : Plan) (table : List (Option Digest)) (lines : List Placed) (line : Placed) → IsPlacedIn plan line → length table ≡ r_rows plan
     → TellsRights plan table lines → TellsRights plan (rights_after plan table line) (lines ++ line ∷ [])
 rights_step plan table lines (RowCommitAt race instance row left right) placed sized told = λ r i k r_in i_in k_in.
     first-set table (row_place plan race instance row) (row_place plan r i k) right
-    (right_commitment r i k lines) (right_commitment r i k (lines ++ RowCommitAt race instance row left right ∷ [])) ((race == r && instance == i) && row == k)
+    (half_commitment lines side.Right r i k) (half_commitment (lines ++ RowCommitAt race instance row left right ∷ []) side.Right r i k) ((race == r && instance == i) && row == k)
     (rw sized (row_place-below plan race instance row placed.0 placed.1 placed.2)) (row_same plan race instance row r i k) (row_other plan race instance row r i k placed.1 placed.2 i_in k_in)
-    (told r i k r_in i_in k_in) (given-push (commits_right r i k) lines (RowCommitAt race instance row left right))
-rights_step plan table lines line placed sized told = λ r i k r_in i_in k_in. told r i k r_in i_in k_in ∙ sym (given-skip (commits_right r i k) lines line refl)
+    (told r i k r_in i_in k_in) (given-push (commits_half side.Right r i k) lines (RowCommitAt race instance row left right))
+rights_step plan table lines line placed sized told = λ r i k r_in i_in k_in. told r i k r_in i_in k_in ∙ sym (given-skip (commits_half side.Right r i k) lines line refl)
 
 -- CODES
 
@@ -197,10 +198,10 @@ marks_step plan table lines line some placed sized told = λ r b r_in has. told 
 -- POINTERS
 
 abbrev pub TellsSeenLefts : Plan → List Bool → List Placed → Type 0
-TellsSeenLefts plan table lines = AtRows plan table false (λ race instance pointer seen. seen ≡ list_any (opens_left race instance pointer) lines)
+TellsSeenLefts plan table lines = AtRows plan table false (λ race instance pointer seen. seen ≡ list_any (opens_pointer side.Left race instance pointer) lines)
 
 abbrev pub TellsSeenRights : Plan → List Bool → List Placed → Type 0
-TellsSeenRights plan table lines = AtRows plan table false (λ race instance pointer seen. seen ≡ list_any (opens_right race instance pointer) lines)
+TellsSeenRights plan table lines = AtRows plan table false (λ race instance pointer seen. seen ≡ list_any (opens_pointer side.Right race instance pointer) lines)
 
 -- what stands at a pointer's place when one more pointer was opened
 seen_set : (plan : Plan) (table : List Bool) (race instance : ℕ) (opening : Option Opening) (r i pointer : ℕ) (old : Bool) → race < length plan.races → instance < plan.instances → length table ≡ r_rows plan
@@ -227,13 +228,13 @@ seen_set plan table race instance (Some o) r i pointer old within within_i sized
 pub seen_lefts_step : (plan : Plan) (table : List Bool) (lines : List Placed) (line : Placed) → IsPlacedIn plan line → length table ≡ r_rows plan
     → TellsSeenLefts plan table lines → TellsSeenLefts plan (seen_lefts_after plan table line) (lines ++ line ∷ [])
 seen_lefts_step plan table lines (RowAt race instance number opening) placed sized told = λ r i pointer r_in i_in below.
-    seen_set plan table race instance (opened_left opening) r i pointer (list_any (opens_left r i pointer) lines) placed.0 placed.1 sized i_in below (told r i pointer r_in i_in below)
-    ∙ sym (any-push (opens_left r i pointer) lines (RowAt race instance number opening))
-seen_lefts_step plan table lines line placed sized told = λ r i pointer r_in i_in below. told r i pointer r_in i_in below ∙ sym (any-skip (opens_left r i pointer) lines line refl)
+    seen_set plan table race instance (opened_on side.Left opening) r i pointer (list_any (opens_pointer side.Left r i pointer) lines) placed.0 placed.1 sized i_in below (told r i pointer r_in i_in below)
+    ∙ sym (any-push (opens_pointer side.Left r i pointer) lines (RowAt race instance number opening))
+seen_lefts_step plan table lines line placed sized told = λ r i pointer r_in i_in below. told r i pointer r_in i_in below ∙ sym (any-skip (opens_pointer side.Left r i pointer) lines line refl)
 
 pub seen_rights_step : (plan : Plan) (table : List Bool) (lines : List Placed) (line : Placed) → IsPlacedIn plan line → length table ≡ r_rows plan
     → TellsSeenRights plan table lines → TellsSeenRights plan (seen_rights_after plan table line) (lines ++ line ∷ [])
 seen_rights_step plan table lines (RowAt race instance number opening) placed sized told = λ r i pointer r_in i_in below.
-    seen_set plan table race instance (opened_right opening) r i pointer (list_any (opens_right r i pointer) lines) placed.0 placed.1 sized i_in below (told r i pointer r_in i_in below)
-    ∙ sym (any-push (opens_right r i pointer) lines (RowAt race instance number opening))
-seen_rights_step plan table lines line placed sized told = λ r i pointer r_in i_in below. told r i pointer r_in i_in below ∙ sym (any-skip (opens_right r i pointer) lines line refl)
+    seen_set plan table race instance (opened_on side.Right opening) r i pointer (list_any (opens_pointer side.Right r i pointer) lines) placed.0 placed.1 sized i_in below (told r i pointer r_in i_in below)
+    ∙ sym (any-push (opens_pointer side.Right r i pointer) lines (RowAt race instance number opening))
+seen_rights_step plan table lines line placed sized told = λ r i pointer r_in i_in below. told r i pointer r_in i_in below ∙ sym (any-skip (opens_pointer side.Right r i pointer) lines line refl)

@@ -1,7 +1,7 @@
 -- A ledger that tells lines tells one more; and what it judges.
 use Rattle.std.proofs.Common.{◌≡◌, ℕ, ◌<◌, nat_lt, if◌then◌else◌, Bool, true, false, List, [], ◌∷◌, ◌++◌, length, get_or, set, min, ◌+◌, Option, Some, None, refl, sym, ap, ◌∙◌, arith, length-set}
 use Rattle.sg_grammar.specs.Lines.{is_audit, is_cast}
-use Rattle.sg_check.specs.Facts.{is_both, opened_left, opened_right}
+use Rattle.sg_check.specs.Facts.{is_both, opened_on}
 use Rattle.sg_check.specs.Kinds.{first_bad}
 use Rattle.sg_check.specs.Verdict.{total_on}
 use Rattle.sg_check.specs.declared.judged.Total.{Total}
@@ -22,6 +22,7 @@ use Rattle.sg_ledger.specs.inside.Tables.{most_marks, with_one_more}
 use Rattle.sg_ledger.specs.Tells.{IsSized, Tells, candidate_place, instance_place, totals_kept, totals_placed}
 use Rattle.sg_ledger.specs.declared.ledger.Ledger.{Ledger}
 use Rattle.sg_plan.proofs.PlanLaws.{bounds}
+use Rattle.sg_plan.specs.declared.plan.Side.TheVariants as side
 use Rattle.sg_plan.specs.Ballots.{candidates_of, entries_of, entry_at, entry_place, row_place}
 use Rattle.sg_plan.specs.Limits.{fault_of}
 use Rattle.sg_plan.specs.declared.plan.Plan.{Plan}
@@ -76,11 +77,11 @@ seen_len plan table race instance None = refl
 seen_len plan table race instance (Some o) = choice_len (nat_lt o.value (entries_of plan race)) table (set table (row_place plan race instance o.value) true) (length-set table (row_place plan race instance o.value) true)
 
 seen_lefts_len : (plan : Plan) (table : List Bool) (line : Placed) → length (seen_lefts_after plan table line) ≡ length table
-seen_lefts_len plan table (RowAt race instance number opening) = seen_len plan table race instance (opened_left opening)
+seen_lefts_len plan table (RowAt race instance number opening) = seen_len plan table race instance (opened_on side.Left opening)
 seen_lefts_len plan table line = refl
 
 seen_rights_len : (plan : Plan) (table : List Bool) (line : Placed) → length (seen_rights_after plan table line) ≡ length table
-seen_rights_len plan table (RowAt race instance number opening) = seen_len plan table race instance (opened_right opening)
+seen_rights_len plan table (RowAt race instance number opening) = seen_len plan table race instance (opened_on side.Right opening)
 seen_rights_len plan table line = refl
 
 paths_len : (plan : Plan) (table : List (Option ℕ)) (line : Placed) → length (paths_after plan table line) ≡ length table
@@ -107,8 +108,7 @@ both_counts_len table line = refl
 
 pub sized_after : (plan : Plan) (ledger : Ledger) (line : Placed) → IsSized plan ledger → IsSized plan (ledger_after plan ledger line)
 sized_after plan ledger line sized = record {
-  sizes = sized.sizes;
-  index = sized.index;
+  book = sized.book;
   codes = codes_len plan ledger line ∙ sized.codes;
   lefts = lefts_len plan ledger line ∙ sized.lefts;
   rights = rights_len plan ledger line ∙ sized.rights;

@@ -8,8 +8,9 @@ use Rattle.std.proofs.lemmas.Nat.{div-mul-add, mod-mul-add, mod_below}
 use Rattle.std.specs.List.{list_any}
 use Rattle.std.specs.Option.{option_map, option_map_or}
 use Rattle.sg_grammar.specs.Lines.{is_audit, is_cast, is_dispute}
-use Rattle.sg_check.specs.Facts.{DisputedCode, audited_code, audited_entries, audits_entry, both_rows, is_audited, is_both, last_claim, opened_left, marks_code, marks_entry, opens_left, paper_code}
-use Rattle.sg_check.specs.Kinds.{bad_dispute, differ, is_right, is_there, wrong_audit, wrong_number, wrong_paper}
+use Rattle.sg_check.specs.Facts.{DisputedCode, audited_code, audited_entries, audits_entry, both_rows, is_audited, is_both, last_claim, opened_on, marks_code, marks_entry, opens_pointer, paper_code}
+use Rattle.sg_check.specs.Kinds.{differ, is_right, is_there, wrong_audit, wrong_number, wrong_paper}
+use Rattle.sg_check.specs.inside.ByKind.{bad_dispute}
 use Rattle.sg_commit.specs.declared.Opening.{Opening}
 use Rattle.sg_forms.specs.declared.line.CodeLine.{CodeLine}
 use Rattle.sg_forms.specs.declared.line.RowOpening.{RowOpening}
@@ -24,6 +25,7 @@ use Rattle.sg_ledger.specs.inside.Reads.{beside, is_same_code, reads_another}
 use Rattle.sg_ledger.specs.Tells.{ArePlacedIn, is_value, kept_of, opened_lefts, shows_entry}
 use Rattle.sg_ledger.specs.declared.claims.Claimed.{Claimed}
 use Rattle.sg_plan.proofs.PlanLaws.{entry_tells}
+use Rattle.sg_plan.specs.declared.plan.Side.TheVariants as side
 use Rattle.sg_plan.specs.Ballots.{ballot_has, candidates_of, entries_of, entry_at, entry_place, rows_of}
 use Rattle.sg_plan.specs.declared.plan.Plan.{Plan}
 use Rattle.sg_grammar.specs.Placed.{Placed}
@@ -73,15 +75,9 @@ first_same list count many is =
 
 -- a row is opened on one side and its entry audited, or on both and its entry not audited
 pub audit_judged : (plan : Plan) (audited : List Bool) (lines : List Placed) (race : ℕ) (opening : RowOpening) → race < length plan.races → TellsAudited plan audited lines
-    → option_map_or (λ (o : Opening). nat_lt o.value (entries_of plan race) && differ (is_both opening) (get_or audited (entry_place plan race o.value) false)) (opened_left opening) false ≡ wrong_audit plan lines race opening
+    → option_map_or (λ (o : Opening). nat_lt o.value (entries_of plan race) && differ (is_both opening) (get_or audited (entry_place plan race o.value) false)) (opened_on side.Left opening) false ≡ wrong_audit plan lines race opening
 audit_judged plan audited lines race opening in_plan told =
-    flag_judged (entries_of plan race) (λ k. get_or audited (entry_place plan race k) false) (λ k. is_audited plan race k lines) (is_both opening) (opened_left opening) (λ k below. told race k in_plan below)
-    ∙ as_said opening
-  where
-    as_said : (opening : RowOpening) → option_map_or (λ (o : Opening). nat_lt o.value (entries_of plan race) && differ (is_both opening) (is_audited plan race o.value lines)) (opened_left opening) false ≡ wrong_audit plan lines race opening
-    as_said (row.Left left) = refl
-    as_said (row.Right right) = refl
-    as_said (row.Both left right) = refl
+    flag_judged (entries_of plan race) (λ k. get_or audited (entry_place plan race k) false) (λ k. is_audited plan race k lines) (is_both opening) (opened_on side.Left opening) (λ k below. told race k in_plan below)
 
 -- PRINT: HOW MANY ROWS
 
@@ -100,7 +96,7 @@ pub number_judged : (most : ℕ) (plan : Plan) (lines : List Placed) (race insta
     → boths ≡ min (both_rows race instance lines) most → audits ≡ min (audited_entries race lines) most → both_rows race instance lines ≤ opened_lefts plan race instance lines
     → (number + 1 == entries_of plan race && not (boths + (if is_both opening then 1 else 0) == audits)) ≡ wrong_number plan lines race instance number opening
 number_judged most plan lines race instance number boths audits opening few boths_are audits_are opened =
-    let limit = count_to-most (entries_of plan race) (λ pointer. list_any (opens_left race instance pointer) lines) in
+    let limit = count_to-most (entries_of plan race) (λ pointer. list_any (opens_pointer side.Left race instance pointer) lines) in
     let rows : both_rows race instance lines ≤ entries_of plan race = omega (arith, opened, limit) in
     ap (λ (b : Bool). number + 1 == entries_of plan race && not b)
     (counts_agree most boths audits (both_rows race instance lines) (audited_entries race lines) (if is_both opening then 1 else 0) boths_are audits_are (omega (arith, rows, few, one-most (is_both opening))))

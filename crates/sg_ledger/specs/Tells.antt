@@ -1,9 +1,10 @@
 -- What the tables of a ledger tell: the facts of the lines in their places, at the place of each coordinate.
-use Rattle.std.specs.Prelude.{◌≡◌, ℕ, zero, suc, ◌+◌, ◌*◌, ◌/◌, ◌%◌, ◌<◌, ◌≤◌, ◌==◌, nat_lt, if◌then◌else◌, min, Bool, true, false, ◌&&◌, List, [], ◌∷◌, ◌++◌, length, slice_get, slice_index_or, Option, Some, None, count_by}
+use Rattle.std.specs.Prelude.{◌≡◌, ℕ, zero, suc, ◌+◌, ◌*◌, ◌/◌, ◌%◌, ◌<◌, ◌≤◌, ◌==◌, nat_lt, if◌then◌else◌, min, Bool, true, false, ◌&&◌, List, [], ◌∷◌, ◌++◌, length, slice_index_or, Option, None, count_by}
 use Rattle.std.specs.List.{list_any}
 use Rattle.std.specs.Option.{option_map, option_map_or}
+use Rattle.sg_plan.specs.declared.plan.Side.TheVariants as side
 use Rattle.sg_plan.specs.Limits.{most_candidates, most_instances}
-use Rattle.sg_check.specs.Facts.{DisputedCode, code_commitment, left_commitment, right_commitment, is_marked, marks_ballot, audited_entries, is_audited, paper_code, is_flagged, is_set, votes_for, opens_left, opens_right, both_rows, is_full_draw, public_bytes, last_claim, shows_disputed}
+use Rattle.sg_check.specs.Facts.{DisputedCode, code_commitment, half_commitment, is_marked, marks_ballot, audited_entries, is_audited, paper_code, is_flagged, is_set, votes_for, opens_pointer, both_rows, is_full_draw, public_bytes, last_claim, shows_disputed}
 use Rattle.sg_check.specs.Verdict.{total_on}
 use Rattle.sg_check.specs.declared.judged.Total.{Total}
 use Rattle.sg_forms.specs.Spelling.{AreDigits}
@@ -18,8 +19,7 @@ use Rattle.sg_ledger.specs.declared.commitments.Commitments.{Commitments}
 use Rattle.sg_ledger.specs.declared.drawn.Drawn.{Drawn}
 use Rattle.sg_ledger.specs.declared.ledger.Ledger.{Ledger}
 use Rattle.sg_ledger.specs.declared.pointers.Pointers.{Pointers}
-use Rattle.sg_ledger.specs.declared.sizes.Sizes.{Sizes}
-use Rattle.sg_plan.specs.Ballots.{all_entries, ballot_has, candidates_of, entries_before, entries_of, entry_at, entry_place, r_rows, row_place}
+use Rattle.sg_plan.specs.Ballots.{all_entries, ballot_has, candidates_of, entries_of, entry_at, entry_place, r_rows, row_place}
 use Rattle.sg_plan.specs.declared.plan.Plan.{Plan}
 use Rattle.sg_grammar.specs.Placed.{Placed}
 use Rattle.sg_grammar.specs.Placed.Placed.{CodeAt, DrawnPublic, RowAt}
@@ -65,7 +65,7 @@ count_to (suc n) test = count_to n test + (if test n then 1 else 0)
 
 -- how many left pointers below n the rows of the instance open
 abbrev pub opened_lefts : Plan → ℕ → ℕ → List Placed → ℕ
-opened_lefts plan race instance lines = count_to (entries_of plan race) (λ pointer. list_any (opens_left race instance pointer) lines)
+opened_lefts plan race instance lines = count_to (entries_of plan race) (λ pointer. list_any (opens_pointer side.Left race instance pointer) lines)
 
 -- what is kept of a claim: whether the block shows its code
 abbrev pub kept_of : DisputedCode → Claimed
@@ -113,18 +113,9 @@ abbrev pub AtInstances : Plan → List ℕ → (ℕ → ℕ → ℕ → Type 0) 
 AtInstances plan table fact = (race instance : ℕ) → race < length plan.races → instance < plan.instances
     → fact race instance (slice_index_or table (instance_place race instance) 0)
 
--- how many entries come before those of each race, and how many it has
-pub record AreSizes (plan : Plan) (sizes : Sizes) : Type 0 where
-  pub befores : length sizes.before ≡ length plan.races
-  pub counts : length sizes.entries ≡ length plan.races
-  pub before : (race : ℕ) → race < length plan.races → slice_get sizes.before race ≡ Some (entries_before plan race)
-  pub count : (race : ℕ) → race < length plan.races → slice_get sizes.entries race ≡ Some (entries_of plan race)
-  pub all : sizes.all ≡ all_entries plan
-
--- each table has a place for each coordinate, and the index is that of the plan
+-- each table has a place for each coordinate of the plan that is kept
 pub record IsSized (plan : Plan) (ledger : Ledger) : Type 0 where
-  pub sizes : AreSizes plan ledger.sizes
-  pub index : ledger.index ≡ plan
+  pub book : ledger.book ≡ plan
   pub codes : length ledger.commitments.codes ≡ all_entries plan
   pub lefts : length ledger.commitments.lefts ≡ r_rows plan
   pub rights : length ledger.commitments.rights ≡ r_rows plan
@@ -144,8 +135,8 @@ pub record IsSized (plan : Plan) (ledger : Ledger) : Type 0 where
 
 pub record TellsCommitments (plan : Plan) (kept : Commitments) (lines : List Placed) : Type 0 where
   pub codes : AtEntries plan kept.codes None (λ race entry digest. digest ≡ code_commitment race entry lines)
-  pub lefts : AtRows plan kept.lefts None (λ race instance row digest. digest ≡ left_commitment race instance row lines)
-  pub rights : AtRows plan kept.rights None (λ race instance row digest. digest ≡ right_commitment race instance row lines)
+  pub lefts : AtRows plan kept.lefts None (λ race instance row digest. digest ≡ half_commitment lines side.Left race instance row)
+  pub rights : AtRows plan kept.rights None (λ race instance row digest. digest ≡ half_commitment lines side.Right race instance row)
 
 -- the lines that show an entry show the code that is kept of it
 pub record TellsCodes (plan : Plan) (kept : Codes) (lines : List Placed) : Type 0 where
@@ -160,8 +151,8 @@ pub record TellsBits (plan : Plan) (kept : Bits) (lines : List Placed) : Type 0 
 
 -- the pointer stands in the place of the row with its number
 pub record TellsPointers (plan : Plan) (kept : Pointers) (lines : List Placed) : Type 0 where
-  pub lefts : AtRows plan kept.lefts false (λ race instance pointer seen. seen ≡ list_any (opens_left race instance pointer) lines)
-  pub rights : AtRows plan kept.rights false (λ race instance pointer seen. seen ≡ list_any (opens_right race instance pointer) lines)
+  pub lefts : AtRows plan kept.lefts false (λ race instance pointer seen. seen ≡ list_any (opens_pointer side.Left race instance pointer) lines)
+  pub rights : AtRows plan kept.rights false (λ race instance pointer seen. seen ≡ list_any (opens_pointer side.Right race instance pointer) lines)
 
 -- the rows that lead an entry lead it to the place that is kept of it
 abbrev pub TellsPaths : Plan → List (Option ℕ) → List Placed → Type 0
@@ -193,6 +184,10 @@ pub record Tells (plan : Plan) (ledger : Ledger) (lines : List Placed) : Type 0 
   pub drawn : TellsDrawn ledger.drawn lines
   pub claim : ledger.claim ≡ option_map kept_of (last_claim lines)
   pub totals : ledger.totals ≡ totals_placed lines
+
+-- the plan that the ledger has
+abbrev pub plan_kept : Ledger → Plan
+plan_kept ledger = ledger.book
 
 -- how many totals the ledger has
 abbrev pub totals_kept : Ledger → ℕ

@@ -6,15 +6,13 @@ ghost use Rattle.sg_check.specs.Facts.{is_both};
 ghost use Rattle.sg_check.specs.Kinds.{has_repeat};
 ghost use Rattle.sg_ledger.specs.inside.Reads.{is_same_code, reads_another};
 ghost use Rattle.sg_ledger.specs.inside.Tables.{most_marks, with_one_more};
-ghost use Rattle.sg_ledger.specs.Tells.{AreSizes};
 ghost use Rattle.sg_plan.specs.Ballots.{all_entries};
-ghost use Rattle.sg_plan.specs.Limits.{fault_of};
 
-use crate::sizes::Sizes;
+use crate::book::Book;
 use crate::tables::{count_mark, look};
 use sg_forms::RowOpening;
 use sg_grammar::Block;
-use sg_plan::{Items, NoMemory, Plan};
+use sg_plan::{Items, NoMemory};
 use std::alloc::Global;
 
 /// What was shown of audited ballots, and how many rows are opened on both sides.
@@ -112,36 +110,35 @@ pub fn is_number_wrong(is_last: bool, boths: u32, is_both: bool, audited: u32) -
 }
 
 /// The row leads an audited entry to a candidate beside whom the paper has another code than the entry's.
+#[inline(always)]
 pub fn is_paper_wrong(
     audits: &Audits,
     known: &Items<Option<u16>>,
-    sizes: &Sizes,
-    plan: &Plan,
+    book: &Book,
     race: u32,
     opening: &RowOpening,
 ) -> bool
-    requires good { fault_of plan.now ≡ None }
-    requires audited { length audits.now.audited ≡ all_entries plan.now }
-    requires papers { length audits.now.papers ≡ all_entries plan.now }
-    requires known { length known.now ≡ all_entries plan.now }
-    requires sizes { AreSizes plan.now sizes.now }
-    requires race { race < length plan.now.races }
-    ensures { result ≡ reads_another plan.now audits.now.audited audits.now.papers known.now race opening.now }
+    requires audited { length audits.now.audited ≡ all_entries book.now }
+    requires papers { length audits.now.papers ≡ all_entries book.now }
+    requires known { length known.now ≡ all_entries book.now }
+    requires race { race < length book.now.races }
+    ensures { result ≡ reads_another book.now audits.now.audited audits.now.papers known.now race opening.now }
 {
+    let _ = book.plan();
     let RowOpening::Both(left, right) = *opening else {
         return false;
     };
-    let entries = sizes.entries(plan, race);
+    let entries = book.entries(race);
     if left.value >= entries {
         return false;
     }
     if right.value >= entries {
         return false;
     }
-    let candidates = plan.candidates(race) as u32;
+    let candidates = book.candidates(race) as u32;
     let beside = left.value - left.value % candidates + right.value % candidates;
-    let at = sizes.entry_place(plan, race, left.value);
-    let paper = look(&audits.papers, sizes.entry_place(plan, race, beside));
+    let at = book.entry_place(race, left.value);
+    let paper = look(&audits.papers, book.entry_place(race, beside));
     look(&audits.audited, at) && !is_same(paper, look(known, at))
 }
 

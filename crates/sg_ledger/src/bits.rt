@@ -3,13 +3,12 @@ ghost use Rattle.std.specs.Prelude.{◌≡◌, ℕ, ◌+◌, ◌<◌, ◌≤◌,
 ghost use Rattle.std.specs.Option.{option_map_or};
 ghost use Rattle.sg_check.specs.Kinds.{differ};
 ghost use Rattle.sg_ledger.specs.inside.Tables.{with_bits, with_votes};
-ghost use Rattle.sg_ledger.specs.Tells.{AreSizes};
 ghost use Rattle.sg_plan.specs.Ballots.{all_entries, entries_of, entry_place};
 
-use crate::sizes::Sizes;
+use crate::book::Book;
 use crate::tables::{count_vote, look, set_bits};
 use sg_commit::Opening;
-use sg_plan::{Items, NoMemory, Plan};
+use sg_plan::{Items, NoMemory};
 use std::alloc::Global;
 
 /// The flags and the places that were posted.
@@ -88,22 +87,20 @@ fn count_votes(votes: &mut Items<u64>, first: usize, candidates: usize, from: us
 /// The row of a pointer below n is flagged, and its entry or place is not set; or the other way round.
 pub fn is_flag_wrong(
     table: &Items<bool>,
-    sizes: &Sizes,
-    plan: &Plan,
+    book: &Book,
     race: u32,
     flag: bool,
     opening: Option<Opening>,
 ) -> bool
-    requires table { length table.now ≡ all_entries plan.now }
-    requires sizes { AreSizes plan.now sizes.now }
-    requires race { race < length plan.now.races }
-    ensures { result ≡ option_map_or (λ o. nat_lt o.value (entries_of plan.now race) && differ flag (slice_index_or table.now (entry_place plan.now race o.value) false)) opening false }
+    requires table { length table.now ≡ all_entries book.now }
+    requires race { race < length book.now.races }
+    ensures { result ≡ option_map_or (λ o. nat_lt o.value (entries_of book.now race) && differ flag (slice_index_or table.now (entry_place book.now race o.value) false)) opening false }
 {
     let Some(opening) = opening else {
         return false;
     };
-    if opening.value >= sizes.entries(plan, race) {
+    if opening.value >= book.entries(race) {
         return false;
     }
-    flag != look(table, sizes.entry_place(plan, race, opening.value))
+    flag != look(table, book.entry_place(race, opening.value))
 }

@@ -50,6 +50,7 @@ impl Walk {
     }
 
     /// The side of the row that its coin opens.
+    #[inline(always)]
     pub fn side(&self, race: u32, instance: u32, row: u32) -> Side
         ensures { result ≡ coin_of self.now race instance row }
     {
@@ -61,6 +62,7 @@ impl Walk {
     }
 
     /// Draws the coin of the row behind this one ahead.
+    #[inline(always)]
     pub fn move_on(&mut self, race: u32, instance: u32, row: u32)
         requires { row + 1 < 2 ^ 32 }
         ensures { self.new ≡ self.old }

@@ -1,8 +1,10 @@
 //! Commitments, and whether what is opened opens them.
 ghost use Rattle.std.specs.Prelude.{◌≡◌, ◌<◌, ◌^◌, ◌||◌, IfOk, not, length, replicate, slice_index_or};
-ghost use Rattle.sg_check.specs.Facts.{opened_left, opened_right};
-ghost use Rattle.sg_check.specs.Kinds.{bad_pointer_opening, code_opening, opens_digest};
+ghost use Rattle.sg_check.specs.Facts.{opened_on};
+ghost use Rattle.sg_check.specs.Kinds.{code_opening, opens_digest};
+ghost use Rattle.sg_check.specs.inside.ByKind.{bad_pointer_opening};
 ghost use Rattle.sg_ledger.specs.inside.Tables.{with_first};
+ghost use Rattle.sg_plan.specs.declared.plan.Side.TheVariants as side;
 
 use crate::tables::{look, put_first};
 use sg_commit::{CommitKind, Digest, Opening, opens};
@@ -68,6 +70,7 @@ impl Commitments {
     }
 
     /// A pointer that is opened does not open its commitment.
+    #[inline(always)]
     pub fn is_row_bad(
         &self,
         at: usize,
@@ -83,28 +86,15 @@ impl Commitments {
         requires instance { instance < 2 ^ 16 }
         ensures { result ≡ (bad_pointer_opening (slice_index_or self.now.lefts at None) CommitKind.L race instance row left || bad_pointer_opening (slice_index_or self.now.rights at None) CommitKind.R race instance row right) }
     {
-        let bad_left = is_pointer_bad(
-            look(&self.lefts, at),
-            CommitKind::L,
-            race,
-            instance,
-            row,
-            left,
-        );
-        let bad_right = is_pointer_bad(
-            look(&self.rights, at),
-            CommitKind::R,
-            race,
-            instance,
-            row,
-            right,
-        );
+        let bad_left = is_pointer_bad(&self.lefts, at, CommitKind::L, race, instance, row, left);
+        let bad_right = is_pointer_bad(&self.rights, at, CommitKind::R, race, instance, row, right);
         bad_left || bad_right
     }
 }
 
 /// The commitment is there, and this opens it.
 #[tactic(auto, using(crate::proofs::Texts::opened))]
+#[inline(always)]
 fn opens_commitment(
     digest: Option<Digest>,
     kind: CommitKind,
@@ -123,28 +113,31 @@ fn opens_commitment(
     }
 }
 
-/// The pointer is opened, and does not open the commitment.
+/// The pointer is opened, and does not open the commitment at this place.
+#[inline(always)]
 fn is_pointer_bad(
-    digest: Option<Digest>,
+    digests: &Items<Option<Digest>>,
+    at: usize,
     kind: CommitKind,
     race: u32,
     instance: u32,
     row: u32,
     opening: Option<Opening>,
 ) -> bool
+    requires at { at < length digests.now }
     requires race { race < 2 ^ 16 }
     requires instance { instance < 2 ^ 16 }
-    ensures { result ≡ bad_pointer_opening digest kind race instance row opening }
+    ensures { result ≡ bad_pointer_opening (slice_index_or digests.now at None) kind race instance row opening }
 {
     match opening {
-        Some(opening) => !opens_commitment(digest, kind, race, instance, row, &opening),
+        Some(opening) => !opens_commitment(look(digests, at), kind, race, instance, row, &opening),
         None => false,
     }
 }
 
 /// The left pointer, where it is opened.
 pub fn left_opening(opening: &RowOpening) -> Option<Opening>
-    ensures { result ≡ opened_left opening.now }
+    ensures { result ≡ opened_on side.Left opening.now }
 {
     match *opening {
         RowOpening::Left(left) => Some(left),
@@ -155,7 +148,7 @@ pub fn left_opening(opening: &RowOpening) -> Option<Opening>
 
 /// The right pointer, where it is opened.
 pub fn right_opening(opening: &RowOpening) -> Option<Opening>
-    ensures { result ≡ opened_right opening.now }
+    ensures { result ≡ opened_on side.Right opening.now }
 {
     match *opening {
         RowOpening::Left(_) => None,

@@ -54,6 +54,7 @@ impl Drawn {
     }
 
     /// A row was kept: its instance's next one is drawn ahead.
+    #[inline(always)]
     pub fn move_on(&mut self, race: u32, instance: u32, row: u32)
         requires { row + 1 < 2 ^ 32 }
         ensures { self.new ≡ self.old }
@@ -64,6 +65,7 @@ impl Drawn {
     }
 
     /// The row is not opened on a side on which it is to be.
+    #[inline(always)]
     pub fn is_side_bad(&self, race: u32, instance: u32, row: u32, opening: &RowOpening) -> bool
         ensures { result ≡ ((self.now.full && not (is_both opening.now)) || option_map_or (λ seed. not (is_on_side (coin_of seed race instance row) opening.now)) self.now.coins false) }
     {

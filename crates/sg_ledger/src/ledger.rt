@@ -1,13 +1,15 @@
 //! The ledger: what its tables tell, what a line is judged by them, and how a line is kept in them.
 ghost use Rattle.std.specs.Prelude.{◌≡◌, ◌+◌, ◌<◌, ◌≤◌, ◌==◌, ◌&&◌, ◌||◌, if◌then◌else◌, None, true, List, ◌∷◌, [], ◌++◌, IfOk, length, take};
-ghost use Rattle.sg_check.specs.Kinds.{bad_dispute, bad_flag, bad_opening, bad_pointer, bad_print, bad_side, first_bad};
+ghost use Rattle.sg_check.specs.Kinds.{first_bad};
 ghost use Rattle.sg_check.specs.Verdict.{total_on};
+ghost use Rattle.sg_check.specs.inside.ByKind.{bad_dispute, bad_flag, bad_opening, bad_pointer, bad_print, bad_side};
 ghost use Rattle.sg_forms.specs.Said.{said};
 ghost use Rattle.sg_forms.specs.Spelling.{AreDigits};
+ghost use Rattle.sg_ledger.specs.inside.Blank.{ledger_with};
+ghost use Rattle.sg_ledger.specs.inside.Sizes.{AreSizes};
 ghost use Rattle.sg_ledger.specs.inside.Reads.{code_kind, row_kind, rule_kind};
 ghost use Rattle.sg_grammar.specs.Left.{most_totals};
 ghost use Rattle.sg_plan.specs.Ballots.{candidates_of, entry_at, entry_place, r_rows, row_place};
-ghost use Rattle.sg_plan.specs.Limits.{fault_of};
 ghost use Rattle.sg_plan.specs.declared.plan.Plan.{Plan as PlanOf};
 ghost use Rattle.sg_grammar.specs.Placed.{Placed};
 ghost use Rattle.sg_grammar.specs.Placed.Placed.{CodeCommitAt, RowCommitAt, CodeAt, OverAt, PaperAt, FlagsAt, PlacesAt, TotalAt, DrawnFull, DrawnPublic, RowAt, Disputed};
@@ -15,35 +17,29 @@ ghost use Rattle.sg_grammar.specs.Spots.{IsPlacedIn, placed_at};
 
 use crate::audits::{Audits, are_both, count_both, has_repeat, is_number_wrong, is_paper_wrong};
 use crate::bits::{Bits, is_flag_wrong};
+use crate::blank::{Blank, CANDIDATES, INSTANCES};
+use crate::book::Book;
 use crate::claims::{Claimed, is_dispute, is_right, with_shown};
 use crate::codes::Codes;
 use crate::commitments::{Commitments, left_opening, right_opening};
 use crate::drawn::Drawn;
 use crate::paths::{is_path_bad, keep_path};
 use crate::pointers::{Pointers, is_pointer_bad, keep_pointer};
-use crate::sizes::{Sizes, first_entry};
 use crate::tables::{look, put_first, put_firsts, set_bits};
 use crate::totals::Totals;
 use sg_check::{Kind, Total};
 use sg_commit::Digest;
 use sg_forms::{CodeLine, Line, RowOpening};
 use sg_grammar::{Block, Meaning, Spot, meaning_of};
-use sg_plan::limits::{MOST_CANDIDATES, MOST_INSTANCES};
-use sg_plan::{BallotIndex, ClaimWord, Items, NoMemory, Plan};
+use sg_plan::limits::MOST_CANDIDATES;
+use sg_plan::{BallotIndex, ClaimWord, Items, NoMemory};
 use std::alloc::Global;
-
-/// How many places the table of votes has for each race: the most candidates of a race.
-const CANDIDATES: usize = MOST_CANDIDATES;
-
-/// How many places the count of rows opened on both sides has for each race: the most instances.
-const INSTANCES: usize = MOST_INSTANCES as usize;
 
 /// What the lines of a record have said so far.
 #[derive(Drop)]
 pub struct Ledger {
-    sizes: Sizes,
-    /// The ballots of the plan.
-    index: BallotIndex,
+    /// The plan of the record.
+    book: Book,
     commitments: Commitments,
     codes: Codes,
     bits: Bits,
@@ -60,69 +56,46 @@ pub struct Ledger {
 impl Ledger {
     ghost use Rattle.sg_ledger.specs.inside.Steps.{ledger_after};
     ghost use Rattle.sg_check.specs.Judging.{AreOfPlan};
-    ghost use Rattle.sg_ledger.specs.Tells.{HasDigits, IsSized, Tells, TellsSome, totals_kept, totals_placed};
+    ghost use Rattle.sg_ledger.specs.Tells.{HasDigits, IsSized, Tells, TellsSome, plan_kept, totals_kept, totals_placed};
 
-    /// Tables for a plan, in which nothing is told yet. Only this takes memory, as much as the plan alone says.
-    pub fn make(alloc: Global, plan: &Plan) -> Result<Ledger, NoMemory>
-        requires good { fault_of plan.now ≡ None }
-        ensures { IfOk result (λ ledger. (lines : List Placed) → AreOfPlan lines → Tells plan.now ledger lines) }
+    /// Tables for the plan that is indexed, in which nothing is told yet. Only this takes memory, as much as the plan
+    /// alone says.
+    pub fn make(alloc: Global, index: BallotIndex) -> Result<Ledger, NoMemory>
+        ensures { IfOk result (λ ledger. (lines : List Placed) → AreOfPlan lines → Tells index ledger lines) }
     {
-        let sizes = Sizes::make(alloc, plan)?;
-        let entries = sizes.all_entries(plan);
-        let rows = sizes.all_rows(plan);
-        let commitments = Commitments::make(alloc, entries, rows)?;
-        let codes = Codes::make(alloc, entries)?;
-        let bits = Bits::make(alloc, entries, rows, CANDIDATES * plan.races.len())?;
-        let pointers = Pointers::make(alloc, rows)?;
-        let paths = Items::filled(alloc, None, entries)?;
-        let races = plan.races.len();
-        let audits = Audits::make(alloc, entries, races, INSTANCES * races)?;
-        let drawn = Drawn::make();
-        let totals = Totals::make(alloc)?;
-        let index = BallotIndex::make(alloc, plan)?;
-        Ok(Ledger {
-            sizes,
-            index,
-            commitments,
-            codes,
-            bits,
-            pointers,
-            paths,
-            audits,
-            drawn,
-            claim: None,
-            totals,
-        })
+        let _ = index.plan();
+        match Blank::make(alloc, &index) {
+            Ok(blank) => Ok(opened(index, blank)),
+            Err(NoMemory) => Err(dropped(index)),
+        }
     }
 
     /// What the line in its place is bad in, against the lines told: all kinds but form and seal.
-    pub fn judge(&self, plan: &Plan, at: Spot, line: &Line) -> Option<Kind>
-        requires good { fault_of plan.now ≡ None }
-        requires placed { IsPlacedIn plan.now (placed_at at (said line.now)) }
+    #[inline(always)]
+    pub fn judge(&self, at: Spot, line: &Line) -> Option<Kind>
+        requires placed { IsPlacedIn (plan_kept self.now) (placed_at at (said line.now)) }
         requires digits { HasDigits (placed_at at (said line.now)) }
-        requires some { TellsSome plan.now self.now }
-        ensures { (lines : List Placed) → Tells plan.now self.now lines → result ≡ first_bad plan.now lines (placed_at at (said line.now)) }
+        requires some { TellsSome (plan_kept self.now) self.now }
+        ensures { (lines : List Placed) → Tells (plan_kept self.now) self.now lines → result ≡ first_bad (plan_kept self.now) lines (placed_at at (said line.now)) }
     {
         match meaning_of(at, line) {
             Meaning::CodeCommit(..) => None,
             Meaning::RowCommit(..) => None,
             Meaning::Code(block, ballot, race, column, code) => self.judge_code(
-                plan, block, ballot, race, column, &code,
+                block, ballot, race, column, &code,
             ),
-            Meaning::Over(ballot, race) => self.judge_over(plan, ballot, race),
+            Meaning::Over(ballot, race) => self.judge_over(ballot, race),
             Meaning::Paper(ballot, race, codes, count) => self.judge_paper(
-                plan, ballot, race, &codes, count,
+                ballot, race, &codes, count,
             ),
             Meaning::Flags(..) => None,
             Meaning::Places(..) => None,
-            Meaning::Total(race, candidate, count) => self.judge_total(
-                plan, race, candidate, count,
-            ),
+            Meaning::Total(race, candidate, count) => self.judge_total(race, candidate, count),
             Meaning::Seal(..) => None,
             Meaning::DrawFull => None,
             Meaning::DrawPublic(_) => None,
             Meaning::Row(race, instance, row, opening) => self.judge_row(
-                plan, race, instance, row, &opening,
+                race, instance, row, &opening,
             ),
             Meaning::Dispute(..) => None,
             Meaning::Nothing => None,
@@ -130,15 +103,16 @@ impl Ledger {
     }
 
     /// Tells one more line, in which nothing is bad. It takes no memory.
-    pub fn keep(&mut self, plan: &Plan, at: Spot, line: &Line)
-        requires good { fault_of plan.now ≡ None }
-        requires placed { IsPlacedIn plan.now (placed_at at (said line.now)) }
+    #[inline(always)]
+    pub fn keep(&mut self, at: Spot, line: &Line)
+        requires placed { IsPlacedIn (plan_kept self.old) (placed_at at (said line.now)) }
         requires digits { HasDigits (placed_at at (said line.now)) }
-        requires some { TellsSome plan.now self.old }
+        requires some { TellsSome (plan_kept self.old) self.old }
         requires room { totals_kept self.old + length (total_on (placed_at at (said line.now))) ≤ most_totals }
-        ensures { (lines : List Placed) → Tells plan.now self.old lines → first_bad plan.now lines (placed_at at (said line.now)) ≡ None → Tells plan.now self.new (lines ++ placed_at at (said line.now) ∷ []) }
+        ensures { (lines : List Placed) → Tells (plan_kept self.old) self.old lines → first_bad (plan_kept self.old) lines (placed_at at (said line.now)) ≡ None → Tells (plan_kept self.old) self.new (lines ++ placed_at at (said line.now) ∷ []) }
     {
-        self.write(plan, at, line);
+        let _ = self.book.plan();
+        self.write(at, line);
     }
 
     /// The totals told, in the order of their lines.
@@ -151,37 +125,35 @@ impl Ledger {
     /// What a code in a block is bad in.
     fn judge_code(
         &self,
-        plan: &Plan,
         block: Block,
         ballot: u32,
         race: u32,
         column: u32,
         code: &CodeLine,
     ) -> Option<Kind>
-        requires good { fault_of plan.now ≡ None }
-        requires placed { IsPlacedIn plan.now (CodeAt block ballot race column code.now) }
-        requires sized { IsSized plan.now self.now }
-        ensures { (lines : List Placed) → Tells plan.now self.now lines → result ≡ first_bad plan.now lines (CodeAt block ballot race column code.now) }
+        requires placed { IsPlacedIn self.now.book (CodeAt block ballot race column code.now) }
+        requires sized { IsSized self.now.book self.now }
+        ensures { (lines : List Placed) → Tells self.now.book self.now lines → result ≡ first_bad self.now.book lines (CodeAt block ballot race column code.now) }
     {
-        let first = first_entry(&self.index, plan, race, ballot);
-        let at = self.sizes.entry_place(plan, race, first);
+        let _ = self.book.plan();
+        let first = self.book.first_entry(race, ballot);
+        let at = self.book.entry_place(race, first);
         let own = at + column as usize;
         let opening = self
             .commitments
             .is_code_bad(own, race, first + column, code);
-        let many = self.codes.has_enough(block, at, plan.votes(race));
-        let candidates = plan.candidates(race);
+        let many = self.codes.has_enough(block, at, self.book.votes(race));
+        let candidates = self.book.candidates(race);
         let against = self
             .codes
             .are_against(at, candidates, column as usize, code.code);
-        let dispute = self.is_answer_wrong(plan, block, at, ballot, race, column, code);
+        let dispute = self.is_answer_wrong(block, at, ballot, race, column, code);
         kind_of_code(opening, many, against, dispute)
     }
 
     /// The code is the last of a dispute's block, and the answer to the claim is wrong.
     fn is_answer_wrong(
         &self,
-        plan: &Plan,
         block: Block,
         at: usize,
         ballot: u32,
@@ -189,16 +161,16 @@ impl Ledger {
         column: u32,
         code: &CodeLine,
     ) -> bool
-        requires good { fault_of plan.now ≡ None }
-        requires placed { IsPlacedIn plan.now (CodeAt block ballot race column code.now) }
-        requires sized { IsSized plan.now self.now }
-        requires at { at ≡ entry_place plan.now race (entry_at plan.now race ballot 0) }
-        ensures { (lines : List Placed) → Tells plan.now self.now lines → result ≡ bad_dispute plan.now lines (CodeAt block ballot race column code.now) }
+        requires placed { IsPlacedIn self.now.book (CodeAt block ballot race column code.now) }
+        requires sized { IsSized self.now.book self.now }
+        requires at { at ≡ entry_place self.now.book race (entry_at self.now.book race ballot 0) }
+        ensures { (lines : List Placed) → Tells self.now.book self.now lines → result ≡ bad_dispute self.now.book lines (CodeAt block ballot race column code.now) }
     {
+        let _ = self.book.plan();
         if !is_dispute(block) {
             return false;
         }
-        let candidates = plan.candidates(race);
+        let candidates = self.book.candidates(race);
         if column as usize + 1 != candidates {
             return false;
         }
@@ -211,41 +183,39 @@ impl Ledger {
     }
 
     /// What the line that a race is over is bad in.
-    fn judge_over(&self, plan: &Plan, ballot: u32, race: u32) -> Option<Kind>
-        requires good { fault_of plan.now ≡ None }
-        requires placed { IsPlacedIn plan.now (OverAt ballot race) }
-        requires sized { IsSized plan.now self.now }
-        ensures { (lines : List Placed) → Tells plan.now self.now lines → result ≡ first_bad plan.now lines (OverAt ballot race) }
+    fn judge_over(&self, ballot: u32, race: u32) -> Option<Kind>
+        requires placed { IsPlacedIn self.now.book (OverAt ballot race) }
+        requires sized { IsSized self.now.book self.now }
+        ensures { (lines : List Placed) → Tells self.now.book self.now lines → result ≡ first_bad self.now.book lines (OverAt ballot race) }
     {
-        let first = first_entry(&self.index, plan, race, ballot);
-        let at = self.sizes.entry_place(plan, race, first);
+        let _ = self.book.plan();
+        let first = self.book.first_entry(race, ballot);
+        let at = self.book.entry_place(race, first);
         kind_of_rule(self.codes.has_mark(at))
     }
 
     /// What the codes of a paper are bad in: the first so many of them.
     fn judge_paper(
         &self,
-        plan: &Plan,
         ballot: u32,
         race: u32,
         codes: &[u16; MOST_CANDIDATES],
         count: u32,
     ) -> Option<Kind>
-        requires good { fault_of plan.now ≡ None }
-        requires placed { IsPlacedIn plan.now (PaperAt ballot race (take count codes.now)) }
-        ensures { (lines : List Placed) → Tells plan.now self.now lines → result ≡ first_bad plan.now lines (PaperAt ballot race (take count codes.now)) }
+        requires placed { IsPlacedIn self.now.book (PaperAt ballot race (take count codes.now)) }
+        ensures { (lines : List Placed) → Tells self.now.book self.now lines → result ≡ first_bad self.now.book lines (PaperAt ballot race (take count codes.now)) }
     {
-        let candidates = plan.candidates(race);
+        let candidates = self.book.candidates(race);
         kind_of_rule(has_repeat(&codes[..candidates]))
     }
 
     /// What a total is bad in.
-    fn judge_total(&self, plan: &Plan, race: u32, candidate: u32, count: u32) -> Option<Kind>
-        requires good { fault_of plan.now ≡ None }
-        requires placed { IsPlacedIn plan.now (TotalAt race candidate count) }
-        requires sized { IsSized plan.now self.now }
-        ensures { (lines : List Placed) → Tells plan.now self.now lines → result ≡ first_bad plan.now lines (TotalAt race candidate count) }
+    fn judge_total(&self, race: u32, candidate: u32, count: u32) -> Option<Kind>
+        requires placed { IsPlacedIn self.now.book (TotalAt race candidate count) }
+        requires sized { IsSized self.now.book self.now }
+        ensures { (lines : List Placed) → Tells self.now.book self.now lines → result ≡ first_bad self.now.book lines (TotalAt race candidate count) }
     {
+        let _ = self.book.plan();
         let votes = look(
             &self.bits.votes,
             CANDIDATES * race as usize + candidate as usize,
@@ -254,26 +224,19 @@ impl Ledger {
     }
 
     /// What the opening of a row is bad in.
-    fn judge_row(
-        &self,
-        plan: &Plan,
-        race: u32,
-        instance: u32,
-        row: u32,
-        opening: &RowOpening,
-    ) -> Option<Kind>
-        requires good { fault_of plan.now ≡ None }
-        requires placed { IsPlacedIn plan.now (RowAt race instance row opening.now) }
-        requires sized { IsSized plan.now self.now }
-        ensures { (lines : List Placed) → Tells plan.now self.now lines → result ≡ first_bad plan.now lines (RowAt race instance row opening.now) }
+    #[inline(always)]
+    fn judge_row(&self, race: u32, instance: u32, row: u32, opening: &RowOpening) -> Option<Kind>
+        requires placed { IsPlacedIn self.now.book (RowAt race instance row opening.now) }
+        requires sized { IsSized self.now.book self.now }
+        ensures { (lines : List Placed) → Tells self.now.book self.now lines → result ≡ first_bad self.now.book lines (RowAt race instance row opening.now) }
     {
-        let at = self.sizes.row_place(plan, race, instance, row);
-        let bad_opening = self.is_row_opening_bad(plan, at, race, instance, row, opening);
-        let bad_pointer = self.is_row_pointer_bad(plan, race, instance, row, opening);
-        let bad_flag = self.is_row_flag_bad(plan, at, race, instance, row, opening);
-        let bad_path = is_path_bad(&self.paths, &self.sizes, plan, race, opening);
+        let at = self.book.row_place(race, instance, row);
+        let bad_opening = self.is_row_opening_bad(at, race, instance, row, opening);
+        let bad_pointer = self.is_row_pointer_bad(race, instance, row, opening);
+        let bad_flag = self.is_row_flag_bad(at, race, instance, row, opening);
+        let bad_path = is_path_bad(&self.paths, &self.book, race, opening);
         let bad_side = self.drawn.is_side_bad(race, instance, row, opening);
-        let bad_print = self.is_row_print_bad(plan, race, instance, row, opening);
+        let bad_print = self.is_row_print_bad(race, instance, row, opening);
         kind_of_row(
             bad_opening,
             bad_side,
@@ -285,30 +248,23 @@ impl Ledger {
     }
 
     /// The row disagrees with a print audit.
-    fn is_row_print_bad(
-        &self,
-        plan: &Plan,
-        race: u32,
-        instance: u32,
-        row: u32,
-        opening: &RowOpening,
-    ) -> bool
-        requires good { fault_of plan.now ≡ None }
-        requires placed { IsPlacedIn plan.now (RowAt race instance row opening.now) }
-        requires sized { IsSized plan.now self.now }
-        ensures { (lines : List Placed) → Tells plan.now self.now lines → result ≡ bad_print plan.now lines (RowAt race instance row opening.now) }
+    #[inline(always)]
+    fn is_row_print_bad(&self, race: u32, instance: u32, row: u32, opening: &RowOpening) -> bool
+        requires placed { IsPlacedIn self.now.book (RowAt race instance row opening.now) }
+        requires sized { IsSized self.now.book self.now }
+        ensures { (lines : List Placed) → Tells self.now.book self.now lines → result ≡ bad_print self.now.book lines (RowAt race instance row opening.now) }
     {
+        let _ = self.book.plan();
         let is_both = are_both(opening);
         let audit = is_flag_wrong(
             &self.audits.audited,
-            &self.sizes,
-            plan,
+            &self.book,
             race,
             is_both,
             left_opening(opening),
         );
         let number = is_number_wrong(
-            row + 1 == self.sizes.entries(plan, race),
+            row + 1 == self.book.entries(race),
             look(
                 &self.audits.boths,
                 INSTANCES * race as usize + instance as usize,
@@ -316,34 +272,27 @@ impl Ledger {
             is_both,
             look(&self.audits.entries, race as usize),
         );
-        let paper = is_paper_wrong(
-            &self.audits,
-            &self.codes.known,
-            &self.sizes,
-            plan,
-            race,
-            opening,
-        );
+        let paper = is_paper_wrong(&self.audits, &self.codes.known, &self.book, race, opening);
         is_print_bad(self.drawn.is_public(), audit, number, paper)
     }
 
     /// A pointer that the row opens does not open its commitment.
+    #[inline(always)]
     fn is_row_opening_bad(
         &self,
-        plan: &Plan,
         at: usize,
         race: u32,
         instance: u32,
         row: u32,
         opening: &RowOpening,
     ) -> bool
-        requires good { fault_of plan.now ≡ None }
-        requires placed { IsPlacedIn plan.now (RowAt race instance row opening.now) }
-        requires sized { IsSized plan.now self.now }
-        requires at { at ≡ row_place plan.now race instance row }
-        requires within { at < r_rows plan.now }
-        ensures { (lines : List Placed) → Tells plan.now self.now lines → result ≡ bad_opening plan.now lines (RowAt race instance row opening.now) }
+        requires placed { IsPlacedIn self.now.book (RowAt race instance row opening.now) }
+        requires sized { IsSized self.now.book self.now }
+        requires at { at ≡ row_place self.now.book race instance row }
+        requires within { at < r_rows self.now.book }
+        ensures { (lines : List Placed) → Tells self.now.book self.now lines → result ≡ bad_opening self.now.book lines (RowAt race instance row opening.now) }
     {
+        let _ = self.book.plan();
         let left = left_opening(opening);
         let right = right_opening(opening);
         self.commitments
@@ -351,31 +300,22 @@ impl Ledger {
     }
 
     /// A pointer that the row opens is n or more, or was opened before.
-    fn is_row_pointer_bad(
-        &self,
-        plan: &Plan,
-        race: u32,
-        instance: u32,
-        row: u32,
-        opening: &RowOpening,
-    ) -> bool
-        requires good { fault_of plan.now ≡ None }
-        requires placed { IsPlacedIn plan.now (RowAt race instance row opening.now) }
-        requires sized { IsSized plan.now self.now }
-        ensures { (lines : List Placed) → Tells plan.now self.now lines → result ≡ bad_pointer plan.now lines (RowAt race instance row opening.now) }
+    #[inline(always)]
+    fn is_row_pointer_bad(&self, race: u32, instance: u32, row: u32, opening: &RowOpening) -> bool
+        requires placed { IsPlacedIn self.now.book (RowAt race instance row opening.now) }
+        requires sized { IsSized self.now.book self.now }
+        ensures { (lines : List Placed) → Tells self.now.book self.now lines → result ≡ bad_pointer self.now.book lines (RowAt race instance row opening.now) }
     {
         let left = is_pointer_bad(
             &self.pointers.lefts,
-            &self.sizes,
-            plan,
+            &self.book,
             race,
             instance,
             left_opening(opening),
         );
         let right = is_pointer_bad(
             &self.pointers.rights,
-            &self.sizes,
-            plan,
+            &self.book,
             race,
             instance,
             right_opening(opening),
@@ -384,34 +324,32 @@ impl Ledger {
     }
 
     /// The row's flag disagrees with an entry's mark or with a place's bit.
+    #[inline(always)]
     fn is_row_flag_bad(
         &self,
-        plan: &Plan,
         at: usize,
         race: u32,
         instance: u32,
         row: u32,
         opening: &RowOpening,
     ) -> bool
-        requires placed { IsPlacedIn plan.now (RowAt race instance row opening.now) }
-        requires sized { IsSized plan.now self.now }
-        requires at { at ≡ row_place plan.now race instance row }
-        requires within { at < r_rows plan.now }
-        ensures { (lines : List Placed) → Tells plan.now self.now lines → result ≡ bad_flag plan.now lines (RowAt race instance row opening.now) }
+        requires placed { IsPlacedIn self.now.book (RowAt race instance row opening.now) }
+        requires sized { IsSized self.now.book self.now }
+        requires at { at ≡ row_place self.now.book race instance row }
+        requires within { at < r_rows self.now.book }
+        ensures { (lines : List Placed) → Tells self.now.book self.now lines → result ≡ bad_flag self.now.book lines (RowAt race instance row opening.now) }
     {
         let flag = look(&self.bits.flagged, at);
         let left = is_flag_wrong(
             &self.codes.marked,
-            &self.sizes,
-            plan,
+            &self.book,
             race,
             flag,
             left_opening(opening),
         );
         let right = is_flag_wrong(
             &self.bits.places,
-            &self.sizes,
-            plan,
+            &self.book,
             race,
             flag,
             right_opening(opening),
@@ -420,94 +358,75 @@ impl Ledger {
     }
 
     /// Puts what the line tells into the tables.
-    fn write(&mut self, plan: &Plan, at: Spot, line: &Line)
-        requires good { fault_of plan.now ≡ None }
-        requires placed { IsPlacedIn plan.now (placed_at at (said line.now)) }
+    #[inline(always)]
+    fn write(&mut self, at: Spot, line: &Line)
+        requires placed { IsPlacedIn self.old.book (placed_at at (said line.now)) }
         requires digits { HasDigits (placed_at at (said line.now)) }
-        requires sized { IsSized plan.now self.old }
+        requires sized { IsSized self.old.book self.old }
         requires room { totals_kept self.old + length (total_on (placed_at at (said line.now))) ≤ most_totals }
-        ensures { self.new ≡ ledger_after plan.now self.old (placed_at at (said line.now)) }
+        ensures { self.new ≡ ledger_after self.old.book self.old (placed_at at (said line.now)) }
     {
         match meaning_of(at, line) {
-            Meaning::CodeCommit(race, entry, digest) => self.write_code_commit(
-                plan, race, entry, digest,
-            ),
+            Meaning::CodeCommit(race, entry, digest) => self.write_code_commit(race, entry, digest),
             Meaning::RowCommit(race, instance, row, left, right) => self.write_row_commit(
-                plan, race, instance, row, left, right,
+                race, instance, row, left, right,
             ),
             Meaning::Code(block, ballot, race, column, code) => self.write_code(
-                plan, block, ballot, race, column, &code,
+                block, ballot, race, column, &code,
             ),
             Meaning::Over(..) => (),
             Meaning::Paper(ballot, race, codes, count) => self.write_paper(
-                plan, ballot, race, &codes, count,
+                ballot, race, &codes, count,
             ),
             Meaning::Flags(race, instance, from, bits) => self.write_flags(
-                plan, race, instance, from, bits,
+                race, instance, from, bits,
             ),
-            Meaning::Places(race, from, bits) => self.write_places(plan, race, from, bits),
-            Meaning::Total(race, candidate, count) => self.write_total(
-                plan, race, candidate, count,
-            ),
+            Meaning::Places(race, from, bits) => self.write_places(race, from, bits),
+            Meaning::Total(race, candidate, count) => self.write_total(race, candidate, count),
             Meaning::Seal(..) => (),
-            Meaning::DrawFull => self.write_full(plan),
-            Meaning::DrawPublic(digits) => self.write_public(plan, digits),
+            Meaning::DrawFull => self.write_full(),
+            Meaning::DrawPublic(digits) => self.write_public(digits),
             Meaning::Row(race, instance, row, opening) => self.write_row(
-                plan, race, instance, row, &opening,
+                race, instance, row, &opening,
             ),
             Meaning::Dispute(ballot, race, code, word) => self.write_claim(
-                plan, ballot, race, code, word,
+                ballot, race, code, word,
             ),
             Meaning::Nothing => (),
         }
     }
 
     /// Keeps the commitment of a code.
-    fn write_code_commit(&mut self, plan: &Plan, race: u32, entry: u32, digest: Digest)
-        requires placed { IsPlacedIn plan.now (CodeCommitAt race entry digest) }
-        requires sized { IsSized plan.now self.old }
-        ensures { self.new ≡ ledger_after plan.now self.old (CodeCommitAt race entry digest) }
+    #[inline(always)]
+    fn write_code_commit(&mut self, race: u32, entry: u32, digest: Digest)
+        requires placed { IsPlacedIn self.old.book (CodeCommitAt race entry digest) }
+        requires sized { IsSized self.old.book self.old }
+        ensures { self.new ≡ ledger_after self.old.book self.old (CodeCommitAt race entry digest) }
     {
-        let at = self.sizes.entry_place(plan, race, entry);
+        let at = self.book.entry_place(race, entry);
         put_first(&mut self.commitments.codes, at, digest);
     }
 
     /// Keeps the commitments of a row's pointers.
-    fn write_row_commit(
-        &mut self,
-        plan: &Plan,
-        race: u32,
-        instance: u32,
-        row: u32,
-        left: Digest,
-        right: Digest,
-    )
-        requires good { fault_of plan.now ≡ None }
-        requires placed { IsPlacedIn plan.now (RowCommitAt race instance row left right) }
-        requires sized { IsSized plan.now self.old }
-        ensures { self.new ≡ ledger_after plan.now self.old (RowCommitAt race instance row left right) }
+    #[inline(always)]
+    fn write_row_commit(&mut self, race: u32, instance: u32, row: u32, left: Digest, right: Digest)
+        requires placed { IsPlacedIn self.old.book (RowCommitAt race instance row left right) }
+        requires sized { IsSized self.old.book self.old }
+        ensures { self.new ≡ ledger_after self.old.book self.old (RowCommitAt race instance row left right) }
     {
-        let at = self.sizes.row_place(plan, race, instance, row);
+        let at = self.book.row_place(race, instance, row);
         self.commitments.keep_row(at, left, right);
     }
 
     /// Keeps a code that is shown, and the mark that it may be.
-    fn write_code(
-        &mut self,
-        plan: &Plan,
-        block: Block,
-        ballot: u32,
-        race: u32,
-        column: u32,
-        code: &CodeLine,
-    )
-        requires good { fault_of plan.now ≡ None }
-        requires placed { IsPlacedIn plan.now (CodeAt block ballot race column code.now) }
-        requires sized { IsSized plan.now self.old }
-        ensures { self.new ≡ ledger_after plan.now self.old (CodeAt block ballot race column code.now) }
+    fn write_code(&mut self, block: Block, ballot: u32, race: u32, column: u32, code: &CodeLine)
+        requires placed { IsPlacedIn self.old.book (CodeAt block ballot race column code.now) }
+        requires sized { IsSized self.old.book self.old }
+        ensures { self.new ≡ ledger_after self.old.book self.old (CodeAt block ballot race column code.now) }
     {
-        let first = first_entry(&self.index, plan, race, ballot);
-        let at = self.sizes.entry_place(plan, race, first);
+        let _ = self.book.plan();
+        let first = self.book.first_entry(race, ballot);
+        let at = self.book.entry_place(race, first);
         let own = at + column as usize;
         self.codes.keep(block, at, column as usize, code.code);
         self.audits.keep_code(block, own, race as usize);
@@ -515,54 +434,47 @@ impl Ledger {
     }
 
     /// Keeps the codes of a paper, the first so many of them.
-    fn write_paper(
-        &mut self,
-        plan: &Plan,
-        ballot: u32,
-        race: u32,
-        codes: &[u16; MOST_CANDIDATES],
-        count: u32,
-    )
-        requires good { fault_of plan.now ≡ None }
-        requires placed { IsPlacedIn plan.now (PaperAt ballot race (take count codes.now)) }
-        requires sized { IsSized plan.now self.old }
-        ensures { self.new ≡ ledger_after plan.now self.old (PaperAt ballot race (take count codes.now)) }
+    fn write_paper(&mut self, ballot: u32, race: u32, codes: &[u16; MOST_CANDIDATES], count: u32)
+        requires placed { IsPlacedIn self.old.book (PaperAt ballot race (take count codes.now)) }
+        requires sized { IsSized self.old.book self.old }
+        ensures { self.new ≡ ledger_after self.old.book self.old (PaperAt ballot race (take count codes.now)) }
     {
-        let first = first_entry(&self.index, plan, race, ballot);
-        let at = self.sizes.entry_place(plan, race, first);
-        let candidates = plan.candidates(race);
+        let _ = self.book.plan();
+        let first = self.book.first_entry(race, ballot);
+        let at = self.book.entry_place(race, first);
+        let candidates = self.book.candidates(race);
         put_firsts(&mut self.audits.papers, at, &codes[..candidates]);
     }
 
     /// Keeps flags.
-    fn write_flags(&mut self, plan: &Plan, race: u32, instance: u32, from: u32, bits: &[u8])
-        requires good { fault_of plan.now ≡ None }
-        requires placed { IsPlacedIn plan.now (FlagsAt race instance from bits.now) }
-        requires sized { IsSized plan.now self.old }
-        ensures { self.new ≡ ledger_after plan.now self.old (FlagsAt race instance from bits.now) }
+    fn write_flags(&mut self, race: u32, instance: u32, from: u32, bits: &[u8])
+        requires placed { IsPlacedIn self.old.book (FlagsAt race instance from bits.now) }
+        requires sized { IsSized self.old.book self.old }
+        ensures { self.new ≡ ledger_after self.old.book self.old (FlagsAt race instance from bits.now) }
     {
-        let at = self.sizes.row_place(plan, race, instance, from);
+        let _ = self.book.plan();
+        let at = self.book.row_place(race, instance, from);
         set_bits(&mut self.bits.flagged, at, bits);
     }
 
     /// Keeps bits of places, and counts their votes.
-    fn write_places(&mut self, plan: &Plan, race: u32, from: u32, bits: &[u8])
-        requires good { fault_of plan.now ≡ None }
-        requires placed { IsPlacedIn plan.now (PlacesAt race from bits.now) }
-        requires sized { IsSized plan.now self.old }
-        ensures { self.new ≡ ledger_after plan.now self.old (PlacesAt race from bits.now) }
+    fn write_places(&mut self, race: u32, from: u32, bits: &[u8])
+        requires placed { IsPlacedIn self.old.book (PlacesAt race from bits.now) }
+        requires sized { IsSized self.old.book self.old }
+        ensures { self.new ≡ ledger_after self.old.book self.old (PlacesAt race from bits.now) }
     {
-        let at = self.sizes.entry_place(plan, race, from);
+        let _ = self.book.plan();
+        let at = self.book.entry_place(race, from);
         let first = CANDIDATES * race as usize;
-        let candidates = plan.candidates(race);
+        let candidates = self.book.candidates(race);
         self.bits
             .keep_places(at, first, candidates, from as usize, bits);
     }
 
     /// Keeps a total.
-    fn write_total(&mut self, plan: &Plan, race: u32, candidate: u32, count: u32)
+    fn write_total(&mut self, race: u32, candidate: u32, count: u32)
         requires { totals_kept self.old < most_totals }
-        ensures { self.new ≡ ledger_after plan.now self.old (TotalAt race candidate count) }
+        ensures { self.new ≡ ledger_after self.old.book self.old (TotalAt race candidate count) }
     {
         self.totals.push(Total {
             race,
@@ -572,23 +484,23 @@ impl Ledger {
     }
 
     /// Keeps that both sides of each row are drawn.
-    fn write_full(&mut self, plan: &Plan)
-        ensures { self.new ≡ ledger_after plan.now self.old DrawnFull }
+    fn write_full(&mut self)
+        ensures { self.new ≡ ledger_after self.old.book self.old DrawnFull }
     {
         self.drawn.full = true;
     }
 
     /// Keeps the coins of public bytes, in hexadecimal digits.
-    fn write_public(&mut self, plan: &Plan, digits: &[u8])
+    fn write_public(&mut self, digits: &[u8])
         requires { AreDigits digits.now }
-        ensures { self.new ≡ ledger_after plan.now self.old (DrawnPublic digits.now) }
+        ensures { self.new ≡ ledger_after self.old.book self.old (DrawnPublic digits.now) }
     {
         self.drawn.keep_public(digits);
     }
 
     /// Keeps a claim, of which nothing is shown yet.
-    fn write_claim(&mut self, plan: &Plan, ballot: u32, race: u32, code: u16, word: ClaimWord)
-        ensures { self.new ≡ ledger_after plan.now self.old (Disputed ballot race code word) }
+    fn write_claim(&mut self, ballot: u32, race: u32, code: u16, word: ClaimWord)
+        ensures { self.new ≡ ledger_after self.old.book self.old (Disputed ballot race code word) }
     {
         self.claim = Some(Claimed {
             code,
@@ -598,35 +510,48 @@ impl Ledger {
     }
 
     /// Keeps the pointers that a row opens, and the path of its entry.
-    fn write_row(&mut self, plan: &Plan, race: u32, instance: u32, row: u32, opening: &RowOpening)
-        requires good { fault_of plan.now ≡ None }
-        requires placed { IsPlacedIn plan.now (RowAt race instance row opening.now) }
-        requires sized { IsSized plan.now self.old }
-        ensures { self.new ≡ ledger_after plan.now self.old (RowAt race instance row opening.now) }
+    #[inline(always)]
+    fn write_row(&mut self, race: u32, instance: u32, row: u32, opening: &RowOpening)
+        requires placed { IsPlacedIn self.old.book (RowAt race instance row opening.now) }
+        requires sized { IsSized self.old.book self.old }
+        ensures { self.new ≡ ledger_after self.old.book self.old (RowAt race instance row opening.now) }
     {
+        let _ = self.book.plan();
         let left = left_opening(opening);
         let right = right_opening(opening);
-        keep_pointer(
-            &mut self.pointers.lefts,
-            &self.sizes,
-            plan,
-            race,
-            instance,
-            left,
-        );
-        keep_pointer(
-            &mut self.pointers.rights,
-            &self.sizes,
-            plan,
-            race,
-            instance,
-            right,
-        );
-        keep_path(&mut self.paths, &self.sizes, plan, race, opening);
+        keep_pointer(&mut self.pointers.lefts, &self.book, race, instance, left);
+        keep_pointer(&mut self.pointers.rights, &self.book, race, instance, right);
+        keep_path(&mut self.paths, &self.book, race, opening);
         let place = INSTANCES * race as usize + instance as usize;
         count_both(&mut self.audits.boths, place, opening);
         self.drawn.move_on(race, instance, row);
     }
+}
+
+/// The ledger with these tables.
+fn opened(index: BallotIndex, blank: Blank) -> Ledger
+    requires { AreSizes index blank.sizes }
+    ensures { result ≡ ledger_with index blank }
+{
+    let drawn = Drawn::make();
+    Ledger {
+        book: Book::open(index, blank.sizes),
+        commitments: blank.commitments,
+        codes: blank.codes,
+        bits: blank.bits,
+        pointers: blank.pointers,
+        paths: blank.paths,
+        audits: blank.audits,
+        drawn,
+        claim: None,
+        totals: blank.totals,
+    }
+}
+
+/// Lets the index go, for want of memory.
+fn dropped(index: BallotIndex) -> NoMemory {
+    drop(index);
+    NoMemory
 }
 
 /// One of two sides is bad.

@@ -6,6 +6,8 @@
 
 mod audits;
 mod bits;
+mod blank;
+mod book;
 mod claims;
 mod codes;
 mod coins;
@@ -14,7 +16,6 @@ mod drawn;
 mod ledger;
 mod paths;
 mod pointers;
-mod sizes;
 mod tables;
 mod totals;
 

@@ -1,45 +1,39 @@
 //! Where rows lead the ballots' entries.
 ghost use Rattle.std.specs.Prelude.{◌≡◌, ℕ, ◌+◌, ◌<◌, ◌≤◌, ◌^◌, None, List, false, true, length, slice_index_or};
-ghost use Rattle.sg_check.specs.Kinds.{bad_path_of};
+ghost use Rattle.sg_check.specs.inside.ByKind.{bad_path};
 ghost use Rattle.sg_ledger.specs.inside.Steps.{path_after};
 ghost use Rattle.sg_ledger.specs.inside.Tables.{leads_another};
-ghost use Rattle.sg_ledger.specs.Tells.{AreSizes, ArePlacedIn, TellsPaths};
+ghost use Rattle.sg_ledger.specs.Tells.{ArePlacedIn, TellsPaths};
 ghost use Rattle.sg_plan.specs.Ballots.{all_entries};
-ghost use Rattle.sg_plan.specs.Limits.{fault_of};
 ghost use Rattle.sg_grammar.specs.Placed.{Placed};
+ghost use Rattle.sg_grammar.specs.Placed.Placed.{RowAt};
 
-use crate::sizes::Sizes;
+use crate::book::Book;
 use crate::tables::look;
 use sg_forms::RowOpening;
-use sg_plan::{Items, Plan};
+use sg_plan::Items;
 
 /// The row leads its entry elsewhere than an earlier row, or to the candidate to whom another entry of its ballot leads.
-pub fn is_path_bad(
-    paths: &Items<Option<u32>>,
-    sizes: &Sizes,
-    plan: &Plan,
-    race: u32,
-    opening: &RowOpening,
-) -> bool
-    requires good { fault_of plan.now ≡ None }
-    requires paths { length paths.now ≡ all_entries plan.now }
-    requires sizes { AreSizes plan.now sizes.now }
-    requires race { race < length plan.now.races }
-    ensures { (lines : List Placed) → ArePlacedIn plan.now lines → TellsPaths plan.now paths.now lines → result ≡ bad_path_of plan.now lines race opening.now }
+#[inline(always)]
+pub fn is_path_bad(paths: &Items<Option<u32>>, book: &Book, race: u32, opening: &RowOpening) -> bool
+    requires paths { length paths.now ≡ all_entries book.now }
+    requires race { race < length book.now.races }
+    ensures { (instance row : ℕ) (lines : List Placed) → ArePlacedIn book.now lines → TellsPaths book.now paths.now lines → result ≡ bad_path book.now lines (RowAt race instance row opening.now) }
 {
+    let _ = book.plan();
     let RowOpening::Both(left, right) = *opening else {
         return false;
     };
-    let entries = sizes.entries(plan, race);
+    let entries = book.entries(race);
     if left.value >= entries {
         return false;
     }
     if right.value >= entries {
         return false;
     }
-    let candidates = plan.candidates(race) as u32;
+    let candidates = book.candidates(race) as u32;
     let first = left.value - left.value % candidates;
-    let at = sizes.entry_place(plan, race, first);
+    let at = book.entry_place(race, first);
     are_against(paths, at, candidates, first, left.value, right.value)
 }
 
@@ -84,27 +78,20 @@ fn is_against(candidates: u32, entry: u32, place: u32, other: u32, to: Option<u3
 }
 
 /// Keeps where the row leads its entry.
-pub fn keep_path(
-    paths: &mut Items<Option<u32>>,
-    sizes: &Sizes,
-    plan: &Plan,
-    race: u32,
-    opening: &RowOpening,
-)
-    requires paths { length paths.old ≡ all_entries plan.now }
-    requires sizes { AreSizes plan.now sizes.now }
-    requires race { race < length plan.now.races }
-    ensures { paths.new ≡ path_after plan.now paths.old race opening.now }
+pub fn keep_path(paths: &mut Items<Option<u32>>, book: &Book, race: u32, opening: &RowOpening)
+    requires paths { length paths.old ≡ all_entries book.now }
+    requires race { race < length book.now.races }
+    ensures { paths.new ≡ path_after book.now paths.old race opening.now }
 {
     let RowOpening::Both(left, right) = *opening else {
         return;
     };
-    let entries = sizes.entries(plan, race);
+    let entries = book.entries(race);
     if left.value >= entries {
         return;
     }
     if right.value >= entries {
         return;
     }
-    paths.replace(sizes.entry_place(plan, race, left.value), Some(right.value));
+    paths.replace(book.entry_place(race, left.value), Some(right.value));
 }

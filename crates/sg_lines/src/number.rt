@@ -33,6 +33,7 @@ fn has_leading_zero(word: &[u8]) -> bool
 
 /// Reads a number from 0 to 4,294,967,295: decimal digits without a leading zero, and `0` for zero. Any other
 /// word is `None`.
+#[inline(always)]
 pub fn read_decimal(word: &[u8]) -> Option<u32>
     ensures exact { result ≡ decimal_of word.now }
     ensures found { IfSome result (λ n. word.now ≡ decimal n) }

@@ -17,9 +17,10 @@ use Rattle.sg_grammar.specs.declared.state.Slot.{Slot}
 use Rattle.sg_grammar.specs.declared.state.Slot.TheVariants as slot
 use Rattle.sg_check.proofs.BoundLaws.{given_there}
 use Rattle.sg_check.proofs.Rows.{one_row, posted_row}
-use Rattle.sg_check.specs.Completions.{Completion, OpensNoneTwice, opened_on, posted_half, posts_half}
-use Rattle.sg_check.specs.Facts.{flags_row, is_flagged, is_marked, is_set, opened_left, marks_entry, opened_right, sets_place}
-use Rattle.sg_check.specs.Kinds.{bad_flag, differ, is_on_side, wrong_left_flag, wrong_right_flag}
+use Rattle.sg_check.specs.Completions.{Completion, OpensNoneTwice, posted_half, posts_half}
+use Rattle.sg_check.specs.Facts.{flags_row, is_flagged, is_marked, is_set, opened_on, marks_entry, sets_place}
+use Rattle.sg_check.specs.Kinds.{differ, is_on_side}
+use Rattle.sg_check.specs.inside.ByKind.{bad_flag, wrong_flag_on}
 use Rattle.sg_odds.specs.Coins.{before_draw}
 use Rattle.sg_odds.specs.Odds.{half_of, no_opening}
 use Rattle.sg_odds.proofs.Sections.{flags_early, front_same, marks_early, sets_early}
@@ -27,8 +28,7 @@ use Rattle.sg_odds.proofs.Sections.{flags_early, front_same, marks_early, sets_e
 -- the row's flag isn't right of the half that the completion has on this side
 module _ (plan : Plan) (sections : List Placed) (completion : Completion) where
   abbrev pub bars : Slot → Side → Bool
-  bars (slot.Row race instance row) side.Left = wrong_left_flag plan sections race (is_flagged race instance row sections) (Some (half_of completion side.Left race instance row))
-  bars (slot.Row race instance row) side.Right = wrong_right_flag plan sections race (is_flagged race instance row sections) (Some (half_of completion side.Right race instance row))
+  bars (slot.Row race instance row) on = wrong_flag_on on plan sections race (is_flagged race instance row sections) (Some (half_of completion on race instance row))
   bars due coin = false
 
 -- what is opened on the side of a coin
@@ -81,21 +81,21 @@ module _ (plan : Plan) (lines : List Placed) (completion : Completion) (apart : 
       flag : is_flagged race instance row sections ≡ is_flagged race instance row among.0
       flag = sym (front_same (flags_row race instance row) (flags_early race instance row) lines among.0 among.1 race instance row opening apart among.2)
 
-      good : (wrong_left_flag plan among.0 race (is_flagged race instance row among.0) (opened_left opening) ≡ false)
-          × (wrong_right_flag plan among.0 race (is_flagged race instance row among.0) (opened_right opening) ≡ false)
-      good = or_parts (wrong_left_flag plan among.0 race (is_flagged race instance row among.0) (opened_left opening)) (wrong_right_flag plan among.0 race (is_flagged race instance row among.0) (opened_right opening))
+      good : (wrong_flag_on side.Left plan among.0 race (is_flagged race instance row among.0) (opened_on side.Left opening) ≡ false)
+          × (wrong_flag_on side.Right plan among.0 race (is_flagged race instance row among.0) (opened_on side.Right opening) ≡ false)
+      good = or_parts (wrong_flag_on side.Left plan among.0 race (is_flagged race instance row among.0) (opened_on side.Left opening)) (wrong_flag_on side.Right plan among.0 race (is_flagged race instance row among.0) (opened_on side.Right opening))
           (flags among.0 among.1 (RowAt race instance row opening) among.2)
 
       at_side : (c : Side) → (o : Opening) × (opened_on c opening ≡ Some o) → bars plan (before_draw lines) completion (slot.Row race instance row) c ≡ false
       at_side side.Left (o, of) =
           let mark = sym (front_same (marks_entry plan race o.value) (marks_early plan race o.value) lines among.0 among.1 race instance row opening apart among.2) in
-          ap (λ (h : Opening). wrong_left_flag plan sections race (is_flagged race instance row sections) (Some h)) (half_is side.Left race instance row opening o among of)
+          ap (λ (h : Opening). wrong_flag_on side.Left plan sections race (is_flagged race instance row sections) (Some h)) (half_is side.Left race instance row opening o among of)
           ∙ (ap (λ (b : Bool). nat_lt o.value (entries_of plan race) && differ b (is_marked plan race o.value sections)) flag
           ∙ (ap (λ (b : Bool). nat_lt o.value (entries_of plan race) && differ (is_flagged race instance row among.0) b) mark
-          ∙ (sym (ap (wrong_left_flag plan among.0 race (is_flagged race instance row among.0)) of) ∙ good.0)))
+          ∙ (sym (ap (wrong_flag_on side.Left plan among.0 race (is_flagged race instance row among.0)) of) ∙ good.0)))
       at_side side.Right (o, of) =
           let place = sym (front_same (sets_place race o.value) (sets_early race o.value) lines among.0 among.1 race instance row opening apart among.2) in
-          ap (λ (h : Opening). wrong_right_flag plan sections race (is_flagged race instance row sections) (Some h)) (half_is side.Right race instance row opening o among of)
+          ap (λ (h : Opening). wrong_flag_on side.Right plan sections race (is_flagged race instance row sections) (Some h)) (half_is side.Right race instance row opening o among of)
           ∙ (ap (λ (b : Bool). nat_lt o.value (entries_of plan race) && differ b (is_set race o.value sections)) flag
           ∙ (ap (λ (b : Bool). nat_lt o.value (entries_of plan race) && differ (is_flagged race instance row among.0) b) place
-          ∙ (sym (ap (wrong_right_flag plan among.0 race (is_flagged race instance row among.0)) of) ∙ good.1)))
+          ∙ (sym (ap (wrong_flag_on side.Right plan among.0 race (is_flagged race instance row among.0)) of) ∙ good.1)))

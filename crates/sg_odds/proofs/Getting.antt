@@ -16,7 +16,7 @@ use Rattle.sg_grammar.specs.Walk.{Walked, start, walk}
 use Rattle.sg_check.proofs.Votes.{is_vote, places_in, votes-count, votes_before}
 use Rattle.sg_check.specs.Completions.{Completion}
 use Rattle.sg_check.specs.Facts.{votes_for}
-use Rattle.sg_check.specs.Kinds.{bad_total}
+use Rattle.sg_check.specs.inside.ByKind.{bad_total}
 use Rattle.sg_check.specs.Printings.{count_below}
 use Rattle.sg_check.specs.declared.judged.Kind.TheVariants as kind
 use Rattle.sg_odds.specs.Coins.{GetsYes, before_draw, rows_due}

@@ -7,7 +7,8 @@ use Rattle.sg_plan.specs.declared.plan.Plan.{Plan}
 use Rattle.sg_grammar.specs.Lines.{placed_of}
 use Rattle.sg_grammar.specs.Placed.{Placed}
 use Rattle.sg_grammar.specs.Walk.{Posted, Walked, start, walk}
-use Rattle.sg_check.specs.Kinds.{bad_flag, bad_placed, bad_total, is_bad}
+use Rattle.sg_check.specs.Kinds.{bad_placed, is_bad}
+use Rattle.sg_check.specs.inside.ByKind.{bad_flag, bad_total}
 use Rattle.sg_check.specs.Verdict.{breaks, breaks_walked, late}
 use Rattle.sg_check.specs.declared.judged.Kind.{Kind}
 use Rattle.sg_check.specs.declared.judged.Kind.TheVariants as kind

@@ -33,9 +33,9 @@ use Rattle.sg_grammar.specs.declared.state.Slot.TheVariants as slot
 use Rattle.sg_check.proofs.Fronts.{given-before}
 use Rattle.sg_check.proofs.Posting.{completion_exists}
 use Rattle.sg_check.proofs.Rows.{posted_row}
-use Rattle.sg_check.specs.Completions.{Completion, IsHalfOf, OpensNoneTwice, half_commitment, half_kind, opened_on}
-use Rattle.sg_check.specs.Facts.{commits_left, commits_right, first_given}
-use Rattle.sg_check.specs.Kinds.{opens_digest}
+use Rattle.sg_check.specs.Completions.{Completion, IsHalfOf, OpensNoneTwice}
+use Rattle.sg_check.specs.Facts.{commits_half, first_given, half_commitment, opened_on}
+use Rattle.sg_check.specs.Kinds.{opens_digest, half_kind}
 use Rattle.sg_check.specs.Laws.{IsAccepted}
 use Rattle.sg_check.specs.declared.judged.Total.{Total as Totalled}
 use Rattle.sg_odds.specs.Coins.{before_draw}
@@ -136,17 +136,12 @@ module _ (given : Placed → Option Digest) (only : (line : Placed) → is_commi
       ∙ (sym (given-before given parts.before (before_draw parts.rest) (none_given (before_draw parts.rest) sections))
       ∙ (sym (ap (first_given given) (free_before parts.before parts.rest parts.free)) ∙ sym (ap (λ (l : List Placed). first_given given (before_draw l)) parts.lines_are))))
 
-left_only : (race instance row : ℕ) (line : Placed) → is_commit line ≡ false → commits_left race instance row line ≡ None
-left_only race instance row (RowCommitAt of within at left right) e = cc
-left_only race instance row line e = refl
-
-right_only : (race instance row : ℕ) (line : Placed) → is_commit line ≡ false → commits_right race instance row line ≡ None
-right_only race instance row (RowCommitAt of within at left right) e = cc
-right_only race instance row line e = refl
+half_only : (on : Side) (race instance row : ℕ) (line : Placed) → is_commit line ≡ false → commits_half on race instance row line ≡ None
+half_only on race instance row (RowCommitAt of within at left right) e = cc
+half_only on race instance row line e = refl
 
 commitment_early : (lines : List Placed) (next : Next) → Parted lines next → (on : Side) (race instance row : ℕ) → half_commitment lines on race instance row ≡ half_commitment (before_draw lines) on race instance row
-commitment_early lines next parts side.Left race instance row = given_early (commits_left race instance row) (left_only race instance row) lines next parts
-commitment_early lines next parts side.Right race instance row = given_early (commits_right race instance row) (right_only race instance row) lines next parts
+commitment_early lines next parts on race instance row = given_early (commits_half on race instance row) (half_only on race instance row) lines next parts
 
 -- TWO OPENINGS
 

@@ -10,9 +10,9 @@ use Rattle.sg_grammar.specs.Placed.{Placed}
 use Rattle.sg_grammar.specs.Placed.Placed.{TotalAt}
 use Rattle.sg_grammar.specs.Walk.{Walked, is_whole, start, walk}
 use Rattle.sg_grammar.specs.Lines.{IsAmong, placed_of}
-use Rattle.sg_check.specs.Completions.{Completion, IsCompletion, OpensNoneTwice, any_below, half_commitment, half_kind, is_row_misprinted}
-use Rattle.sg_check.specs.Facts.{is_full_draw, is_marked, points_to, public_bytes}
-use Rattle.sg_check.specs.Kinds.{opens_digest}
+use Rattle.sg_check.specs.Completions.{Completion, IsCompletion, OpensNoneTwice, any_below, is_row_misprinted}
+use Rattle.sg_check.specs.Facts.{is_full_draw, is_marked, points_to, public_bytes, half_commitment}
+use Rattle.sg_check.specs.Kinds.{opens_digest, half_kind}
 use Rattle.sg_check.specs.Laws.{IsAccepted}
 use Rattle.sg_check.specs.Printings.{AreCodesDifferent, Printing, count_below, posted_count}
 use Rattle.sg_check.specs.declared.judged.Total.{Total}

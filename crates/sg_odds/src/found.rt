@@ -1,17 +1,15 @@
 //! What is found of a race.
-ghost use Rattle.std.specs.Prelude.{◌≡◌, ◌<◌, IfOk, None, length};
-ghost use Rattle.sg_odds.specs.Answers.{IsBound, IsFound, IsFoundIn, IsRaceFull};
+ghost use Rattle.std.specs.Prelude.{◌≡◌, ◌<◌, IfOk, length};
+ghost use Rattle.sg_odds.specs.Answers.{IsBound, IsFound, IsRaceFull};
 ghost use Rattle.sg_odds.specs.Odds.{exponent};
-ghost use Rattle.sg_parts.specs.Given.{IsAccepted, completion_of};
-ghost use Rattle.sg_plan.specs.Limits.{fault_of};
+ghost use Rattle.sg_parts.specs.Given.{completion_of};
 ghost use Rattle.sg_record.specs.Places.{places_in};
 
 use crate::full::first_of_race;
 use crate::gaps::race_exponent;
 use sg_facts::marked_codes;
-use sg_plan::{BallotIndex, Items, NoMemory};
-use sg_record::Record;
-use sg_recount::{Parts, RowGiven};
+use sg_plan::NoMemory;
+use sg_recount::Parts;
 use std::alloc::Global;
 
 /// What is found of a race.
@@ -31,46 +29,28 @@ pub enum OddsFound {
 }
 
 /// The exponent of a full race.
-fn full_exponent(
-    alloc: Global,
-    posted: &Record,
-    rows: &Items<Items<Items<RowGiven>>>,
-    race: u32,
-) -> Result<u32, NoMemory>
-    requires good { fault_of posted.now.plan ≡ None }
-    requires accepted { IsAccepted posted.now }
-    requires race { race < length posted.now.plan.races }
-    requires full { IsRaceFull posted.now.plan (completion_of rows.now) race }
-    ensures { IfOk result (λ power. power ≡ exponent posted.now.plan (places_in posted.now) (completion_of rows.now) race) }
+fn full_exponent(alloc: Global, parts: &Parts, race: u32) -> Result<u32, NoMemory>
+    requires race { race < length parts.now.posted.plan.races }
+    requires full { IsRaceFull parts.now.posted.plan (completion_of parts.now.rows) race }
+    ensures { IfOk result (λ power. power ≡ exponent parts.now.posted.plan (places_in parts.now.posted) (completion_of parts.now.rows) race) }
 {
-    let index = BallotIndex::make(alloc, &posted.plan)?;
-    let marked = marked_codes(alloc, posted, &index);
-    drop(index);
-    let marked = marked?;
-    let power = race_exponent(alloc, posted, rows, &marked, race);
-    drop(marked);
-    power
+    let marked = marked_codes(alloc, parts.posted(), parts.index())?;
+    let power = race_exponent(alloc, parts, &marked, race)?;
+    Ok(power)
 }
 
-/// What is found of a race, by its record and the openings of its rows.
-fn find(
-    alloc: Global,
-    posted: &Record,
-    rows: &Items<Items<Items<RowGiven>>>,
-    race: u32,
-) -> Result<OddsFound, NoMemory>
-    requires good { fault_of posted.now.plan ≡ None }
-    requires accepted { IsAccepted posted.now }
-    requires race { race < length posted.now.plan.races }
-    ensures { IfOk result (λ found. IsFoundIn posted.now.plan (places_in posted.now) (completion_of rows.now) race found) }
+/// What is found of a race.
+fn find(alloc: Global, parts: &Parts, race: u32) -> Result<OddsFound, NoMemory>
+    requires { race < length parts.now.posted.plan.races }
+    ensures { IfOk result (λ found. IsFound parts.now race found) }
 {
-    match first_of_race(alloc, &posted.plan, rows, race)? {
+    match first_of_race(alloc, parts, race)? {
         Some(at) => Ok(OddsFound::NotFull {
             instance: at.instance,
             row: at.row,
         }),
         None => {
-            let power = full_exponent(alloc, posted, rows, race)?;
+            let power = full_exponent(alloc, parts, race)?;
             Ok(OddsFound::Exponent(power))
         }
     }
@@ -82,7 +62,7 @@ pub fn odds(alloc: Global, parts: &Parts, race: u32) -> Result<OddsFound, NoMemo
     ensures found { IfOk result (λ found. IsFound parts.now race found) }
     ensures bound { IfOk result (λ found. IsBound parts.now found) }
 {
-    let posted = parts.posted();
-    let found = find(alloc, posted, &parts.completion().rows, race)?;
+    let _ = parts.posted();
+    let found = find(alloc, parts, race)?;
     Ok(found)
 }

@@ -3,11 +3,11 @@ ghost use Rattle.std.specs.Prelude.{◌≡◌, ℕ, ◌<◌, ◌||◌, Bool, IfO
 ghost use Rattle.sg_check.specs.Facts.{points_to};
 ghost use Rattle.sg_odds.specs.inside.Lacking.{IsFirstOfInstance, IsFirstOfRace, lacks_in};
 ghost use Rattle.sg_parts.specs.Given.{completion_of};
-ghost use Rattle.sg_plan.specs.Limits.{fault_of};
+ghost use Rattle.sg_plan.specs.Ballots.{entries_of};
 
 use sg_commit::Opening;
-use sg_parts::{At, RowGiven, given_half};
-use sg_plan::{Items, NoMemory, Plan, Side};
+use sg_parts::{At, Half, Parts, given_half};
+use sg_plan::{Items, NoMemory, Side};
 use std::alloc::Global;
 
 /// A row of a race.
@@ -35,19 +35,32 @@ fn note_pointer(seen: &mut Items<bool>, half: Option<Opening>) -> bool
     seen.replace(at, true)
 }
 
+/// The opening that the completion has of a half, or none.
+pub(crate) fn given_in(parts: &Parts, half: Half) -> Option<Opening>
+    ensures { result ≡ completion_of parts.now.rows half.side half.at.race half.at.instance half.at.row }
+{
+    given_half(&parts.completion().rows, half)
+}
+
+/// How many rows an instance of the race has.
+pub(crate) fn rows_in(parts: &Parts, race: u32) -> u32
+    requires { race < length parts.now.posted.plan.races }
+    ensures { result ≡ entries_of parts.now.posted.plan race }
+{
+    parts.index().plan().entries(race)
+}
+
 /// The first row of an instance that is lacking a pointer.
 fn first_of_instance(
     alloc: Global,
-    plan: &Plan,
-    rows: &Items<Items<Items<RowGiven>>>,
+    parts: &Parts,
     race: u32,
     instance: u32,
 ) -> Result<Option<u32>, NoMemory>
-    requires good { fault_of plan.now ≡ None }
-    requires race { race < length plan.now.races }
-    ensures { IfOk result (λ found. IsFirstOfInstance plan.now (completion_of rows.now) race instance found) }
+    requires { race < length parts.now.posted.plan.races }
+    ensures { IfOk result (λ found. IsFirstOfInstance parts.now.posted.plan (completion_of parts.now.rows) race instance found) }
 {
-    let count = plan.entries(race);
+    let count = rows_in(parts, race);
     let mut lefts = Items::filled(alloc, false, count as usize)?;
     let mut rights = Items::filled(alloc, false, count as usize)?;
     for row in 0..count {
@@ -56,8 +69,8 @@ fn first_of_instance(
             instance,
             row,
         };
-        let left = note_pointer(&mut lefts, given_half(rows, at.on(Side::Left)));
-        let right = note_pointer(&mut rights, given_half(rows, at.on(Side::Right)));
+        let left = note_pointer(&mut lefts, given_in(parts, at.on(Side::Left)));
+        let right = note_pointer(&mut rights, given_in(parts, at.on(Side::Right)));
         if left || right {
             return Ok(Some(row));
         }
@@ -68,16 +81,14 @@ fn first_of_instance(
 /// The first row of a race that is lacking a pointer.
 pub(crate) fn first_of_race(
     alloc: Global,
-    plan: &Plan,
-    rows: &Items<Items<Items<RowGiven>>>,
+    parts: &Parts,
     race: u32,
 ) -> Result<Option<RowIndex>, NoMemory>
-    requires good { fault_of plan.now ≡ None }
-    requires race { race < length plan.now.races }
-    ensures { IfOk result (λ found. IsFirstOfRace plan.now (completion_of rows.now) race found) }
+    requires { race < length parts.now.posted.plan.races }
+    ensures { IfOk result (λ found. IsFirstOfRace parts.now.posted.plan (completion_of parts.now.rows) race found) }
 {
-    for instance in 0..plan.instances {
-        if let Some(row) = first_of_instance(alloc, plan, rows, race, instance)? {
+    for instance in 0..parts.index().plan().instances {
+        if let Some(row) = first_of_instance(alloc, parts, race, instance)? {
             return Ok(Some(RowIndex { instance, row }));
         }
     }

@@ -1,19 +1,18 @@
 //! How far the totals of a race are from the marked entries that are led to its candidates.
-ghost use Rattle.std.specs.Prelude.{◌≡◌, ◌<◌, ◌≤◌, IfOk, None, length};
+ghost use Rattle.std.specs.Prelude.{◌≡◌, ◌<◌, ◌≤◌, IfOk, length};
 ghost use Rattle.sg_check.specs.Printings.{marked_code as code_marked};
 ghost use Rattle.sg_facts.specs.Tables.{HasTable};
 ghost use Rattle.sg_odds.specs.Answers.{IsRaceFull};
 ghost use Rattle.sg_odds.specs.Odds.{exponent, greatest_below};
 ghost use Rattle.sg_odds.specs.inside.Gaps.{gap_in, least_in, number_in};
-ghost use Rattle.sg_parts.specs.Given.{IsAccepted, completion_of};
+ghost use Rattle.sg_parts.specs.Given.{completion_of};
 ghost use Rattle.sg_plan.specs.Ballots.{candidates_of};
-ghost use Rattle.sg_plan.specs.Limits.{fault_of};
 ghost use Rattle.sg_record.specs.Places.{places_in};
 
 use crate::led::race_led;
 use sg_plan::{Items, NoMemory};
 use sg_record::Record;
-use sg_recount::{RowGiven, item_at, total_at};
+use sg_recount::{Parts, item_at, total_at};
 use std::alloc::Global;
 
 /// A number of a table, or 0 where it has none there.
@@ -61,19 +60,16 @@ fn greatest_gap(posted: &Record, led: &Items<Items<u32>>, race: u32) -> u32
 /// The exponent of a full race.
 pub(crate) fn race_exponent(
     alloc: Global,
-    posted: &Record,
-    rows: &Items<Items<Items<RowGiven>>>,
+    parts: &Parts,
     marked: &Items<Items<Option<u16>>>,
     race: u32,
 ) -> Result<u32, NoMemory>
-    requires good { fault_of posted.now.plan ≡ None }
-    requires accepted { IsAccepted posted.now }
-    requires table { HasTable posted.now.plan marked.now (λ race entry. code_marked posted.now.plan race entry (places_in posted.now)) }
-    requires race { race < length posted.now.plan.races }
-    requires full { IsRaceFull posted.now.plan (completion_of rows.now) race }
-    ensures { IfOk result (λ power. power ≡ exponent posted.now.plan (places_in posted.now) (completion_of rows.now) race) }
+    requires table { HasTable parts.now.posted.plan marked.now (λ race entry. code_marked parts.now.posted.plan race entry (places_in parts.now.posted)) }
+    requires race { race < length parts.now.posted.plan.races }
+    requires full { IsRaceFull parts.now.posted.plan (completion_of parts.now.rows) race }
+    ensures { IfOk result (λ power. power ≡ exponent parts.now.posted.plan (places_in parts.now.posted) (completion_of parts.now.rows) race) }
 {
-    sg_plan::laws::bounds_law();
-    let led = race_led(alloc, posted, rows, marked, race)?;
+    let posted = parts.posted();
+    let led = race_led(alloc, parts, marked, race)?;
     Ok(posted.plan.instances * greatest_gap(posted, &led, race))
 }

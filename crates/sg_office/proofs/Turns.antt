@@ -30,7 +30,7 @@ use Rattle.sg_office.specs.inside.Now.{fate_at, scanner_at}
 use Rattle.sg_office.specs.inside.Ready.{Allows, FitsPart, IsReady, act_change, part_of, with_part}
 use Rattle.sg_histories.specs.declared.kept.Kept.{Kept}
 use Rattle.sg_histories.specs.Standing.{IsOffice, StandsFor, Turned, slot_of}
-use Rattle.sg_histories.proofs.Accepted.{early, first_none, none_is, passed, voids}
+use Rattle.sg_histories.proofs.Accepted.{early, first_none, next_early, none_early, passed, voids}
 use Rattle.sg_histories.proofs.OutDones.{claims_fit}
 use Rattle.sg_office.proofs.Fits.{accepted_fits}
 use Rattle.sg_office.proofs.NewKeys.{new_change}
@@ -54,7 +54,7 @@ stay_early kept tells rows after stamp done answer history stands same told = re
     says = ap (λ o. unwrap_or o (reply.Done (body_of kept.setup history done))) told
 
     stays : history ≡ next_history kept.setup history (ask.Do stamp done)
-    stays = ap (λ o. cond (is_none o) (entry_of stamp done ∷ history) history) told
+    stays = ap (λ o. cond (is_none o) (entry_of stamp done ∷ history) history) told ∙ sym (next_early kept.setup history stamp done)
 
 -- a look changes nothing
 pub stay_look : (kept : Kept) (tells : Type 0) (rows after : Rows) (seen : Look) (answer : Reply) (history : List Entry) → StandsFor kept history → (tells → after ≡ rows)
@@ -89,13 +89,13 @@ kept_turn kept new tells rows after stamp done change history stands accepted se
         (subst (IsNewChange (rows_of kept.setup text history)) (sym is) (new_change kept.setup text history stamp done stands.lawful accepted))
 
     free : early_reply kept.setup history stamp done ≡ None
-    free = none_is (early_reply kept.setup history stamp done) accepted
+    free = none_early kept.setup history stamp done accepted
 
     says : reply.Done (body_of kept.setup history done) ≡ answer_of kept.setup history (ask.Do stamp done)
     says = sym (ap (λ o. unwrap_or o (reply.Done (body_of kept.setup history done))) free)
 
     goes : (entry_of stamp done ∷ history) ≡ next_history kept.setup history (ask.Do stamp done)
-    goes = sym (ap (λ o. cond (is_none o) (entry_of stamp done ∷ history) history) free)
+    goes = sym (next_early kept.setup history stamp done ∙ ap (λ o. cond (is_none o) (entry_of stamp done ∷ history) history) free)
 
 accepted_is : (setup : Setup) (history : List Entry) (stamp : Stamp) (done : Act) → stamp.number < 2 ^ 32 → IsAskable setup done → accepts setup history stamp done ≡ true → IsAccepted setup history (entry_of stamp done)
 accepted_is setup history stamp done few is accepted = record { stamp = stamp; is = refl; number = few; act_is = is; accepted = accepted }

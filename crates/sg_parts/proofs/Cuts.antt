@@ -127,13 +127,15 @@ each_push plan at (r ∷ rows) read all one =
     let same : at + suc (length rows) ≡ (at + 1) + length rows = omega arith in
     and_from (passes plan at r) (each_passes (passes plan) (at + 1) (rows ++ read ∷ [])) parts.0 (each_push plan (at + 1) rows read parts.1 (subst (λ n. passes plan n read ≡ true) same one))
 
-pub races_more : (plan : Plan) (race done next instances count : ℕ) (rows part : List RowGiven) (here : List (List RowGiven)) (cut cut' : List (List (List RowGiven))) → HasRaces plan race done rows cut
-    → instances ≡ plan.instances → count ≡ entries_of plan race → next ≡ done + instances * count → part ≡ slice_range rows done next → AreInstances instances count part here → cut' ≡ cut ++ here ∷ []
+pub races_more : (plan seen : Plan) (race done next count : ℕ) (rows part : List RowGiven) (here : List (List RowGiven)) (cut cut' : List (List (List RowGiven))) → HasRaces plan race done rows cut
+    → seen ≡ plan → count ≡ entries_of seen race → next ≡ done + seen.instances * count → part ≡ slice_range rows done next → AreInstances seen.instances count part here → cut' ≡ cut ++ here ∷ []
     → HasRaces plan (race + 1) next rows cut'
-races_more plan race done next instances count rows part here cut cut' has many counts next_is is more grown =
+races_more plan seen race done next count rows part here cut cut' has same_plan seen_counts next_is is more grown =
+    let many : seen.instances ≡ plan.instances = ap (λ (p : Plan). p.instances) same_plan in
+    let counts : count ≡ entries_of plan race = seen_counts ∙ ap (λ (p : Plan). entries_of p race) same_plan in
     let one : suc race ≡ race + 1 = omega arith in
     let spread : plan.instances * (entries_before plan race + entries_of plan race) ≡ plan.instances * entries_before plan race + plan.instances * entries_of plan race = grind arith in
-    let same : instances * count ≡ plan.instances * entries_of plan race = ap (λ n. n * count) many ∙ ap (λ n. plan.instances * n) counts in
+    let same : seen.instances * count ≡ plan.instances * entries_of plan race = ap (λ n. n * count) many ∙ ap (λ n. plan.instances * n) counts in
     record {
       done_are = omega (arith, has.done_are, next_is, same, spread, ap (λ n. plan.instances * entries_before plan n) one);
       long = ap length grown ∙ (length_push cut here ∙ ap (λ n. n + 1) has.long);
@@ -153,12 +155,14 @@ races_more plan race done next instances count rows part here cut cut' has many 
     }
 
 -- the rows of a race more are no more than all rows
-pub few_rows : (plan : Plan) (race done instances count : ℕ) → race < length plan.races → done ≡ plan.instances * entries_before plan race → instances ≡ plan.instances → count ≡ entries_of plan race
-    → done + instances * count ≤ r_rows plan
-few_rows plan race done instances count less is many counts =
-    let more = entries_before-more plan race (length plan.races) less in
+pub few_rows : (plan seen : Plan) (race done count : ℕ) → seen ≡ plan → race < length seen.races → done ≡ plan.instances * entries_before plan race → count ≡ entries_of seen race
+    → done + seen.instances * count ≤ r_rows plan
+few_rows plan seen race done count same_plan less is seen_counts =
+    let many : seen.instances ≡ plan.instances = ap (λ (p : Plan). p.instances) same_plan in
+    let counts : count ≡ entries_of plan race = seen_counts ∙ ap (λ (p : Plan). entries_of p race) same_plan in
+    let more = entries_before-more plan race (length plan.races) (omega (arith, less, ap (λ (p : Plan). length p.races) same_plan)) in
     let spread : plan.instances * (entries_before plan race + entries_of plan race) ≡ plan.instances * entries_before plan race + plan.instances * entries_of plan race = grind arith in
-    let same : instances * count ≡ plan.instances * entries_of plan race = ap (λ n. n * count) many ∙ ap (λ n. plan.instances * n) counts in
+    let same : seen.instances * count ≡ plan.instances * entries_of plan race = ap (λ n. n * count) many ∙ ap (λ n. plan.instances * n) counts in
     let up = mul-le-mul_left plan.instances more in
     omega (arith, is, same, spread, up)
 

@@ -108,6 +108,7 @@ module _ (old : PartsReading) (lines : List (List ℕ)) (has : HasRead old lines
         let more = word_stays lines (text ∷ []) has.behind has.begins in
         record {
           of_record = record { accepted = has.of_record.accepted; text = more.0 ∙ has.of_record.text };
+          index = has.index;
           before = has.before ∙ ap length (sym more.0);
           due_are = has.due_are;
           count = has.count;

@@ -9,8 +9,9 @@ use Rattle.sg_plan.specs.declared.plan.Side.{Side}
 use Rattle.sg_plan.specs.declared.plan.Side.TheVariants as side
 use Rattle.sg_record.specs.Places.{places_in}
 use Rattle.sg_record.specs.declared.record.Record.{Record}
-use Rattle.sg_check.specs.Completions.{half_commitment, half_kind, opened_on, posted_half}
-use Rattle.sg_check.specs.Kinds.{opens_digest}
+use Rattle.sg_check.specs.Completions.{posted_half}
+use Rattle.sg_check.specs.Kinds.{opens_digest, half_kind}
+use Rattle.sg_check.specs.Facts.{half_commitment, opened_on}
 use Rattle.sg_facts.proofs.Facts.{are_listed}
 use Rattle.sg_facts.specs.Items.{row_in}
 use Rattle.sg_parts.specs.Faults.{IsFirstWrong, IsRowRight, KeepsPosted, OpensAt}

@@ -20,8 +20,8 @@ use Rattle.sg_record.specs.Places.{places_in}
 use Rattle.sg_record.specs.declared.record.Record.{Record}
 use Rattle.sg_check.proofs.BoundLaws.{given_there}
 use Rattle.sg_check.proofs.Rows.{among_cases, first_given-some, one_row, posted_row}
-use Rattle.sg_check.specs.Completions.{opened_on, posted_half, posts_half}
-use Rattle.sg_check.specs.Facts.{first_given, known_code, shows_code}
+use Rattle.sg_check.specs.Completions.{posted_half, posts_half}
+use Rattle.sg_check.specs.Facts.{first_given, known_code, shows_code, opened_on}
 use Rattle.sg_check.specs.Laws.{IsBefore}
 use Rattle.sg_facts.proofs.Facts.{are_listed}
 use Rattle.sg_facts.specs.Items.{item_in, row_in}
@@ -159,7 +159,7 @@ module _ (posted : Record) (accepted : IsAccepted posted) where
 
   module _ (known : List (List (Option ℕ))) (lists : List (List (List ℕ))) (table : HasTable plan known (λ race entry. known_code plan race entry lines)) (race instance row : ℕ) where
     -- where the test passes, the row stands
-    pub stands_there : row_stands posted known lists race instance row ≡ true → StandsAt plan lines (printing_of lists) race instance row
+    pub stands_there : row_stands plan posted known lists race instance row ≡ true → StandsAt plan lines (printing_of lists) race instance row
     stands_there passes = λ left right block ballot column code among shown entry_is.
         let where_it = (in_plan posted accepted (CodeAt block ballot race column code) shown).placed in
         let tells = entry_tells plan race ballot column where_it.3 where_it.4 in
@@ -169,13 +169,13 @@ module _ (posted : Record) (accepted : IsAccepted posted) where
         let same : other.code.code ≡ code.code = same_code race other.block block other.ballot ballot other.column column other.code code other.among shown (other.entry_is ∙ sym entry_is) in
         let kept : item_in known race left.value ≡ Some (Some code.code)
         = table race left.value where_it.0 below ∙ ap (λ (o : Option ℕ). Some o) (found.1 ∙ ap (λ (k : ℕ). Some k) (sym other.code_is ∙ same)) in
-        let here : row_stands posted known lists race instance row ≡ code_stands plan lists race (left, right) code.code
+        let here : row_stands plan posted known lists race instance row ≡ code_stands plan lists race (left, right) code.code
         = ap (λ (o : Option RowOpening). option_map_or (both_stand plan known lists race) (option_and_then both_in o) true) (listed_both race instance row left right among)
         ∙ ap (λ (o : Option (Option ℕ)). option_map_or (code_stands plan lists race (left, right)) (option_map_or (λ k. k) o None) true) kept in
         eqb-true (printing_of lists race (left.value / candidates_of plan race) (right.value % candidates_of plan race)) code.code (sym here ∙ passes)
 
     -- and where it fails, it doesn't
-    pub stands_not : race < length plan.races → row_stands posted known lists race instance row ≡ false
+    pub stands_not : race < length plan.races → row_stands plan posted known lists race instance row ≡ false
         → StandsAt plan lines (printing_of lists) race instance row → ⊥
     stands_not within fails stands = by_row (option_and_then both_in (row_in posted.rows race instance row)) refl
       where

@@ -15,8 +15,9 @@ use Rattle.sg_grammar.specs.declared.state.Block.{Block}
 use Rattle.sg_record.specs.Lines.{texts_in}
 use Rattle.sg_record.specs.Places.{places_in}
 use Rattle.sg_record.specs.declared.record.Record.{Record}
-use Rattle.sg_check.specs.Completions.{Completion, IsHalfOf, half_commitment, half_kind, posted_half}
-use Rattle.sg_check.specs.Kinds.{opens_digest}
+use Rattle.sg_check.specs.Completions.{Completion, IsHalfOf, posted_half}
+use Rattle.sg_check.specs.Kinds.{opens_digest, half_kind}
+use Rattle.sg_check.specs.Facts.{half_commitment}
 use Rattle.sg_check.specs.Printings.{Printing, StandsWith}
 use Rattle.sg_check.specs.Verdict.{IsVerdict}
 use Rattle.sg_check.specs.declared.judged.Judged.TheVariants as judged

@@ -13,6 +13,7 @@ use Rattle.sg_parts.specs.inside.Taking.{Stands}
 -- behind it, each in its place
 pub record HasRead (reading : PartsReading) (lines : List (List ℕ)) : Type 0 where
   pub of_record : IsRecordOf lines reading.posted
+  pub index : reading.index ≡ reading.posted.plan
   pub before : reading.before ≡ length (record_lines lines)
   pub due_are : reading.due ≡ sheet_due reading.posted.plan
   pub count : reading.count ≡ r_rows reading.posted.plan

@@ -1,19 +1,17 @@
 //! Whether the printing stands with the record, and whether the completion opens it and keeps what is posted.
 ghost use Rattle.std.specs.Option.{option_and_then, option_map, option_map_or};
 ghost use Rattle.std.specs.Prelude.{◌≡◌, ◌<◌, ◌^◌, bytes_eq, length};
-ghost use Rattle.sg_check.specs.Completions.{half_kind};
-ghost use Rattle.sg_check.specs.Kinds.{opens_digest};
+ghost use Rattle.sg_check.specs.Kinds.{half_kind, opens_digest};
 ghost use Rattle.sg_facts.specs.Items.{row_in};
 ghost use Rattle.sg_facts.specs.Listed.{digest_on};
 ghost use Rattle.sg_parts.specs.inside.Checks.{FirstBelow, FirstPair, FirstRow, both_in, half_keeps, half_opens, is_same_opening, keeps_opening, passes, row_keeps, row_opens, row_right, row_stands};
 ghost use Rattle.sg_plan.specs.Ballots.{entries_of};
-ghost use Rattle.sg_plan.specs.Limits.{fault_of};
 
 use crate::looks::{Half, entry_code, given_half, is_same, posted_half, printed_code, row_at};
 use crate::parts::RowGiven;
 use sg_commit::{CommitKind, Digest, Opening, opens};
 use sg_forms::RowOpening;
-use sg_plan::{Items, Side};
+use sg_plan::{BallotIndex, Items, Side};
 use sg_record::{Record, RowCommit};
 
 /// A row.
@@ -64,22 +62,23 @@ fn posted_both(posted: &Record, at: At) -> Option<(Opening, Opening)>
 /// place.
 fn row_stands(
     posted: &Record,
+    index: &BallotIndex,
     known: &Items<Items<Option<u16>>>,
     lists: &Items<Items<Items<u16>>>,
     at: At,
 ) -> bool
-    requires good { fault_of posted.now.plan ≡ None }
-    requires race { at.race < length posted.now.plan.races }
-    ensures { result ≡ row_stands posted.now known.now lists.now at.race at.instance at.row }
+    requires { at.race < length index.now.races }
+    ensures { result ≡ row_stands index.now posted.now known.now lists.now at.race at.instance at.row }
 {
     sg_plan::laws::bounds_law();
+    let plan = index.plan();
     let Some((left, right)) = posted_both(posted, at) else {
         return true;
     };
     let Some(code) = entry_code(known, at.race, left.value) else {
         return true;
     };
-    let candidates = posted.plan.candidates(at.race) as u32;
+    let candidates = plan.candidates(at.race) as u32;
     printed_code(
         lists,
         at.race,
@@ -229,33 +228,38 @@ enum Test<'a> {
 }
 
 /// The row passes.
-fn passes(posted: &Record, test: &Test<'_>, at: At) -> bool
-    requires good { fault_of posted.now.plan ≡ None }
-    requires race { at.race < length posted.now.plan.races }
-    requires instance { at.instance < posted.now.plan.instances }
-    ensures { result ≡ passes posted.now test.now at.race at.instance at.row }
+fn passes(posted: &Record, index: &BallotIndex, test: &Test<'_>, at: At) -> bool
+    requires race { at.race < length index.now.races }
+    requires instance { at.instance < index.now.instances }
+    ensures { result ≡ passes index.now posted.now test.now at.race at.instance at.row }
 {
     sg_plan::laws::bounds_law();
+    let _ = index.plan();
     match *test {
-        Test::Stands { known, lists } => row_stands(posted, known, lists, at),
+        Test::Stands { known, lists } => row_stands(posted, index, known, lists, at),
         Test::Right(rows) => row_right(posted, rows, at),
     }
 }
 
 /// The first row of an instance that fails.
-fn first_row(posted: &Record, test: &Test<'_>, race: u32, instance: u32) -> Option<u32>
-    requires good { fault_of posted.now.plan ≡ None }
-    requires race { race < length posted.now.plan.races }
-    requires instance { instance < posted.now.plan.instances }
-    ensures { FirstBelow (entries_of posted.now.plan race) (passes posted.now test.now race instance) result }
+fn first_row(
+    posted: &Record,
+    index: &BallotIndex,
+    test: &Test<'_>,
+    race: u32,
+    instance: u32,
+) -> Option<u32>
+    requires race { race < length index.now.races }
+    requires instance { instance < index.now.instances }
+    ensures { FirstBelow (entries_of index.now race) (passes index.now posted.now test.now race instance) result }
 {
-    for row in 0..posted.plan.entries(race) {
+    for row in 0..index.plan().entries(race) {
         let at = At {
             race,
             instance,
             row,
         };
-        if !passes(posted, test, at) {
+        if !passes(posted, index, test, at) {
             return Some(row);
         }
     }
@@ -263,13 +267,17 @@ fn first_row(posted: &Record, test: &Test<'_>, race: u32, instance: u32) -> Opti
 }
 
 /// The first instance of a race, and in it the first row, that fails.
-fn first_pair(posted: &Record, test: &Test<'_>, race: u32) -> Option<(u32, u32)>
-    requires good { fault_of posted.now.plan ≡ None }
-    requires race { race < length posted.now.plan.races }
-    ensures { FirstPair posted.now.plan.instances (entries_of posted.now.plan race) (passes posted.now test.now race) result }
+fn first_pair(
+    posted: &Record,
+    index: &BallotIndex,
+    test: &Test<'_>,
+    race: u32,
+) -> Option<(u32, u32)>
+    requires { race < length index.now.races }
+    ensures { FirstPair index.now.instances (entries_of index.now race) (passes index.now posted.now test.now race) result }
 {
-    for instance in 0..posted.plan.instances {
-        if let Some(row) = first_row(posted, test, race, instance) {
+    for instance in 0..index.plan().instances {
+        if let Some(row) = first_row(posted, index, test, race, instance) {
             return Some((instance, row));
         }
     }
@@ -277,13 +285,12 @@ fn first_pair(posted: &Record, test: &Test<'_>, race: u32) -> Option<(u32, u32)>
 }
 
 /// The first row that fails.
-fn first_failing(posted: &Record, test: &Test<'_>) -> Option<At>
-    requires { fault_of posted.now.plan ≡ None }
-    ensures { FirstRow posted.now.plan (passes posted.now test.now) result }
+fn first_failing(posted: &Record, index: &BallotIndex, test: &Test<'_>) -> Option<At>
+    ensures { FirstRow index.now (passes index.now posted.now test.now) result }
 {
     sg_plan::laws::bounds_law();
-    for race in 0..posted.plan.races.len() as u32 {
-        if let Some((instance, row)) = first_pair(posted, test, race) {
+    for race in 0..index.plan().races.len() as u32 {
+        if let Some((instance, row)) = first_pair(posted, index, test, race) {
             return Some(At {
                 race,
                 instance,
@@ -297,19 +304,22 @@ fn first_failing(posted: &Record, test: &Test<'_>) -> Option<At>
 /// The first row that doesn't stand.
 pub(crate) fn unstanding(
     posted: &Record,
+    index: &BallotIndex,
     known: &Items<Items<Option<u16>>>,
     lists: &Items<Items<Items<u16>>>,
 ) -> Option<At>
-    requires { fault_of posted.now.plan ≡ None }
-    ensures { FirstRow posted.now.plan (row_stands posted.now known.now lists.now) result }
+    ensures { FirstRow index.now (row_stands index.now posted.now known.now lists.now) result }
 {
-    first_failing(posted, &Test::Stands { known, lists })
+    first_failing(posted, index, &Test::Stands { known, lists })
 }
 
 /// The first row that isn't right.
-pub(crate) fn wrong(posted: &Record, rows: &Items<Items<Items<RowGiven>>>) -> Option<At>
-    requires { fault_of posted.now.plan ≡ None }
-    ensures { FirstRow posted.now.plan (row_right posted.now rows.now) result }
+pub(crate) fn wrong(
+    posted: &Record,
+    index: &BallotIndex,
+    rows: &Items<Items<Items<RowGiven>>>,
+) -> Option<At>
+    ensures { FirstRow index.now (row_right posted.now rows.now) result }
 {
-    first_failing(posted, &Test::Right(rows))
+    first_failing(posted, index, &Test::Right(rows))
 }

@@ -1,19 +1,18 @@
 //! Rows that were read one after another, cut into races and instances.
-ghost use Rattle.std.specs.Prelude.{◌≡◌, ◌*◌, IfOk, None, length};
+ghost use Rattle.std.specs.Prelude.{◌≡◌, ◌*◌, IfOk, length};
 ghost use Rattle.sg_parts.specs.inside.Cutting.{AreCut, AreInstances};
 ghost use Rattle.sg_plan.specs.Ballots.{r_rows};
-ghost use Rattle.sg_plan.specs.Limits.{fault_of};
 
 use crate::parts::RowGiven;
-use sg_plan::{Items, NoMemory, Plan};
+use sg_plan::{BallotIndex, Items, NoMemory};
 use std::alloc::Global;
 
 /// How many rows a completion has.
-pub(crate) fn count_rows(plan: &Plan) -> u32
-    requires { fault_of plan.now ≡ None }
-    ensures { result ≡ r_rows plan.now }
+pub(crate) fn count_rows(index: &BallotIndex) -> u32
+    ensures { result ≡ r_rows index.now }
 {
     sg_plan::laws::bounds_law();
+    let plan = index.plan();
     let mut entries = 0;
     for race in 0..plan.races.len() as u32 {
         entries += plan.entries(race);
@@ -54,13 +53,13 @@ fn cut_instances(
 /// The rows of all races.
 pub(crate) fn cut_races(
     alloc: Global,
-    plan: &Plan,
+    index: &BallotIndex,
     rows: &[RowGiven],
 ) -> Result<Items<Items<Items<RowGiven>>>, NoMemory>
-    requires good { fault_of plan.now ≡ None }
-    requires all { length rows.now ≡ r_rows plan.now }
-    ensures { IfOk result (AreCut plan.now rows.now) }
+    requires { length rows.now ≡ r_rows index.now }
+    ensures { IfOk result (AreCut index.now rows.now) }
 {
+    let plan = index.plan();
     let instances = plan.instances as usize;
     let mut cut = Items::with_room(alloc, plan.races.len())?;
     let mut done = 0;

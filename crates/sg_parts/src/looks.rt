@@ -1,7 +1,7 @@
 //! Items of nested lists, where there are such, and what they say of a half.
 ghost use Rattle.std.specs.Option.{option_and_then, option_map_or};
 ghost use Rattle.std.specs.Prelude.{◌≡◌, None, bytes_eq};
-ghost use Rattle.sg_check.specs.Completions.{opened_on};
+ghost use Rattle.sg_check.specs.Facts.{opened_on};
 ghost use Rattle.sg_facts.specs.Items.{item_in, row_in};
 ghost use Rattle.sg_parts.specs.Given.{completion_of, half_given, printing_of};
 

@@ -3,7 +3,7 @@ ghost use Rattle.std.specs.Prelude.{◌≡◌};
 
 use sg_check::Kind;
 use sg_commit::Opening;
-use sg_plan::{Items, NoMemory};
+use sg_plan::{BallotIndex, Items, NoMemory};
 use sg_record::Record;
 use std::marker::Model;
 
@@ -34,18 +34,21 @@ pub struct Completion {
 #[derive(Debug, Drop)]
 pub struct Parts {
     pub(crate) posted: Record,
+    /// The index of its plan's ballots.
+    pub(crate) index: BallotIndex,
     pub(crate) printing: Printing,
     pub(crate) completion: Completion,
 }
 
 impl Model for Parts {
+    ghost use Rattle.std.specs.Prelude.{◌≡◌};
     ghost use Rattle.sg_parts.specs.Given.{AreParts, Given};
 
     ghost Value = { Given };
 
     ghost view = { λ p. record { posted = p.posted; codes = p.printing.codes; rows = p.completion.rows } };
 
-    ghost invariant = { λ p. AreParts (record { posted = p.posted; codes = p.printing.codes; rows = p.completion.rows }) };
+    ghost invariant = { λ p. AreParts (record { posted = p.posted; codes = p.printing.codes; rows = p.completion.rows }) × (p.index ≡ p.posted.plan) };
 }
 
 impl Parts {
@@ -57,6 +60,13 @@ impl Parts {
         ensures parts { AreParts self.now }
     {
         &self.posted
+    }
+
+    /// The index of the ballots of the record's plan.
+    pub fn index(&self) -> &BallotIndex
+        ensures { result.now ≡ self.now.posted.plan }
+    {
+        &self.index
     }
 
     /// The printing.

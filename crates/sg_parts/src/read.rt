@@ -24,9 +24,8 @@ pub(crate) fn check_standing(
     requires index { index.now ≡ posted.now.plan }
     ensures { IfOk result (Judges posted.now lists.now) }
 {
-    let _ = index.plan();
     let known = known_codes(alloc, posted, index)?;
-    match unstanding(posted, &known, lists) {
+    match unstanding(posted, index, &known, lists) {
         Some(at) => Ok(Some(RecountFault::Stand {
             race: at.race,
             instance: at.instance,
@@ -37,13 +36,18 @@ pub(crate) fn check_standing(
 }
 
 /// Whether each row of the completion opens its halves and keeps what is posted.
-fn check_rows(posted: &Record, rows: &Items<Items<Items<RowGiven>>>) -> Result<(), RecountFault>
-    requires accepted { IsAccepted posted.now }
+fn check_rows(
+    posted: &Record,
+    index: &BallotIndex,
+    rows: &Items<Items<Items<RowGiven>>>,
+) -> Result<(), RecountFault>
+    requires { index.now ≡ posted.now.plan }
     ensures ok { IfOk result (λ _. AreRight posted.now rows.now) }
     ensures err { IfErr result (λ fault. IsRowsFault posted.now rows.now fault) }
 {
     sg_plan::laws::bounds_law();
-    match wrong(posted, rows) {
+    let _ = index.plan();
+    match wrong(posted, index, rows) {
         Some(at) => Err(row_fault(posted, rows, &at)),
         None => Ok(()),
     }
@@ -73,10 +77,12 @@ fn row_fault(posted: &Record, rows: &Items<Items<Items<RowGiven>>>, at: &At) -> 
 /// All parts, where each row of the completion is right.
 pub(crate) fn whole_parts(
     posted: Record,
+    index: BallotIndex,
     lists: Items<Items<Items<u16>>>,
     rows: Items<Items<Items<RowGiven>>>,
 ) -> Result<Parts, RecountFault>
     requires accepted { IsAccepted posted }
+    requires index { index ≡ posted.plan }
     requires printed { ArePrinted posted.plan lists }
     requires stands { StandsWith posted.plan (places_in posted) (printing_of lists) }
     requires rows { has_rows posted.plan rows ≡ true }
@@ -84,15 +90,17 @@ pub(crate) fn whole_parts(
     ensures ok { IfOk result (λ parts. (parts.posted ≡ posted) × (parts.codes ≡ lists) × (parts.rows ≡ rows)) }
     ensures err { IfErr result (λ fault. IsRowsFault posted rows fault) }
 {
-    match check_rows(&posted, &rows) {
+    match check_rows(&posted, &index, &rows) {
         Ok(()) => Ok(Parts {
             posted,
+            index,
             printing: Printing { codes: lists },
             completion: Completion { rows },
         }),
         Err(fault) => {
             drop(rows);
             drop(lists);
+            drop(index);
             drop(posted);
             Err(fault)
         }

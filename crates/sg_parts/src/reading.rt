@@ -5,11 +5,10 @@ ghost use Rattle.sg_parts.specs.Faults.{HasFault, IsAccepting, IsRecordOf, lines
 ghost use Rattle.sg_parts.specs.Given.{IsAccepted, IsGiven, printing_line};
 ghost use Rattle.sg_parts.specs.Reads.{GoesOn, HasRead, lines_left};
 ghost use Rattle.sg_parts.specs.declared.parts.RecountFault.TheVariants as fault;
-ghost use Rattle.sg_parts.specs.inside.Reading.{Fits, IsRecordRead, IsWhole, Judges};
-ghost use Rattle.sg_parts.specs.inside.Taking.{IsNextOff, bare};
-ghost use Rattle.sg_plan.specs.Limits.{fault_of, longest_line};
+ghost use Rattle.sg_parts.specs.inside.Reading.{Fits, IsRecordRead, IsWhole};
+ghost use Rattle.sg_parts.specs.inside.Taking.{IsNextOff};
+ghost use Rattle.sg_plan.specs.Limits.{longest_line};
 ghost use Rattle.sg_record.specs.Taking.{HasTaken};
-ghost use Rattle.sg_sheet.specs.inside.Listed.{sheet_due};
 
 use crate::cutting::{count_rows, cut_races};
 use crate::looks::is_same;
@@ -17,7 +16,7 @@ use crate::parts::{Parts, RecountFault, RowGiven};
 use crate::read::{check_standing, whole_parts};
 use crate::rows::take_row;
 use crate::sheet::{blank_lists, take_line};
-use sg_plan::{BallotIndex, Items, NoMemory, Plan};
+use sg_plan::{BallotIndex, Items, NoMemory};
 use sg_record::{Record, RecordReading};
 use sg_sheet::{Due, list_due};
 use std::alloc::Global;
@@ -27,6 +26,8 @@ use std::alloc::Global;
 #[derive(Debug, Drop)]
 pub struct PartsReading {
     posted: Record,
+    /// The index of its plan's ballots.
+    index: BallotIndex,
     /// How many lines the record has.
     before: u32,
     /// The lines of the sheet.
@@ -96,7 +97,7 @@ impl PartsReading {
         if (self.taken as usize) < self.due.len() {
             return Ok(RecountFault::Printing(number));
         }
-        match check_codes(alloc, &self.posted, &self.codes)? {
+        match check_standing(alloc, &self.posted, &self.index, &self.codes)? {
             Some(off) => Ok(off),
             None => Ok(RecountFault::Completion(number)),
         }
@@ -138,7 +139,7 @@ impl PartsReading {
             let off = self.next_fault(alloc)?;
             return Err(off);
         }
-        match check_codes(alloc, &self.posted, &self.codes)? {
+        match check_standing(alloc, &self.posted, &self.index, &self.codes)? {
             Some(off) => Err(off),
             None => Ok(()),
         }
@@ -153,18 +154,20 @@ impl PartsReading {
     {
         let PartsReading {
             posted,
+            index,
             due,
             codes,
             rows,
             ..
         } = self;
         drop(due);
-        let cut = cut_races(alloc, &posted.plan, rows.as_slice());
+        let cut = cut_races(alloc, &index, rows.as_slice());
         drop(rows);
         match cut {
-            Ok(cut) => whole_parts(posted, codes, cut),
+            Ok(cut) => whole_parts(posted, index, codes, cut),
             Err(NoMemory) => {
                 drop(codes);
+                drop(index);
                 drop(posted);
                 Err(RecountFault::NoMemory)
             }
@@ -192,64 +195,24 @@ pub fn missing_printing(before: u32) -> RecountFault
     RecountFault::Printing(before + 1)
 }
 
-/// The lines of the sheet of a plan.
-fn due_of(alloc: Global, plan: &Plan) -> Result<Items<Due>, NoMemory>
-    requires { fault_of plan.now ≡ None }
-    ensures { IfOk result (λ due. due ≡ sheet_due plan.now) }
-{
-    let index = BallotIndex::make(alloc, plan)?;
-    let due = list_due(alloc, &index);
-    drop(index);
-    due
-}
-
-/// The lines of the sheet of a plan, and a list for each race.
-fn asked_of(alloc: Global, plan: &Plan) -> Result<(Items<Due>, Items<Items<Items<u16>>>), NoMemory>
-    requires { fault_of plan.now ≡ None }
-    ensures { IfOk result (λ asked. (asked.0 ≡ sheet_due plan.now) × (asked.1 ≡ bare plan.now)) }
-{
-    let codes = blank_lists(alloc, plan)?;
-    let due = due_of(alloc, plan)?;
-    Ok((due, codes))
-}
-
 /// Behind the lines of this record, so many, and the line `printing`.
 fn begin(alloc: Global, posted: Record, before: u32) -> Result<PartsReading, NoMemory>
     requires { IsAccepted posted }
     ensures { IfOk result (λ reading. (lines : List (List ℕ)) → IsRecordOf lines posted → before ≡ length (record_lines lines)
         → lines_behind lines ≡ printing_line ∷ [] → HasRead reading lines) }
 {
-    match asked_of(alloc, &posted.plan) {
-        Ok((due, codes)) => {
-            let count = count_rows(&posted.plan);
-            Ok(PartsReading {
-                posted,
-                before,
-                due,
-                count,
-                taken: 0,
-                codes,
-                rows: Items::new(alloc),
-            })
-        }
-        Err(NoMemory) => {
-            drop(posted);
-            Err(NoMemory)
-        }
-    }
-}
-
-/// The fault of the printing, if it doesn't stand with the record, where the ballots of the plan are numbered first.
-fn check_codes(
-    alloc: Global,
-    posted: &Record,
-    codes: &Items<Items<Items<u16>>>,
-) -> Result<Option<RecountFault>, NoMemory>
-    requires { IsAccepted posted.now }
-    ensures { IfOk result (Judges posted.now codes.now) }
-{
     let index = BallotIndex::make(alloc, &posted.plan)?;
-    let checked = check_standing(alloc, posted, &index, codes);
-    drop(index);
-    checked
+    let codes = blank_lists(alloc, &posted.plan)?;
+    let due = list_due(alloc, &index)?;
+    let count = count_rows(&index);
+    Ok(PartsReading {
+        posted,
+        index,
+        before,
+        due,
+        count,
+        taken: 0,
+        codes,
+        rows: Items::new(alloc),
+    })
 }

@@ -1,7 +1,6 @@
 //! The text of a story, written line by line.
 ghost use Rattle.std.specs.Prelude.{◌≡◌, ◌≤◌, [], None, true};
 ghost use Rattle.sg_outside.specs.Streams.{seen};
-ghost use Rattle.sg_plan.specs.Limits.{fault_of};
 ghost use Rattle.sg_record.specs.Pens.{IsSealOf, Writes};
 ghost use Rattle.sg_record.specs.Writing.{WriteEnds};
 ghost use Rattle.sg_post.specs.Fits.{story_fits};
@@ -40,12 +39,12 @@ fn put_story<O: Sink>(
     out: &mut O,
 ) -> Result<(), Failed>
     requires version { pen.old.version ≡ tables.now.plan.version }
-    requires limits { fault_of tables.now.plan ≡ None }
     requires fits { story_fits tables.now.plan story.now ≡ true }
     requires posting { IsPosting tables.now.plan tables.now.seed story.now.fates posting.now }
     requires seal { IsSealOf pen.old.seal [] }
     ensures { Writes O.written O.faults pen.old out.old pen.new out.new result (posted_lines tables.now.plan tables.now.seed story.now) }
 {
+    let _ = tables.plan();
     let full = Draw::Full;
     let draw = draw_of(&story.stage, &full);
     let key = key_of(draw);

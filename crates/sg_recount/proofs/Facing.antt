@@ -14,9 +14,9 @@ use Rattle.sg_record.specs.Formed.{each_passes, has_candidates, has_entries, has
 use Rattle.sg_record.specs.Places.{places_in}
 use Rattle.sg_record.specs.declared.record.Record.{Record}
 use Rattle.sg_check.proofs.Bounding.{marked_is}
-use Rattle.sg_check.specs.Completions.{IsHalfOf, is_counted, is_repeated, is_wrong_pointer}
+use Rattle.sg_check.specs.Completions.{IsHalfOf, is_repeated, is_wrong_pointer}
 use Rattle.sg_check.specs.Facts.{is_flagged, is_marked, is_set, points_to}
-use Rattle.sg_check.specs.Kinds.{differ}
+use Rattle.sg_check.specs.Kinds.{differ, is_counted}
 use Rattle.sg_check.specs.Printings.{count_below, marked_code}
 use Rattle.sg_facts.proofs.Facts.{are_listed}
 use Rattle.sg_facts.proofs.Tabling.{get_there}

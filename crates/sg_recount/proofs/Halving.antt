@@ -6,7 +6,8 @@ use Rattle.sg_commit.specs.declared.Opening.{Opening}
 use Rattle.sg_plan.specs.declared.plan.Side.{Side}
 use Rattle.sg_record.specs.Places.{places_in}
 use Rattle.sg_record.specs.declared.record.Record.{Record}
-use Rattle.sg_check.specs.Completions.{is_half_altered, is_wrong_pointer, opened_on, posted_half}
+use Rattle.sg_check.specs.Completions.{is_half_altered, is_wrong_pointer, posted_half}
+use Rattle.sg_check.specs.Facts.{opened_on}
 use Rattle.sg_facts.proofs.Facts.{are_listed}
 use Rattle.sg_facts.specs.Items.{row_in}
 use Rattle.sg_parts.specs.Given.{completion_of}

@@ -1,6 +1,7 @@
 //! Which rows are altered.
 ghost use Rattle.std.specs.Prelude.{◌≡◌, ◌<◌, IfOk, Some, length};
-ghost use Rattle.sg_check.specs.Completions.{IsHalfOf, is_altered, is_counted, is_half_altered, is_misprinted, is_row_misprinted, is_unopened, is_wrong_pointer};
+ghost use Rattle.sg_check.specs.Completions.{IsHalfOf, is_altered, is_half_altered, is_misprinted, is_row_misprinted, is_unopened, is_wrong_pointer};
+ghost use Rattle.sg_check.specs.Kinds.{is_counted};
 ghost use Rattle.sg_plan.specs.Ballots.{entries_of};
 ghost use Rattle.sg_plan.specs.declared.plan.Side.TheVariants.{Left, Right};
 ghost use Rattle.sg_recount.specs.Findings.{all_altered, altered_in, race_altered};

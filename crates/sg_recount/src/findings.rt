@@ -1,9 +1,5 @@
 //! What a recount finds.
 ghost use Rattle.std.specs.Prelude.{IfOk};
-ghost use Rattle.sg_record.specs.Places.{places_in};
-ghost use Rattle.sg_check.specs.Printings.{marked_code};
-ghost use Rattle.sg_facts.specs.Tables.{HasTable};
-ghost use Rattle.sg_parts.specs.Given.{IsAccepted};
 ghost use Rattle.sg_recount.specs.Findings.{AreFindings, AreSumsBound};
 ghost use Rattle.sg_recount.specs.inside.Basis.{IsBasis, given_in};
 
@@ -12,8 +8,7 @@ use crate::basis::Basis;
 use crate::sums::all_sums;
 use sg_facts::marked_codes;
 use sg_parts::Parts;
-use sg_plan::{BallotIndex, Items, NoMemory};
-use sg_record::Record;
+use sg_plan::{Items, NoMemory};
 use std::alloc::Global;
 
 /// A candidate's total, and the posted codes that are printed beside the candidate.
@@ -34,15 +29,6 @@ pub struct Findings {
     pub sums: Items<Items<Sum>>,
 }
 
-/// The code of each marked entry, by race and entry.
-fn marks(alloc: Global, posted: &Record) -> Result<Items<Items<Option<u16>>>, NoMemory>
-    requires { IsAccepted posted.now }
-    ensures { IfOk result (λ table. HasTable posted.now.plan table (λ race entry. marked_code posted.now.plan race entry (places_in posted.now))) }
-{
-    let index = BallotIndex::make(alloc, &posted.plan)?;
-    marked_codes(alloc, posted, &index)
-}
-
 /// The altered rows and the sums of what is looked into.
 fn find_in(alloc: Global, basis: &Basis<'_>) -> Result<Findings, NoMemory>
     requires { IsBasis basis.now }
@@ -58,7 +44,7 @@ fn find(alloc: Global, parts: &Parts) -> Result<Findings, NoMemory>
     ensures { IfOk result (λ findings. AreFindings parts.now findings) }
 {
     let posted = parts.posted();
-    let marked = marks(alloc, posted)?;
+    let marked = marked_codes(alloc, posted, parts.index())?;
     let basis = Basis {
         posted,
         lists: &parts.printing().codes,

@@ -10,13 +10,13 @@ use Rattle.sg_acts.specs.declared.replies.Reply.{Reply}
 use Rattle.sg_acts.specs.declared.replies.Reply.TheVariants as reply
 use Rattle.sg_keeper.specs.declared.rows.Rows.{Rows}
 use Rattle.sg_keeper.specs.declared.setup.Setup.{Setup}
-use Rattle.sg_histories.specs.Answers.{accepts, answer_of, body_of, early_reply, next_history}
+use Rattle.sg_histories.specs.Answers.{accepts, answer_of, body_of, next_history}
 use Rattle.sg_histories.specs.Histories.{Entry}
 use Rattle.sg_histories.specs.Lawful.{Turn}
 use Rattle.sg_histories.specs.Lawful.Turn.{Answered, NoMemory, NotStored}
 use Rattle.sg_histories.specs.Standing.{StandsFor, Turned}
 use Rattle.sg_histories.specs.declared.kept.Kept.{Kept}
-use Rattle.sg_histories.proofs.Accepted.{none_is}
+use Rattle.sg_histories.proofs.Accepted.{none_early}
 use Rattle.sg_sample.specs.inside.Voting.{GoesOn, stamp_of}
 
 -- behind a turn that is done the history is the next one
@@ -39,7 +39,7 @@ pub answered_done : (setup : Setup) (history : List Entry) (stamp : Stamp) (done
     → answer_of setup history (ask.Do stamp done) ≡ reply.Done (body_of setup history done)
 unfolding answer_of
 answered_done setup history stamp done accepted =
-    ap (λ (o : Option Reply). unwrap_or o (reply.Done (body_of setup history done))) (none_is (early_reply setup history stamp done) accepted)
+    ap (λ (o : Option Reply). unwrap_or o (reply.Done (body_of setup history done))) (none_early setup history stamp done accepted)
 
 never : (setup : Setup) (history : List Entry) (stamp : Stamp) (done : Act) (answer : Reply) (next : List Entry) → accepts setup history stamp done ≡ true
     → ((said : Body) → answer ≡ reply.Done said → ⊥) → (answer ≡ reply.Memory → ⊥) → (answer ≡ reply.Store → ⊥) → Turn setup history (ask.Do stamp done) answer next → ⊥

@@ -18,6 +18,7 @@ use Rattle.sg_histories.specs.Answers.{accepts, answer_of, entry_of, fits_draw, 
 use Rattle.sg_histories.specs.Histories.{Entry, claims_of, fate_of, is_stamped, phase_word, stage_of}
 use Rattle.sg_histories.specs.HistoryLaws.{history_after}
 use Rattle.sg_histories.specs.Lawful.{IsAccepted, IsAskable, Lawful}
+use Rattle.sg_histories.proofs.Accepted.{accepts_is}
 use Rattle.sg_unaltered.specs.UnalteredHistories.{HasTruePaper}
 use Rattle.sg_sample.specs.SampleRun.{ballot_act, ballot_asks, sample_plan, sample_secret, with_act}
 use Rattle.sg_sample.specs.Laws.{AreDone}
@@ -50,7 +51,7 @@ known setup number secrets = subst (λ (list : List (List ℕ)). knows_secret_of
 
 accepted_by : (setup : Setup) (history : List Entry) (stamp : Stamp) (done : Act) → knows_secret_of setup.secrets stamp ≡ true → repeat_of setup history stamp done ≡ None
     → refusal_of setup history stamp.station done ≡ None → accepts setup history stamp done ≡ true
-accepted_by setup history stamp done secret new none = rw (secret, new, none) refl
+accepted_by setup history stamp done secret new none = accepts_is setup history stamp done ∙ (rw (secret, new, none) refl)
 
 -- the next history of an act that is accepted
 pub goes_on : (setup : Setup) (history : List Entry) (stamp : Stamp) (done : Act) → accepts setup history stamp done ≡ true

@@ -23,7 +23,7 @@ use Rattle.sg_desks.specs.ActTexts.{IsAct}
 use Rattle.sg_desks.proofs.ActsRead.{texts_differ}
 use Rattle.sg_histories.specs.Answers.{accepts, answer_of, body_of, early_refusal, early_reply, entry_of, first_reply, is_ballot, is_done, is_unused, is_voting, knows_secret_of, next_history, refusal_of, repeat_of, same_act, scan_refusal, unless}
 use Rattle.sg_histories.specs.Histories.{Entry, fate_of, fate_word, is_stamped, phase_of}
-use Rattle.sg_histories.proofs.Accepted.{Passed, early, first_none, passed}
+use Rattle.sg_histories.proofs.Accepted.{Passed, accepts_is, early, first_none, next_early, passed}
 use Rattle.sg_scans.specs.ScanLaws.{AnswersAlike, IsScan, Scan, scan_act, scan_ask}
 
 -- REFUSALS ARE NOT DONE
@@ -212,13 +212,15 @@ done_again setup history scan secret =
 
 pub first_then : (setup : Setup) (history : List Entry) (scan : Scan)
     → Alike (answer_of setup history (scan_ask scan)) (early_reply setup (next_history setup history (scan_ask scan)) scan.stamp (scan_act scan))
-unfolding answer_of next_history
-first_then setup history scan = by_early (early_reply setup history scan.stamp (scan_act scan)) refl
+unfolding answer_of
+first_then setup history scan =
+    subst (λ (after : List Entry). Alike (answer_of setup history (scan_ask scan)) (early_reply setup after scan.stamp (scan_act scan))) (sym (next_early setup history scan.stamp (scan_act scan)))
+    (by_early (early_reply setup history scan.stamp (scan_act scan)) refl)
   where
     by_early : (o : Option Reply) → early_reply setup history scan.stamp (scan_act scan) ≡ o
         → Alike (unwrap_or o (reply.Done (body_of setup history (scan_act scan)))) (early_reply setup (if is_none o then entry_of scan.stamp (scan_act scan) ∷ history else history) scan.stamp (scan_act scan))
     by_early (Some said) e = record { said = said; is = e; alike = alike_same said }
     by_early None e =
-        let accepted : accepts setup history scan.stamp (scan_act scan) ≡ true = ap is_none e in
+        let accepted : accepts setup history scan.stamp (scan_act scan) ≡ true = accepts_is setup history scan.stamp (scan_act scan) ∙ ap is_none e in
         let p = passed setup history scan.stamp (scan_act scan) accepted in
         record { said = reply.Done (body_of setup history (scan_act scan)); is = done_again setup history scan p.secret; alike = alike_same _ }

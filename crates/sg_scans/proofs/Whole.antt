@@ -5,6 +5,7 @@ use Rattle.std.specs.Option.{unwrap_or}
 use Rattle.sg_acts.specs.declared.replies.Reply.{Reply}
 use Rattle.sg_acts.specs.declared.replies.Reply.TheVariants as reply
 use Rattle.sg_keeper.specs.declared.setup.Setup.{Setup}
+use Rattle.sg_histories.proofs.Accepted.{next_early}
 use Rattle.sg_histories.specs.Answers.{answer_of, body_of, early_reply, entry_of, next_history}
 use Rattle.sg_histories.specs.Histories.{Entry}
 use Rattle.sg_scans.specs.ScanLaws.{AnswersAlike, IsScan, OnceLeadsThere, Scan, TwiceIsAnswered, firsts, history_after, same_scan, scan_act, scan_ask}
@@ -83,9 +84,9 @@ settled_here setup history scan (first ∷ before) e s = by_same (same_scan scan
     by_same false same h ih = ih h
 
 settled_stays : (setup : Setup) (history : List Entry) (scan : Scan) → Settled setup history scan → next_history setup history (scan_ask scan) ≡ history
-unfolding next_history
 settled_stays setup history scan s =
-    ap (λ (o : Option Reply). if is_none o then entry_of scan.stamp (scan_act scan) ∷ history else history) s.is
+    next_early setup history scan.stamp (scan_act scan)
+    ∙ ap (λ (o : Option Reply). if is_none o then entry_of scan.stamp (scan_act scan) ∷ history else history) s.is
 
 all_more : (scan : Scan) (before : List Scan) → IsScan scan → All IsScan before → All IsScan (scan ∷ before)
 all_more scan before small ok zero d less = small

@@ -19,6 +19,7 @@ use Rattle.sg_acts.specs.declared.replies.Reply.{Reply}
 use Rattle.sg_acts.specs.declared.replies.Reply.TheVariants as reply
 use Rattle.sg_keeper.specs.declared.setup.Setup.{Setup}
 use Rattle.sg_post.specs.declared.story.Story.{Story}
+use Rattle.sg_histories.proofs.Accepted.{next_early}
 use Rattle.sg_histories.specs.Answers.{answer_of, body_of, close_refusal, draw_refusal, early_reply, entry_of, first_reply, is_drawn, knows_secret_of, next_history, refusal_of, repeat_of, unless}
 use Rattle.sg_histories.specs.Histories.{Entry, act_of_stamp, claims_of, fate_of, is_stamped, phase_of, phase_word, stage_of}
 use Rattle.sg_histories.specs.Lawful.{IsAskable, Lawful}
@@ -47,7 +48,7 @@ new_is_done : (setup : Setup) (history : List Entry) (stamp : Stamp) (asked : Ac
 unfolding answer_of next_history
 new_is_done setup history stamp asked new is none =
     let early : early_reply setup history stamp asked ≡ None = rw (new.secret, no_repeat setup history stamp asked new.unused, none) refl in
-    record { comes = (new.number, is); answer = rw early refl; next = rw early refl }
+    record { comes = (new.number, is); answer = rw early refl; next = next_early setup history stamp asked ∙ (rw early refl) }
 
 -- the history behind it is lawful
 done_lawful : (setup : Setup) (history : List Entry) (stamp : Stamp) (asked : Act) → Lawful setup history → IsDone setup history stamp asked (body_of setup history asked) → Lawful setup (entry_of stamp asked ∷ history)

@@ -2,7 +2,7 @@
 use Rattle.std.specs.Prelude.{ℕ, nat_lt, ◌==◌, if◌then◌else◌, Bool, true, false, ◌&&◌, ◌||◌, List, ◌++◌, slice_set, Option, Some}
 use Rattle.std.specs.Option.{option_map, option_map_or, option_or}
 use Rattle.sg_grammar.specs.Lines.{is_audit, is_cast, is_dispute}
-use Rattle.sg_check.specs.Facts.{is_both, opened_left, opened_right}
+use Rattle.sg_check.specs.Facts.{is_both, opened_on}
 use Rattle.sg_check.specs.Verdict.{total_on}
 use Rattle.sg_commit.specs.declared.Digest.{Digest}
 use Rattle.sg_commit.specs.declared.Opening.{Opening}
@@ -13,6 +13,7 @@ use Rattle.sg_ledger.specs.inside.Tables.{most_marks, with_bits, with_first, wit
 use Rattle.sg_ledger.specs.Tells.{candidate_place, instance_place}
 use Rattle.sg_ledger.specs.declared.claims.Claimed.{Claimed}
 use Rattle.sg_ledger.specs.declared.ledger.Ledger.{Ledger}
+use Rattle.sg_plan.specs.declared.plan.Side.TheVariants as side
 use Rattle.sg_plan.specs.Ballots.{candidates_of, entries_of, entry_at, entry_place, row_place}
 use Rattle.sg_plan.specs.declared.plan.Plan.{Plan}
 use Rattle.sg_streams.specs.CoinSides.{coin_seed}
@@ -61,11 +62,11 @@ abbrev pub seen_after : Plan → List Bool → ℕ → ℕ → Option Opening �
 seen_after plan table race instance opening = option_map_or (λ o. (if nat_lt o.value (entries_of plan race) then slice_set table (row_place plan race instance o.value) true else table)) opening table
 
 abbrev pub seen_lefts_after : Plan → List Bool → Placed → List Bool
-seen_lefts_after plan table (RowAt race instance number opening) = seen_after plan table race instance (opened_left opening)
+seen_lefts_after plan table (RowAt race instance number opening) = seen_after plan table race instance (opened_on side.Left opening)
 seen_lefts_after plan table line = table
 
 abbrev pub seen_rights_after : Plan → List Bool → Placed → List Bool
-seen_rights_after plan table (RowAt race instance number opening) = seen_after plan table race instance (opened_right opening)
+seen_rights_after plan table (RowAt race instance number opening) = seen_after plan table race instance (opened_on side.Right opening)
 seen_rights_after plan table line = table
 
 abbrev pub path_after : Plan → List (Option ℕ) → ℕ → RowOpening → List (Option ℕ)
@@ -114,8 +115,7 @@ claim_after claim line = claim
 -- the ledger with one more line
 abbrev pub ledger_after : Plan → Ledger → Placed → Ledger
 ledger_after plan ledger line = record {
-  sizes = ledger.sizes;
-  index = ledger.index;
+  book = ledger.book;
   commitments = record { codes = codes_after plan ledger.commitments.codes line; lefts = lefts_after plan ledger.commitments.lefts line; rights = rights_after plan ledger.commitments.rights line };
   codes = record { known = known_after plan ledger.codes.known line; marked = marked_after plan ledger.codes.marked line; marks = marks_after plan ledger.codes.marks line };
   bits = record { flagged = flagged_after plan ledger.bits.flagged line; places = places_after plan ledger.bits.places line; votes = votes_after plan ledger.bits.votes line };

@@ -9,8 +9,9 @@ use Rattle.sg_plan.specs.declared.plan.Side.TheVariants as side
 use Rattle.sg_forms.specs.declared.line.RowOpening.{RowOpening}
 use Rattle.sg_forms.specs.declared.line.RowOpening.TheVariants as opened
 use Rattle.sg_record.specs.declared.record.Record.{Record}
-use Rattle.sg_check.specs.Completions.{IsHalfOf, half_kind, opened_on}
-use Rattle.sg_check.specs.Kinds.{opens_digest}
+use Rattle.sg_check.specs.Completions.{IsHalfOf}
+use Rattle.sg_check.specs.Kinds.{opens_digest, half_kind}
+use Rattle.sg_check.specs.Facts.{opened_on}
 use Rattle.sg_facts.specs.Items.{item_in, row_in}
 use Rattle.sg_facts.specs.Listed.{digest_on}
 use Rattle.sg_parts.specs.Faults.{IsFirstWrong}
@@ -50,8 +51,8 @@ abbrev pub both_stand : Plan → List (List (Option ℕ)) → List (List (List �
 both_stand plan known lists race both = option_map_or (code_stands plan lists race both) (option_map_or (λ code. code) (item_in known race both.0.value) None) true
 
 -- the row isn't opened on both sides, or its entry has no known code, or it is printed beside the candidate of its place
-abbrev pub row_stands : Record → List (List (Option ℕ)) → List (List (List ℕ)) → ℕ → ℕ → ℕ → Bool
-row_stands posted known lists race instance row = option_map_or (both_stand posted.plan known lists race) (option_and_then both_in (row_in posted.rows race instance row)) true
+abbrev pub row_stands : Plan → Record → List (List (Option ℕ)) → List (List (List ℕ)) → ℕ → ℕ → ℕ → Bool
+row_stands plan posted known lists race instance row = option_map_or (both_stand plan known lists race) (option_and_then both_in (row_in posted.rows race instance row)) true
 
 -- A ROW IS RIGHT
 
@@ -83,6 +84,6 @@ row_right posted rows race instance row = row_opens posted rows race instance ro
 
 -- A ROW PASSES A TEST
 
-abbrev pub passes : Record → Test → ℕ → ℕ → ℕ → Bool
-passes posted (asked.Stands known lists) = row_stands posted known.now lists.now
-passes posted (asked.Right rows) = row_right posted rows.now
+abbrev pub passes : Plan → Record → Test → ℕ → ℕ → ℕ → Bool
+passes plan posted (asked.Stands known lists) = row_stands plan posted known.now lists.now
+passes plan posted (asked.Right rows) = row_right posted rows.now

@@ -1,5 +1,5 @@
 -- The table has what the blocks of cast ballots give of each entry.
-use Rattle.std.proofs.Common.{None, subst, sym, ◌∙◌}
+use Rattle.std.proofs.Common.{None, subst, sym}
 use Rattle.sg_check.specs.Facts.{first_given}
 use Rattle.sg_check.specs.Printings.{marked_code}
 use Rattle.sg_plan.specs.declared.plan.Plan.{Plan}
@@ -17,7 +17,7 @@ note_marks-requires-clause-fates c =
     subst (λ (p : Plan). AreFates p c.args.posted.now.ballots) (sym c.requires.index) (blocks_fates c.args.posted.now.plan 0 c.args.posted.now.ballots (formed_parts c.args.posted.now c.requires.formed).blocks)
 
 pub note_marks-requires-clause-sized : goal.note_marks-requires-clause-sized
-note_marks-requires-clause-sized c = subst (λ (p : Plan). IsSized p c.in_ok-table.table) c.plan.ensures.plan (blank_sized c.plan.result.now c.in_ok-table.table c.in_ok-table.ensures)
+note_marks-requires-clause-sized c = blank_sized c.args.index.now c.in_ok-table.table c.in_ok-table.ensures
 
 pub returns : goal.returns
 returns c =
@@ -25,6 +25,6 @@ returns c =
     let plan = posted.plan in
     let first = subst (λ (p : Plan). Puts p c.in_ok-table.table c.note_marks.new.table (λ r e. first_given (block_mark p r e) posted.ballots)) c.requires.index c.note_marks.ensures.puts in
     let sized = subst (λ (p : Plan). IsSized p c.note_marks.new.table) c.requires.index c.note_marks.ensures.sized in
-    let blank = subst (λ (p : Plan). HasTable p c.in_ok-table.table (λ r e. None)) (c.plan.ensures.plan ∙ c.requires.index) c.in_ok-table.ensures in
+    let blank = subst (λ (p : Plan). HasTable p c.in_ok-table.table (λ r e. None)) c.requires.index c.in_ok-table.ensures in
     put_all plan c.in_ok-table.table c.note_marks.new.table (λ r e. first_given (block_mark plan r e) posted.ballots) (λ r e. marked_code plan r e (places_in posted)) blank sized first
     (λ r e within. (are_listed posted).mark r e within)

@@ -10,6 +10,7 @@ use Rattle.sg_judge.specs.inside.Taking.{Stands}
 use Rattle.sg_grammar.proofs.Walking.{none_there, some_there}
 use Rattle.sg_grammar.specs.Head.{head_line}
 use Rattle.sg_grammar.specs.Walk.{take_line}
+use Rattle.sg_plan.specs.Limits.{fault_of}
 
 pub returns-in_default-clause-goes_on : goal.returns-in_default-clause-goes_on
 returns-in_default-clause-goes_on c = λ lines stands.
@@ -34,8 +35,9 @@ pub returns-then-is_of_plan-clause-seal : goal.returns-then-is_of_plan-clause-se
 returns-then-is_of_plan-clause-seal c = λ good.
     next_seal-plan c.args.expect.now c.args.bytes.now (said c.in-Some.line) c.args.seal.now (sym c.in-Some.ensures.exact) (sym c.is_of_plan.ensures ∙ c.if-is_of_plan.true)
 
-pub advance_behind-requires-clause-good : goal.advance_behind-requires-clause-good
-advance_behind-requires-clause-good c =
+pub make-requires : goal.make-requires
+make-requires c =
     let there = some_there (take_line c.args.expect.now (said c.in-Some.line)) c.in-Some.ensures.found.2 in
-    good_plan c.args.expect.now (said c.in-Some.line) there.0 (made_stands c.args.expect.now c.args.sealer.now None c.requires.stands.0 c.requires.stands.1)
+    ap fault_of c.plan.ensures.is
+    ∙ good_plan c.args.expect.now (said c.in-Some.line) there.0 (made_stands c.args.expect.now c.args.sealer.now None c.requires.stands.0 c.requires.stands.1)
     (none_there (head_line c.args.expect.now.plan c.args.expect.now.head (said c.in-Some.line)) (sym c.is_of_plan.ensures ∙ c.if-is_of_plan.false)) there.1

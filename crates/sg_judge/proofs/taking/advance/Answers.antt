@@ -1,17 +1,16 @@
-use Rattle.std.proofs.Common.{Some, sym, ap, ◌∙◌}
-use Rattle.std.specs.Option.{option_map}
-use Rattle.sg_forms.specs.Said.{said}
-use Rattle.sg_grammar.proofs.Walking.{read_next-no_line}
-use Rattle.sg_judge.proofs.Advancing.{form_stops}
+use Rattle.sg_forms.proofs.LineLaws.{lines_are_spelled}
+use Rattle.sg_forms.specs.Said.{said_commits}
+use Rattle.sg_forms.specs.Said.Said.{CodeCommit, Row}
 use Rattle.sg_judge.proofs.taking.advance.Goals as goal
 
-pub returns-in-None-clause-goes_on : goal.returns-in-None-clause-goes_on
-returns-in-None-clause-goes_on c = λ lines stands.
-    let none = rw c.plan.ensures.is at c.read_form-read.ensures.exact in
-    form_stops c.args.expect.now c.args.sealer.now (Some c.args.ledger.now) lines c.args.bytes.now stands
-    (read_next-no_line c.args.expect.now c.args.bytes.now (sym none ∙ ap (option_map said) c.in-None.is))
+pub advance_commits-requires-clause-range : goal.advance_commits-requires-clause-range
+advance_commits-requires-clause-range c =
+    (lines_are_spelled c.args.expect.now.plan.version c.args.bytes.now (said_commits c.in-Some.row) (c.in-Some.ensures c.args.expect.now.plan.version)).0
 
-pub advance_line-requires-clause-read : goal.advance_line-requires-clause-read
-advance_line-requires-clause-read c =
-    let spelled = rw c.plan.ensures.is at c.read_form-read.ensures.exact in
-    sym spelled ∙ ap (option_map said) c.in-Some.is
+pub advance_row-requires-clause-range : goal.advance_row-requires-clause-range
+advance_row-requires-clause-range c =
+    (lines_are_spelled c.args.expect.now.plan.version c.args.bytes.now (Row c.in-Some-read_row.opening) (c.in-Some-read_row.ensures c.args.expect.now.plan.version)).0
+
+pub advance_commit-requires-clause-range : goal.advance_commit-requires-clause-range
+advance_commit-requires-clause-range c =
+    (lines_are_spelled c.args.expect.now.plan.version c.args.bytes.now (CodeCommit c.in-Some-read_code_commit.race c.in-Some-read_code_commit.digest) (c.in-Some-read_code_commit.ensures c.args.expect.now.plan.version)).0

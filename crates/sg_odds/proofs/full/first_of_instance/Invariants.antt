@@ -7,7 +7,7 @@ use Rattle.sg_odds.proofs.full.first_of_instance.Given as goal
 
 abbrev pub invariant-loop-row : goal.invariant-loop-row
 invariant-loop-row l = record {
-  lefts : HasValues l.count (is_earlier (completion_of l.rows) side.Left l.race l.instance l.row) l.lefts;
-  rights : HasValues l.count (is_earlier (completion_of l.rows) side.Right l.race l.instance l.row) l.rights;
-  before : IsFullBefore l.plan (completion_of l.rows) l.race l.instance l.row;
+  lefts : HasValues l.count (is_earlier (completion_of l.parts.rows) side.Left l.race l.instance l.row) l.lefts;
+  rights : HasValues l.count (is_earlier (completion_of l.parts.rows) side.Right l.race l.instance l.row) l.rights;
+  before : IsFullBefore l.parts.posted.plan (completion_of l.parts.rows) l.race l.instance l.row;
 }

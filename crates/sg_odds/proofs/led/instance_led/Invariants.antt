@@ -7,4 +7,4 @@ use Rattle.sg_odds.specs.inside.Values.{HasValues}
 use Rattle.sg_odds.proofs.led.instance_led.Given as goal
 
 abbrev pub invariant-loop-row : goal.invariant-loop-row
-invariant-loop-row l = HasValues (candidates_of l.posted.plan l.race) (led_by l.posted.plan (places_in l.posted) (completion_of l.rows) l.race l.instance l.row) l.counts
+invariant-loop-row l = HasValues (candidates_of l.parts.posted.plan l.race) (led_by l.parts.posted.plan (places_in l.parts.posted) (completion_of l.parts.rows) l.race l.instance l.row) l.counts

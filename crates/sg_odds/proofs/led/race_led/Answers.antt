@@ -6,5 +6,5 @@ use Rattle.sg_odds.proofs.led.race_led.Goals as goal
 
 pub loop-instance-preserved : goal.loop-instance-preserved
 loop-instance-preserved c =
-    table_more c.args.posted.now.plan (places_in c.args.posted.now) (completion_of c.args.rows.now) c.args.race c.loop-instance.instance c.loop-instance.table c.push.new.self c.in_ok-counts.counts
+    table_more c.args.parts.now.posted.plan (places_in c.args.parts.now.posted) (completion_of c.args.parts.now.rows) c.args.race c.loop-instance.instance c.loop-instance.table c.push.new.self c.in_ok-counts.counts
     c.loop-instance.invariant c.in_ok-counts.ensures c.in_ok-push.ensures.ok

@@ -5,4 +5,4 @@ use Rattle.sg_odds.specs.inside.Gaps.{HasLed}
 use Rattle.sg_odds.proofs.led.race_led.Given as goal
 
 abbrev pub invariant-loop-instance : goal.invariant-loop-instance
-invariant-loop-instance l = HasLed l.posted.plan (places_in l.posted) (completion_of l.rows) l.race l.instance l.table
+invariant-loop-instance l = HasLed l.parts.posted.plan (places_in l.parts.posted) (completion_of l.parts.rows) l.race l.instance l.table

@@ -5,4 +5,4 @@ use Rattle.sg_parts.proofs.FirstRows.{pair_more}
 use Rattle.sg_parts.proofs.checks.first_pair.Goals as goal
 
 pub loop-instance-preserved : goal.loop-instance-preserved
-loop-instance-preserved c = pair_more (entries_of c.args.posted.now.plan c.args.race) (passes c.args.posted.now c.args.test.now c.args.race) c.loop-instance.instance c.loop-instance.invariant c.in_default.ensures
+loop-instance-preserved c = pair_more (entries_of c.args.index.now c.args.race) (passes c.args.index.now c.args.posted.now c.args.test.now c.args.race) c.loop-instance.instance c.loop-instance.invariant c.in_default.ensures

@@ -5,4 +5,4 @@ use Rattle.sg_parts.specs.inside.Checks.{passes}
 use Rattle.sg_parts.proofs.checks.first_pair.Given as goal
 
 abbrev pub invariant-loop-instance : goal.invariant-loop-instance
-invariant-loop-instance l = (i x : ℕ) → i < l.instance → x < entries_of l.posted.plan l.race → passes l.posted l.test l.race i x ≡ true
+invariant-loop-instance l = (i x : ℕ) → i < l.instance → x < entries_of l.index l.race → passes l.index l.posted l.test l.race i x ≡ true

@@ -3,4 +3,4 @@ use Rattle.sg_parts.proofs.Cuts.{HasRaces}
 use Rattle.sg_parts.proofs.cutting.cut_races.Given as goal
 
 abbrev pub invariant-loop-race : goal.invariant-loop-race
-invariant-loop-race l = HasRaces l.plan l.race l.done l.rows l.cut
+invariant-loop-race l = HasRaces l.index l.race l.done l.rows l.cut

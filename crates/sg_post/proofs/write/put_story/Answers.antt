@@ -19,7 +19,7 @@ put_stage-requires-clause-formed g c =
     let plan = c.args.tables.now.plan in
     let story = c.args.story.now in
     let parts = story-parts plan story c.requires.fits in
-    posted-formed plan c.args.tables.now.seed story.fates _ story.claims c.requires.limits parts.fates (draw-fits plan story _ c.requires.fits c.draw_of-draw.ensures) parts.claims
+    posted-formed plan c.args.tables.now.seed story.fates _ story.claims c.plan.ensures.limits parts.fates (draw-fits plan story _ c.requires.fits c.draw_of-draw.ensures) parts.claims
 
 pub put_stage-requires-clause-index : goal.put_stage-requires-clause-index
 put_stage-requires-clause-index g c = c.requires.posting.index

@@ -2,7 +2,7 @@
 use Rattle.std.proofs.Common.{ap, sym, ◌∙◌}
 use Rattle.std.specs.Prelude.{is_some}
 use Rattle.sg_plan.specs.declared.plan.Side.{Side}
-use Rattle.sg_check.specs.Completions.{is_counted}
+use Rattle.sg_check.specs.Kinds.{is_counted}
 use Rattle.sg_recount.proofs.Facing.{mark_is, place_is}
 use Rattle.sg_recount.specs.inside.Basis.{lines_in, plan_in}
 use Rattle.sg_recount.proofs.altered.is_counted.Goals as goal

@@ -1,9 +1,8 @@
 -- The pointer is below n: it is wrong where it is repeated, or where its flag and its count differ.
 use Rattle.std.proofs.Common.{Bool, ◌||◌, not, ap, sym, ◌∙◌, arith}
 use Rattle.std.proofs.lemmas.Bool.{le-ltb, lt-ltb}
-use Rattle.sg_check.specs.Completions.{is_counted}
 use Rattle.sg_check.specs.Facts.{is_flagged}
-use Rattle.sg_check.specs.Kinds.{differ}
+use Rattle.sg_check.specs.Kinds.{differ, is_counted}
 use Rattle.sg_recount.proofs.Facing.{flag_is, wrong_is}
 use Rattle.sg_recount.specs.inside.Basis.{lines_in, plan_in}
 use Rattle.sg_recount.proofs.altered.wrong_pointer.Goals as goal

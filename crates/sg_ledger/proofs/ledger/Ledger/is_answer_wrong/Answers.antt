@@ -10,28 +10,28 @@ use Rattle.sg_ledger.proofs.ledger.Ledger.is_answer_wrong.Goals as goal
 
 pub is_posted-marked-requires-clause-few : goal.is_posted-marked-requires-clause-few
 is_posted-marked-requires-clause-few c =
-    let plan = c.args.plan.now in
+    let plan = c.args.self.now.book in
     let in_plan = c.requires.placed in
     let end = entry_place-end plan c.args.race (entry_at plan c.args.race c.args.ballot 0 + candidates_of plan c.args.race) in_plan.0 (ballot_within plan c.args.race c.args.ballot c.args.column in_plan.3 in_plan.4) in
-    omega (arith, c.requires.at, c.candidates-candidates.ensures, (bounds plan c.requires.good).few_all_entries, end)
+    omega (arith, c.requires.at, c.candidates-candidates.ensures, (bounds plan c.plan.ensures.good).few_all_entries, end)
 
 pub is_posted-marked-requires-clause-known : goal.is_posted-marked-requires-clause-known
 is_posted-marked-requires-clause-known c =
-    let plan = c.args.plan.now in
+    let plan = c.args.self.now.book in
     let in_plan = c.requires.placed in
     let end = entry_place-end plan c.args.race (entry_at plan c.args.race c.args.ballot 0 + candidates_of plan c.args.race) in_plan.0 (ballot_within plan c.args.race c.args.ballot c.args.column in_plan.3 in_plan.4) in
     omega (arith, c.requires.at, c.candidates-candidates.ensures, c.requires.sized.known, end)
 
 pub is_posted-marked-requires-clause-marked : goal.is_posted-marked-requires-clause-marked
 is_posted-marked-requires-clause-marked c =
-    let plan = c.args.plan.now in
+    let plan = c.args.self.now.book in
     let in_plan = c.requires.placed in
     let end = entry_place-end plan c.args.race (entry_at plan c.args.race c.args.ballot 0 + candidates_of plan c.args.race) in_plan.0 (ballot_within plan c.args.race c.args.ballot c.args.column in_plan.3 in_plan.4) in
     omega (arith, c.requires.at, c.candidates-candidates.ensures, c.requires.sized.marked, end)
 
 pub returns : goal.returns
 returns c = λ lines tells.
-    let plan = c.args.plan.now in
+    let plan = c.args.self.now.book in
     let race = c.args.race in
     let in_plan = c.requires.placed in
     let kept = c.args.self.now.codes in

@@ -11,19 +11,19 @@ use Rattle.sg_plan.specs.Ballots.{entries_of, entry_place}
 use Rattle.sg_ledger.proofs.ledger.Ledger.is_row_print_bad.Goals as goal
 
 pub overflow_add-row : goal.overflow_add-row
-overflow_add-row c = omega (arith, c.requires.placed.2, (bounds c.args.plan.now c.requires.good).few_entries c.args.race c.requires.placed.0)
+overflow_add-row c = omega (arith, c.requires.placed.2, (bounds c.args.self.now.book c.plan.ensures.good).few_entries c.args.race c.requires.placed.0)
 
 pub look-requires : goal.look-requires
-look-requires c = omega (arith, c.requires.placed.0, c.requires.placed.1, (bounds c.args.plan.now c.requires.good).few_instances, c.requires.sized.both_counts)
+look-requires c = omega (arith, c.requires.placed.0, c.requires.placed.1, (bounds c.args.self.now.book c.plan.ensures.good).few_instances, c.requires.sized.both_counts)
 
 pub returns : goal.returns
 returns c = λ lines tells.
-    let plan = c.args.plan.now in
+    let plan = c.args.self.now.book in
     let race = c.args.race in
     let instance = c.args.instance in
     let opening = c.args.opening.now in
     let in_plan = c.requires.placed in
-    let few = bounds plan c.requires.good in
+    let few = bounds plan c.plan.ensures.good in
     let audits = c.args.self.now.audits in
     let audit : c.is_flag_wrong-audit.result ≡ wrong_audit plan lines race opening =
     c.is_flag_wrong-audit.ensures

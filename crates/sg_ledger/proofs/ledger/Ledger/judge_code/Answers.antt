@@ -1,7 +1,8 @@
 use Rattle.std.proofs.Common.{◌≡◌, ℕ, ◌+◌, ◌&&◌, nat_le, not, Bool, Option, None, get_or, ap, ap₂, ◌∙◌, arith}
 use Rattle.sg_grammar.specs.Lines.{is_cast}
 use Rattle.sg_check.specs.Facts.{code_commitment}
-use Rattle.sg_check.specs.Kinds.{bad_opening, bad_rule, code_opening, opens_digest}
+use Rattle.sg_check.specs.Kinds.{code_opening, opens_digest}
+use Rattle.sg_check.specs.inside.ByKind.{bad_opening, bad_rule}
 use Rattle.sg_commit.specs.declared.CommitKind.TheVariants as commit
 use Rattle.sg_commit.specs.declared.Digest.{Digest}
 use Rattle.sg_ledger.proofs.Judged.{rule_judged}
@@ -14,23 +15,23 @@ use Rattle.sg_ledger.proofs.ledger.Ledger.judge_code.Goals as goal
 
 pub overflow_add-own : goal.overflow_add-own
 overflow_add-own c =
-    let plan = c.args.plan.now in
+    let plan = c.args.self.now.book in
     omega (
       arith,
       c.entry_place-at.ensures.place,
       c.requires.placed.4,
-      (bounds plan c.requires.good).few_all_entries,
+      (bounds plan c.plan.ensures.good).few_all_entries,
       entry_place-end plan c.args.race (c.first_entry-first.result + candidates_of plan c.args.race) c.requires.placed.0 c.first_entry-first.ensures.within,
     )
 
 pub overflow_add-first : goal.overflow_add-first
 overflow_add-first c =
-    let plan = c.args.plan.now in
-    omega (arith, c.requires.placed.4, c.first_entry-first.ensures.within, (bounds plan c.requires.good).few_entries c.args.race c.requires.placed.0)
+    let plan = c.args.self.now.book in
+    omega (arith, c.requires.placed.4, c.first_entry-first.ensures.within, (bounds plan c.plan.ensures.good).few_entries c.args.race c.requires.placed.0)
 
 pub is_code_bad-opening-requires-clause-at : goal.is_code_bad-opening-requires-clause-at
 is_code_bad-opening-requires-clause-at c =
-    let plan = c.args.plan.now in
+    let plan = c.args.self.now.book in
     omega (
       arith,
       c.entry_place-at.ensures.place,
@@ -40,22 +41,22 @@ is_code_bad-opening-requires-clause-at c =
     )
 
 pub is_code_bad-opening-requires-clause-race : goal.is_code_bad-opening-requires-clause-race
-is_code_bad-opening-requires-clause-race c = omega (arith, c.requires.placed.0, (bounds c.args.plan.now c.requires.good).few_races)
+is_code_bad-opening-requires-clause-race c = omega (arith, c.requires.placed.0, (bounds c.args.self.now.book c.plan.ensures.good).few_races)
 
 pub are_against-against-requires-clause-few : goal.are_against-against-requires-clause-few
 are_against-against-requires-clause-few c =
-    let plan = c.args.plan.now in
+    let plan = c.args.self.now.book in
     omega (
       arith,
       c.entry_place-at.ensures.place,
       c.candidates-candidates.ensures,
-      (bounds plan c.requires.good).few_all_entries,
+      (bounds plan c.plan.ensures.good).few_all_entries,
       entry_place-end plan c.args.race (c.first_entry-first.result + candidates_of plan c.args.race) c.requires.placed.0 c.first_entry-first.ensures.within,
     )
 
 pub are_against-against-requires-clause-within : goal.are_against-against-requires-clause-within
 are_against-against-requires-clause-within c =
-    let plan = c.args.plan.now in
+    let plan = c.args.self.now.book in
     omega (
       arith,
       c.entry_place-at.ensures.place,
@@ -66,11 +67,11 @@ are_against-against-requires-clause-within c =
 
 pub returns : goal.returns
 returns c = λ lines tells.
-    let plan = c.args.plan.now in
+    let plan = c.args.self.now.book in
     let race = c.args.race in
     let kept = c.args.self.now.codes in
     let in_plan = c.requires.placed in
-    let few = bounds plan c.requires.good in
+    let few = bounds plan c.plan.ensures.good in
     let place = c.entry_place-at.result in
     let entry = entry_at plan race c.args.ballot c.args.column in
     let line = CodeAt c.args.block c.args.ballot race c.args.column c.args.code.now in

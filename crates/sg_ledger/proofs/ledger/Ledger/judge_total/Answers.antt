@@ -7,11 +7,11 @@ use Rattle.sg_plan.proofs.PlanLaws.{bounds}
 use Rattle.sg_ledger.proofs.ledger.Ledger.judge_total.Goals as goal
 
 pub look-votes-requires : goal.look-votes-requires
-look-votes-requires c = omega (arith, c.requires.placed.0, c.requires.placed.1, (bounds c.args.plan.now c.requires.good).few_candidates c.args.race, c.requires.sized.votes)
+look-votes-requires c = omega (arith, c.requires.placed.0, c.requires.placed.1, (bounds c.args.self.now.book c.plan.ensures.good).few_candidates c.args.race, c.requires.sized.votes)
 
 pub returns : goal.returns
 returns c = λ lines tells.
-    let votes = votes_for c.args.plan.now c.args.race c.args.candidate lines in
+    let votes = votes_for c.args.self.now.book c.args.race c.args.candidate lines in
     let votes_are : c.look-votes.result ≡ min votes most_votes = sym (c.look-votes.ensures 0) ∙ tells.bits.votes c.args.race c.args.candidate c.requires.placed.0 c.requires.placed.1 in
     let same : (c.look-votes.result == c.args.count) ≡ (c.args.count == votes) =
     ap (λ (v : ℕ). v == c.args.count) votes_are ∙ total_judged votes most_votes c.args.count (omega arith) in

@@ -10,7 +10,7 @@ set_bits-requires-clause-within c =
       arith,
       c.row_place-at.ensures.place,
       c.requires.sized.flagged,
-      row_place-end c.args.plan.now c.args.race c.args.instance (c.args.from + length c.args.bits.now) in_plan.0 in_plan.1 in_plan.2,
+      row_place-end c.args.self.now.book c.args.race c.args.instance (c.args.from + length c.args.bits.now) in_plan.0 in_plan.1 in_plan.2,
     )
 
 pub set_bits-requires-clause-few : goal.set_bits-requires-clause-few
@@ -19,6 +19,6 @@ set_bits-requires-clause-few c =
     omega (
       arith,
       c.row_place-at.ensures.place,
-      (bounds c.args.plan.now c.requires.good).few_r_rows,
-      row_place-end c.args.plan.now c.args.race c.args.instance (c.args.from + length c.args.bits.now) in_plan.0 in_plan.1 in_plan.2,
+      (bounds c.args.self.now.book c.plan.ensures.good).few_r_rows,
+      row_place-end c.args.self.now.book c.args.race c.args.instance (c.args.from + length c.args.bits.now) in_plan.0 in_plan.1 in_plan.2,
     )

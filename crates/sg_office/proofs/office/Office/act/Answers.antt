@@ -1,7 +1,8 @@
-use Rattle.std.proofs.Common.{refl, sym, ◌∙◌}
+use Rattle.std.proofs.Common.{ap, is_none, refl, sym, ◌∙◌}
 use Rattle.sg_office.proofs.Turns.{stay_early}
 use Rattle.sg_office.proofs.NoStore.{clean_reply, no_store}
 use Rattle.sg_histories.specs.Answers.{early_reply}
+use Rattle.sg_histories.proofs.Accepted.{accepts_is}
 use Rattle.sg_office.proofs.office.Office.act.Goals as goal
 
 pub returns-in-Some-clause-turn : goal.returns-in-Some-clause-turn
@@ -14,3 +15,7 @@ returns-in-Some-clause-cause g c = λ store.
     absurd (no_store c.in-Some.reply (early_reply c.args.self.now.setup c.office_law.ensures.history c.args.stamp.now c.args.act.now)
     (clean_reply c.args.self.now.setup c.office_law.ensures.history c.args.stamp.now c.args.act.now)
     (sym c.in-Some.is ∙ c.in-Ok-early.ensures c.office_law.ensures.history c.office_law.ensures.stands) store)
+
+pub accept-requires-clause-accepted : goal.accept-requires-clause-accepted
+accept-requires-clause-accepted g c = λ history stands.
+    accepts_is c.args.self.now.setup history c.args.stamp.now c.args.act.now ∙ ap is_none (sym (c.in-Ok-early.ensures history stands) ∙ c.in-None.is)

@@ -16,8 +16,11 @@ pub returns-then-self-len-clause-fault : goal.returns-then-self-len-clause-fault
 returns-then-self-len-clause-fault c = λ lines has.
     subst (λ (l : List (List ℕ)). HasFault l c.in_ok-off.off) (append-nil lines) (c.in_ok-off.ensures.has lines [] has (omega (arith, c.if-self-len.true, c.len.ensures)))
 
-pub check_codes-requires : goal.check_codes-requires
-check_codes-requires c = c.requires.1.of_record.accepted
+pub check_standing-requires-clause-accepted : goal.check_standing-requires-clause-accepted
+check_standing-requires-clause-accepted c = c.requires.1.of_record.accepted
+
+pub check_standing-requires-clause-index : goal.check_standing-requires-clause-index
+check_standing-requires-clause-index c = c.requires.1.index
 
 pub returns-in-Some-clause-fault : goal.returns-in-Some-clause-fault
 returns-in-Some-clause-fault c = λ lines has.

@@ -15,8 +15,11 @@ overflow_add-number-2 c =
 pub returns-then-self-len-clause-has : goal.returns-then-self-len-clause-has
 returns-then-self-len-clause-has c = λ lines rest has off. sheet_fault c.args.self.now lines has rest off (omega (arith, c.if-self-len.true, c.len.ensures))
 
-pub check_codes-requires : goal.check_codes-requires
-check_codes-requires c = c.requires.1.of_record.accepted
+pub check_standing-requires-clause-accepted : goal.check_standing-requires-clause-accepted
+check_standing-requires-clause-accepted c = c.requires.1.of_record.accepted
+
+pub check_standing-requires-clause-index : goal.check_standing-requires-clause-index
+check_standing-requires-clause-index c = c.requires.1.index
 
 pub returns-in-Some-clause-has : goal.returns-in-Some-clause-has
 returns-in-Some-clause-has c = λ lines rest has off.

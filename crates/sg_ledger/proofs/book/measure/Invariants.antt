@@ -1,6 +1,6 @@
 use Rattle.std.proofs.Common.{◌≡◌, ℕ, ◌<◌, length, slice_get, Some}
 use Rattle.sg_plan.specs.Ballots.{entries_before, entries_of}
-use Rattle.sg_ledger.proofs.sizes.Sizes.make.Given as goal
+use Rattle.sg_ledger.proofs.book.measure.Given as goal
 
 abbrev pub invariant-loop-race : goal.invariant-loop-race
 invariant-loop-race l = record {

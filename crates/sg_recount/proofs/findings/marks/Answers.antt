@@ -1,6 +1,0 @@
--- The plan is good.
-use Rattle.sg_parts.proofs.Accepting.{good_plan}
-use Rattle.sg_recount.proofs.findings.marks.Goals as goal
-
-pub make-requires : goal.make-requires
-make-requires c = good_plan c.args.posted.now c.requires
