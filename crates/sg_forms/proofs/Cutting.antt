@@ -1,15 +1,17 @@
 -- Words are cut at single spaces.
-use Rattle.std.proofs.Common.{◌≡◌, ℕ, suc, ◌+◌, ◌-◌, ◌^◌, ◌<◌, false, List, [], ◌∷◌, ◌++◌, length, take, drop, get_or, slice_index, None, refl, sym, ap, ◌∙◌, arith, add-one, length-drop, take-append-drop}
-use Rattle.std.proofs.Math.Seq.{split_at}
+use Rattle.std.proofs.Common.{◌≡◌, ℕ, suc, ◌+◌, ◌-◌, ◌^◌, ◌<◌, ◌≤◌, false, List, [], ◌∷◌, ◌++◌, length, take, drop, get_or, slice_index, None, refl, sym, ap, ◌∙◌, subst, arith, add-one, length-append, length-drop, take-append-drop}
+use Rattle.std.proofs.Math.Seq.{split_at, get_or-append_seam, take-append_seam}
 use Rattle.std.proofs.lemmas.List.{take_all, take_more}
 use Rattle.std.proofs.lemmas.List.Elements.{All-append, All-from_recursion, All-cons, All-nil}
-use Rattle.std.proofs.lemmas.List.Splits.{slice_split_at, slice_split_none, length-slice_split}
+use Rattle.std.proofs.lemmas.List.Splits.{slice_split_at, slice_split_none, length-slice_split, join_with_byte-slice_split}
+use Rattle.std.specs.List.{join_with_byte}
 use Rattle.std.specs.Prelude.{codes}
 use Rattle.std.proofs.lemmas.Bool.{eq-eqb}
 use Rattle.sg_lines.specs.Words.{HasNoSpace, decimal, encode_lower}
 use Rattle.sg_lines.proofs.Spaces.{HasNoSpace-decimal, HasNoSpace-encode_lower}
 use Rattle.sg_forms.specs.Said.{Said}
 use Rattle.sg_forms.specs.Reading.{is_space, words_in, whole}
+use Rattle.sg_forms.specs.inside.Cutting.{first_of, first_in}
 
 -- a byte that is no space stands behind a front that has none
 pub one_more : (text : List ℕ) (at : ℕ) → at < length text → is_space (slice_index text at) ≡ false → HasNoSpace (take at text) → HasNoSpace (take (at + 1) text)
@@ -30,6 +32,45 @@ cut_at_width text width within space none =
 -- with nothing behind them, it is the text
 pub cut_whole : (text : List ℕ) → HasNoSpace text → words_in text ≡ text ∷ []
 cut_whole text none = slice_split_none is_space text none
+
+-- a text has this word at its front, and a space behind it where it is longer
+record Begins (word text : List ℕ) : Type 0 where
+  within : length word ≤ length text
+  front : take (length word) text ≡ word
+  space : length word < length text → slice_index text (length word) ≡ 32
+
+-- words that are joined begin with the first of them
+joined_begins : (words : List (List ℕ)) → Begins (first_of words) (join_with_byte 32 words)
+joined_begins [] = record { within = omega arith; front = refl; space = λ more. absurd (omega arith) }
+joined_begins (word ∷ []) = record { within = omega arith; front = take_all (length word) word (omega arith); space = λ more. absurd (omega arith) }
+joined_begins (word ∷ next ∷ words) =
+    let rest : List ℕ = join_with_byte 32 (next ∷ words) in
+    record {
+      within = omega (arith, length-append word (32 ∷ rest));
+      front = take-append_seam word (32 ∷ rest);
+      space = λ more. get_or-append_seam word 32 rest 0;
+    }
+
+-- a text begins with its first word
+text_begins : (text : List ℕ) → Begins (first_in text) text
+text_begins text = subst (Begins (first_in text)) (join_with_byte-slice_split 32 text) (joined_begins (words_in text))
+
+-- the first word is no longer than the text, and stands at its front
+pub first_within : (text : List ℕ) → length (first_in text) ≤ length text
+first_within text = (text_begins text).within
+
+pub first_front : (text : List ℕ) → take (length (first_in text)) text ≡ first_in text
+first_front text = (text_begins text).front
+
+-- a space stands behind it
+pub first_space : (text : List ℕ) → length (first_in text) < length text → slice_index text (length (first_in text)) ≡ 32
+first_space text more = (text_begins text).space more
+
+-- where it is as long as the text, it is the text
+pub first_whole : (text : List ℕ) → length (first_in text) ≡ length text → first_in text ≡ text
+first_whole text all = sym (first_front text) ∙ take_all (length (first_in text)) text (omega arith)
+
+pub ruleset first_words = (first_within, first_front, first_space, first_whole)
 
 -- bytes in hexadecimal digits are one word
 pub spelled : (word bytes : List ℕ) → word ≡ encode_lower bytes → HasNoSpace word

@@ -6,9 +6,9 @@ use Rattle.std.proofs.lemmas.List.Elements.{All-nil, All-cons}
 use Rattle.std.proofs.lemmas.Slice.Eq.{bytes_eq-Decides}
 use Rattle.std.specs.Option.{option_map, option_and_then}
 use Rattle.sg_forms.specs.Said.{Said}
-use Rattle.sg_forms.specs.Said.Said.{Style, Paper, DrawFull, DrawPublic}
+use Rattle.sg_forms.specs.Said.Said.{Election, Instances, Cand, Style, Cast, Spoiled, Audited, Over, Paper, DrawFull, DrawPublic, Voided}
 use Rattle.sg_forms.specs.Spelling.{words_of, IsInRange}
-use Rattle.sg_forms.specs.Reading.{first_by, whole, read_instances, read_cand, read_election, read_race, read_ballots, read_code_commit, read_row_commit, read_seal, read_cast, read_spoiled, read_audited, read_voided, read_code_line, read_over, read_flags, read_places, read_total, read_left, read_right, read_both, read_dispute, read_version, read_style, read_paper, read_draw, digits_of, is_few, all_by, few_by, plan_form, result_form, ballot_form, form_of, form_in}
+use Rattle.sg_forms.specs.Reading.{one_name, one_number, first_by, whole, read_race, read_ballots, read_code_commit, read_row_commit, read_seal, read_code_line, read_flags, read_places, read_total, read_left, read_right, read_both, read_dispute, read_version, read_style, read_paper, read_draw, digits_of, is_few, all_by, few_by, plan_form, result_form, ballot_form, form_of, form_in}
 use Rattle.sg_forms.proofs.WordKinds.{IsKind, number_kind, key_kind, digest_kind, code_kind, name_kind, bits_kind, digits_kind, claim_kind}
 use Rattle.sg_forms.proofs.Kept.{both_true}
 
@@ -60,17 +60,17 @@ then_reads {A} {version} {read} {spell} {Fits} {front} {next} kind goes = record
 
 -- ---- form by form
 
-pub instances_reads : (version : ℕ) → Reads version (codes "instances" ∷ []) read_instances
+pub instances_reads : (version : ℕ) → Reads version (codes "instances" ∷ []) (one_number Instances)
 instances_reads version =
     then_reads number_kind (λ instances instances_fits.
     whole_reads instances_fits refl)
 
-pub cand_reads : (version : ℕ) → Reads version (codes "cand" ∷ []) read_cand
+pub cand_reads : (version : ℕ) → Reads version (codes "cand" ∷ []) (one_name Cand)
 cand_reads version =
     then_reads name_kind (λ name name_fits.
     whole_reads name_fits refl)
 
-pub election_reads : (version : ℕ) → Reads version (codes "election" ∷ []) read_election
+pub election_reads : (version : ℕ) → Reads version (codes "election" ∷ []) (one_name Election)
 election_reads version =
     then_reads name_kind (λ name name_fits.
     whole_reads name_fits refl)
@@ -108,22 +108,22 @@ seal_reads version =
     then_reads digest_kind (λ digest digest_fits.
     whole_reads (number_fits, digest_fits) refl))
 
-pub cast_reads : (version : ℕ) → Reads version (codes "cast" ∷ []) read_cast
+pub cast_reads : (version : ℕ) → Reads version (codes "cast" ∷ []) (one_number Cast)
 cast_reads version =
     then_reads number_kind (λ ballot ballot_fits.
     whole_reads ballot_fits refl)
 
-pub spoiled_reads : (version : ℕ) → Reads version (codes "spoiled" ∷ []) read_spoiled
+pub spoiled_reads : (version : ℕ) → Reads version (codes "spoiled" ∷ []) (one_number Spoiled)
 spoiled_reads version =
     then_reads number_kind (λ ballot ballot_fits.
     whole_reads ballot_fits refl)
 
-pub audited_reads : (version : ℕ) → Reads version (codes "audited" ∷ []) read_audited
+pub audited_reads : (version : ℕ) → Reads version (codes "audited" ∷ []) (one_number Audited)
 audited_reads version =
     then_reads number_kind (λ ballot ballot_fits.
     whole_reads ballot_fits refl)
 
-pub voided_reads : (version : ℕ) → Reads version (codes "voided" ∷ []) read_voided
+pub voided_reads : (version : ℕ) → Reads version (codes "voided" ∷ []) (one_number Voided)
 voided_reads version =
     then_reads number_kind (λ ballot ballot_fits.
     whole_reads ballot_fits refl)
@@ -136,7 +136,7 @@ code_line_reads version =
     then_reads (code_kind version) (λ code code_fits.
     whole_reads (race_fits, column_fits, key_fits, code_fits) refl))))
 
-pub over_reads : (version : ℕ) → Reads version (codes "over" ∷ []) read_over
+pub over_reads : (version : ℕ) → Reads version (codes "over" ∷ []) (one_number Over)
 over_reads version =
     then_reads number_kind (λ race race_fits.
     whole_reads race_fits refl)

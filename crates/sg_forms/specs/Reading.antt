@@ -115,20 +115,19 @@ few_by read most words = if is_few most words then all_by read words else None
 
 -- ---- the words behind the first one, form by form
 
+-- one number, as in `cast`
+abbrev pub one_number : (ℕ → Said) → List (List ℕ) → Option Said
+one_number line = number_then (λ number. whole (line number))
+
+-- one name, as in `cand`
+abbrev pub one_name : (List ℕ → Said) → List (List ℕ) → Option Said
+one_name line = then_by name_of (λ name. whole (line name))
+
 abbrev pub read_version : List (List ℕ) → Option Said
 read_version = number_then (λ number words. if number == 1 || number == 2 then whole (Version number) words else None)
 
-abbrev pub read_election : List (List ℕ) → Option Said
-read_election = then_by name_of (λ name. whole (Election name))
-
-abbrev pub read_instances : List (List ℕ) → Option Said
-read_instances = number_then (λ instances. whole (Instances instances))
-
 abbrev pub read_race : List (List ℕ) → Option Said
 read_race = then_by name_of (λ name. number_then (λ candidates. number_then (λ votes. whole (Race name candidates votes))))
-
-abbrev pub read_cand : List (List ℕ) → Option Said
-read_cand = then_by name_of (λ name. whole (Cand name))
 
 abbrev pub read_style : List (List ℕ) → Option Said
 read_style = then_by name_of (λ name words. option_map (λ races. Style name races) (few_by decimal_of most_races words))
@@ -145,20 +144,8 @@ read_row_commit = number_then (λ race. number_then (λ instance. digest_then (�
 abbrev pub read_seal : List (List ℕ) → Option Said
 read_seal = number_then (λ number. digest_then (λ digest. whole (Seal number digest)))
 
-abbrev pub read_cast : List (List ℕ) → Option Said
-read_cast = number_then (λ ballot. whole (Cast ballot))
-
-abbrev pub read_spoiled : List (List ℕ) → Option Said
-read_spoiled = number_then (λ ballot. whole (Spoiled ballot))
-
-abbrev pub read_audited : List (List ℕ) → Option Said
-read_audited = number_then (λ ballot. whole (Audited ballot))
-
 abbrev pub read_code_line : ℕ → List (List ℕ) → Option Said
 read_code_line version = number_then (λ race. number_then (λ column. key_then (λ key. then_by (code_of version) (λ code. whole (Code (record { race = race; column = column; key = key; code = code }))))))
-
-abbrev pub read_over : List (List ℕ) → Option Said
-read_over = number_then (λ race. whole (Over race))
 
 abbrev pub read_paper : ℕ → List (List ℕ) → Option Said
 read_paper version = number_then (λ race words. option_map (λ list. Paper race list) (few_by (code_of version) most_candidates words))
@@ -187,21 +174,18 @@ read_both = opening_then (λ left. opening_then (λ right. whole (Row (row.Both 
 abbrev pub read_dispute : ℕ → List (List ℕ) → Option Said
 read_dispute version = number_then (λ ballot. number_then (λ race. then_by (code_of version) (λ code. then_by claim_of (λ word. whole (Dispute ballot race code word)))))
 
-abbrev pub read_voided : List (List ℕ) → Option Said
-read_voided = number_then (λ ballot. whole (Voided ballot))
-
 -- ---- the form, by the first word
 
 -- the lines of the plan
 unfoldable pub plan_form : List ℕ → List (List ℕ) → Option Said
 plan_form first words =
-    if bytes_eq first (codes "cand") then read_cand words
+    if bytes_eq first (codes "cand") then one_name Cand words
     else (if bytes_eq first (codes "race") then read_race words
     else (if bytes_eq first (codes "style") then read_style words
     else (if bytes_eq first (codes "ballots") then read_ballots words
     else (if bytes_eq first (codes "scantegrity2") then read_version words
-    else (if bytes_eq first (codes "election") then read_election words
-    else (if bytes_eq first (codes "instances") then read_instances words else None))))))
+    else (if bytes_eq first (codes "election") then one_name Election words
+    else (if bytes_eq first (codes "instances") then one_number Instances words else None))))))
 
 -- the lines of results, and those of the plan
 unfoldable pub result_form : List ℕ → List (List ℕ) → Option Said
@@ -217,11 +201,11 @@ result_form first words =
 unfoldable pub ballot_form : ℕ → List ℕ → List (List ℕ) → Option Said
 ballot_form version first words =
     if bytes_eq first (codes "code") then read_code_line version words
-    else (if bytes_eq first (codes "cast") then read_cast words
-    else (if bytes_eq first (codes "spoiled") then read_spoiled words
-    else (if bytes_eq first (codes "audited") then read_audited words
-    else (if bytes_eq first (codes "voided") then read_voided words
-    else (if bytes_eq first (codes "over") then read_over words
+    else (if bytes_eq first (codes "cast") then one_number Cast words
+    else (if bytes_eq first (codes "spoiled") then one_number Spoiled words
+    else (if bytes_eq first (codes "audited") then one_number Audited words
+    else (if bytes_eq first (codes "voided") then one_number Voided words
+    else (if bytes_eq first (codes "over") then one_number Over words
     else (if bytes_eq first (codes "paper") then read_paper version words
     else (if bytes_eq first (codes "dispute") then read_dispute version words
     else result_form first words)))))))

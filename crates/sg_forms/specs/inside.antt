@@ -1,2 +1,3 @@
 -- What only private clauses and proofs cite: no reader of a public contract need believe it.
+pub mod Cutting
 pub mod Writing

@@ -1,8 +1,9 @@
 //! The lines of ballots: their blocks, and those of disputes.
 ghost use Rattle.std.specs.Prelude.{◌≡◌, IfSome};
 ghost use Rattle.std.specs.Option.{option_map};
-ghost use Rattle.sg_forms.specs.Reading.{read_cast, read_spoiled, read_audited, read_code_line, read_over, read_paper, read_dispute, read_voided};
+ghost use Rattle.sg_forms.specs.Reading.{one_number, read_code_line, read_paper, read_dispute};
 ghost use Rattle.sg_forms.specs.Said.{said};
+ghost use Rattle.sg_forms.specs.Said.Said.{Audited, Cast, Over, Spoiled, Voided};
 ghost use Rattle.sg_forms.specs.Zeros.{HasZeros};
 
 use crate::kinds::read_claim;
@@ -12,7 +13,7 @@ use crate::words::Words;
 
 /// `cast B`
 pub(crate) fn cast<'a>(mut words: Words<'a>) -> Option<Line<'a>>
-    ensures exact { option_map said result ≡ read_cast words.entry }
+    ensures exact { option_map said result ≡ one_number Cast words.entry }
     ensures zeros { IfSome result HasZeros }
 {
     let ballot = words.number()?;
@@ -21,7 +22,7 @@ pub(crate) fn cast<'a>(mut words: Words<'a>) -> Option<Line<'a>>
 
 /// `spoiled B`
 pub(crate) fn spoiled<'a>(mut words: Words<'a>) -> Option<Line<'a>>
-    ensures exact { option_map said result ≡ read_spoiled words.entry }
+    ensures exact { option_map said result ≡ one_number Spoiled words.entry }
     ensures zeros { IfSome result HasZeros }
 {
     let ballot = words.number()?;
@@ -30,7 +31,7 @@ pub(crate) fn spoiled<'a>(mut words: Words<'a>) -> Option<Line<'a>>
 
 /// `audited B`
 pub(crate) fn audited<'a>(mut words: Words<'a>) -> Option<Line<'a>>
-    ensures exact { option_map said result ≡ read_audited words.entry }
+    ensures exact { option_map said result ≡ one_number Audited words.entry }
     ensures zeros { IfSome result HasZeros }
 {
     let ballot = words.number()?;
@@ -39,7 +40,7 @@ pub(crate) fn audited<'a>(mut words: Words<'a>) -> Option<Line<'a>>
 
 /// `voided B`
 pub(crate) fn voided<'a>(mut words: Words<'a>) -> Option<Line<'a>>
-    ensures exact { option_map said result ≡ read_voided words.entry }
+    ensures exact { option_map said result ≡ one_number Voided words.entry }
     ensures zeros { IfSome result HasZeros }
 {
     let ballot = words.number()?;
@@ -65,7 +66,7 @@ pub(crate) fn code<'a>(version: u32, mut words: Words<'a>) -> Option<Line<'a>>
 
 /// `over R`
 pub(crate) fn over<'a>(mut words: Words<'a>) -> Option<Line<'a>>
-    ensures exact { option_map said result ≡ read_over words.entry }
+    ensures exact { option_map said result ≡ one_number Over words.entry }
     ensures zeros { IfSome result HasZeros }
 {
     let race = words.number()?;

@@ -1,8 +1,9 @@
 //! The lines of the plan.
 ghost use Rattle.std.specs.Prelude.{◌≡◌, IfSome};
 ghost use Rattle.std.specs.Option.{option_map};
-ghost use Rattle.sg_forms.specs.Reading.{read_version, read_election, read_instances, read_race, read_cand, read_style, read_ballots};
+ghost use Rattle.sg_forms.specs.Reading.{one_name, one_number, read_version, read_race, read_style, read_ballots};
 ghost use Rattle.sg_forms.specs.Said.{said};
+ghost use Rattle.sg_forms.specs.Said.Said.{Cand, Election, Instances};
 ghost use Rattle.sg_forms.specs.Zeros.{HasZeros};
 
 use crate::line::Line;
@@ -23,7 +24,7 @@ pub(crate) fn version<'a>(mut words: Words<'a>) -> Option<Line<'a>>
 
 /// `election NAME`
 pub(crate) fn election<'a>(mut words: Words<'a>) -> Option<Line<'a>>
-    ensures exact { option_map said result ≡ read_election words.entry }
+    ensures exact { option_map said result ≡ one_name Election words.entry }
     ensures zeros { IfSome result HasZeros }
 {
     let name = words.name()?;
@@ -32,7 +33,7 @@ pub(crate) fn election<'a>(mut words: Words<'a>) -> Option<Line<'a>>
 
 /// `instances M`
 pub(crate) fn instances<'a>(mut words: Words<'a>) -> Option<Line<'a>>
-    ensures exact { option_map said result ≡ read_instances words.entry }
+    ensures exact { option_map said result ≡ one_number Instances words.entry }
     ensures zeros { IfSome result HasZeros }
 {
     let instances = words.number()?;
@@ -56,7 +57,7 @@ pub(crate) fn race<'a>(mut words: Words<'a>) -> Option<Line<'a>>
 
 /// `cand NAME`
 pub(crate) fn cand<'a>(mut words: Words<'a>) -> Option<Line<'a>>
-    ensures exact { option_map said result ≡ read_cand words.entry }
+    ensures exact { option_map said result ≡ one_name Cand words.entry }
     ensures zeros { IfSome result HasZeros }
 {
     let name = words.name()?;

@@ -183,10 +183,11 @@ pub fn read_form(version: u32, bytes: &[u8]) -> Option<Line<'_>>
 }
 
 /// The commitments of a row that a text says.
-#[tactic(auto, unfolding(crate::specs::Reading::form_of))]
+#[tactic(auto, using(crate::proofs::FormLaws::commits_first), unfolding(crate::specs::Reading::form_of))]
 #[inline(always)]
 fn commits_in(text: &[u8]) -> Option<RowCommitLine>
-    ensures { IfSome result (λ line. (version : ℕ) → form_in version (words_in text.now) ≡ Some (said_commits line)) }
+    ensures found { IfSome result (λ line. (version : ℕ) → form_in version (words_in text.now) ≡ Some (said_commits line)) }
+    ensures only { (version : ℕ) (line : RowCommitLine) → form_in version (words_in text.now) ≡ Some (said_commits line) → result ≡ Some line }
 {
     let words = behind_row_commit(text)?;
     commits(words)
@@ -196,7 +197,8 @@ fn commits_in(text: &[u8]) -> Option<RowCommitLine>
 #[tactic(auto, unfolding(crate::specs::Reading::form_of))]
 #[inline(always)]
 fn row_in(text: &[u8]) -> Option<RowOpening>
-    ensures { IfSome result (λ opening. (version : ℕ) → form_in version (words_in text.now) ≡ Some (Row opening)) }
+    ensures found { IfSome result (λ opening. (version : ℕ) → form_in version (words_in text.now) ≡ Some (Row opening)) }
+    ensures only { (version : ℕ) (opening : RowOpening) → form_in version (words_in text.now) ≡ Some (Row opening) → result ≡ Some opening }
 {
     if let Some(words) = behind_left(text) {
         return left(words);
@@ -210,11 +212,12 @@ fn row_in(text: &[u8]) -> Option<RowOpening>
     None
 }
 
-/// Reads the line of a row's commitments, in a record of any version, as a value of its own. It says nothing of other lines:
-/// `read_form` reads these too. Of the lines of a record most are such ones, and this takes half of its time.
+/// Reads the line of a row's commitments, in a record of any version, as a value of its own: `None` where the bytes are no
+/// such line. `read_form` reads these too. Of the lines of a record most are such ones, and this takes half of its time.
 #[tactic(auto, unfolding(crate::specs::Reading::line_of))]
 pub fn read_row_commit(bytes: &[u8]) -> Option<RowCommitLine>
-    ensures { IfSome result (λ line. (version : ℕ) → line_of version bytes.now ≡ Some (said_commits line)) }
+    ensures found { IfSome result (λ line. (version : ℕ) → line_of version bytes.now ≡ Some (said_commits line)) }
+    ensures only { (version : ℕ) (line : RowCommitLine) → line_of version bytes.now ≡ Some (said_commits line) → result ≡ Some line }
 {
     if bytes.len() > LONGEST_LINE {
         return None;
@@ -226,7 +229,8 @@ pub fn read_row_commit(bytes: &[u8]) -> Option<RowCommitLine>
 /// Reads the line of what is opened of a row, in the same way.
 #[tactic(auto, unfolding(crate::specs::Reading::line_of))]
 pub fn read_row(bytes: &[u8]) -> Option<RowOpening>
-    ensures { IfSome result (λ opening. (version : ℕ) → line_of version bytes.now ≡ Some (Row opening)) }
+    ensures found { IfSome result (λ opening. (version : ℕ) → line_of version bytes.now ≡ Some (Row opening)) }
+    ensures only { (version : ℕ) (opening : RowOpening) → line_of version bytes.now ≡ Some (Row opening) → result ≡ Some opening }
 {
     if bytes.len() > LONGEST_LINE {
         return None;
@@ -236,10 +240,11 @@ pub fn read_row(bytes: &[u8]) -> Option<RowOpening>
 }
 
 /// The race and the commitment of a code that a text says.
-#[tactic(auto, unfolding(crate::specs::Reading::form_of))]
+#[tactic(auto, using(crate::proofs::FormLaws::commit_first), unfolding(crate::specs::Reading::form_of))]
 #[inline(always)]
 fn commit_in(text: &[u8]) -> Option<(u32, Digest)>
-    ensures { IfSome result (λ line. (version : ℕ) → form_in version (words_in text.now) ≡ Some (CodeCommit line.0 line.1)) }
+    ensures found { IfSome result (λ line. (version : ℕ) → form_in version (words_in text.now) ≡ Some (CodeCommit line.0 line.1)) }
+    ensures only { (version : ℕ) (race : ℕ) (digest : Digest) → form_in version (words_in text.now) ≡ Some (CodeCommit race digest) → result ≡ Some (race, digest) }
 {
     let words = behind_code_commit(text)?;
     commit(words)
@@ -248,7 +253,8 @@ fn commit_in(text: &[u8]) -> Option<(u32, Digest)>
 /// Reads the line of a code's commitment, in the same way: its race and the commitment.
 #[tactic(auto, unfolding(crate::specs::Reading::line_of))]
 pub fn read_code_commit(bytes: &[u8]) -> Option<(u32, Digest)>
-    ensures { IfSome result (λ line. (version : ℕ) → line_of version bytes.now ≡ Some (CodeCommit line.0 line.1)) }
+    ensures found { IfSome result (λ line. (version : ℕ) → line_of version bytes.now ≡ Some (CodeCommit line.0 line.1)) }
+    ensures only { (version : ℕ) (race : ℕ) (digest : Digest) → line_of version bytes.now ≡ Some (CodeCommit race digest) → result ≡ Some (race, digest) }
 {
     if bytes.len() > LONGEST_LINE {
         return None;

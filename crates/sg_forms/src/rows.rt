@@ -10,18 +10,7 @@ use crate::line::{Line, RowCommitLine, RowOpening};
 use crate::words::Words;
 use sg_commit::{Digest, Opening};
 
-/// `code-commit R HEX`
-#[inline(always)]
-pub(crate) fn code_commit<'a>(mut words: Words<'a>) -> Option<Line<'a>>
-    ensures exact { option_map said result ≡ read_code_commit words.entry }
-    ensures zeros { IfSome result HasZeros }
-{
-    let race = words.number()?;
-    let digest = words.digest()?;
-    words.whole(Line::CodeCommit { race, digest })
-}
-
-/// The same, as values of its own: the race and the commitment.
+/// `code-commit R HEX`: the race and the commitment.
 #[inline(always)]
 pub(crate) fn commit(mut words: Words) -> Option<(u32, Digest)>
     ensures { option_map (λ line. CodeCommit line.0 line.1) result ≡ read_code_commit words.entry }
@@ -34,25 +23,19 @@ pub(crate) fn commit(mut words: Words) -> Option<(u32, Digest)>
     Some((race, digest))
 }
 
-/// `row-commit R I HEX HEX`
+/// The same, as a line.
 #[inline(always)]
-pub(crate) fn row_commit<'a>(mut words: Words<'a>) -> Option<Line<'a>>
-    ensures exact { option_map said result ≡ read_row_commit words.entry }
+pub(crate) fn code_commit<'a>(words: Words<'a>) -> Option<Line<'a>>
+    ensures exact { option_map said result ≡ read_code_commit words.entry }
     ensures zeros { IfSome result HasZeros }
 {
-    let race = words.number()?;
-    let instance = words.number()?;
-    let left = words.digest()?;
-    let right = words.digest()?;
-    words.whole(Line::RowCommit {
-        race,
-        instance,
-        left,
-        right,
-    })
+    match commit(words) {
+        Some((race, digest)) => Some(Line::CodeCommit { race, digest }),
+        None => None,
+    }
 }
 
-/// The same, as a value of its own.
+/// `row-commit R I HEX HEX`
 #[inline(always)]
 pub(crate) fn commits(mut words: Words) -> Option<RowCommitLine>
     ensures { option_map said_commits result ≡ read_row_commit words.entry }
@@ -70,6 +53,23 @@ pub(crate) fn commits(mut words: Words) -> Option<RowCommitLine>
         left,
         right,
     })
+}
+
+/// The same, as a line.
+#[inline(always)]
+pub(crate) fn row_commit<'a>(words: Words<'a>) -> Option<Line<'a>>
+    ensures exact { option_map said result ≡ read_row_commit words.entry }
+    ensures zeros { IfSome result HasZeros }
+{
+    match commits(words) {
+        Some(row) => Some(Line::RowCommit {
+            race: row.race,
+            instance: row.instance,
+            left: row.left,
+            right: row.right,
+        }),
+        None => None,
+    }
 }
 
 /// `left KEY Q`

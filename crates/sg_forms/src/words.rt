@@ -1,9 +1,10 @@
 //! The words of a line, read one after another.
-ghost use Rattle.std.specs.Prelude.{◌≡◌, ◌<◌, ◌∷◌, [], IfSome, MatchOption, None, Some, bytes_eq, codes, false, length, slice_index, take, true};
+ghost use Rattle.std.specs.Prelude.{◌≡◌, ◌<◌, ◌∷◌, [], IfSome, IsSome, IsSomeAnd, MatchOption, None, Some, bytes_eq, codes, false, length, slice_index, take, true};
 ghost use Rattle.std.specs.Option.{option_map, option_copied};
 ghost use Rattle.sg_lines.specs.Words.{HasNoSpace, decimal_of, key_of, digest_of, code_of};
 ghost use Rattle.sg_forms.specs.Reading.{words_in, words_left, name_of, bits_of, first_by, whole};
 ghost use Rattle.sg_forms.specs.Said.{Said, said};
+ghost use Rattle.sg_forms.specs.inside.Cutting.{first_in};
 ghost use Rattle.sg_forms.specs.Zeros.{HasZeros};
 
 use crate::kinds::{read_bits, read_name};
@@ -38,10 +39,11 @@ pub(crate) fn cut(text: &[u8]) -> (&[u8], Option<&[u8]>)
 
 /// The first so many bytes of a text, and what stands behind the space after them, where there is a space, or nothing
 /// behind them.
-#[tactic(auto, using(crate::proofs::Cutting::cut_at_width, crate::proofs::Cutting::cut_whole))]
+#[tactic(auto, using(crate::proofs::Cutting::cut_at_width, crate::proofs::Cutting::cut_whole, crate::proofs::Cutting::first_words))]
 #[inline(always)]
 fn cut_at(text: &[u8], width: usize) -> Option<(&[u8], Option<&[u8]>)>
-    ensures { IfSome result (λ cut. HasNoSpace cut.0.now → words_in text.now ≡ cut.0.now ∷ words_left (option_copied cut.1)) }
+    ensures found { IfSome result (λ cut. HasNoSpace cut.0.now → words_in text.now ≡ cut.0.now ∷ words_left (option_copied cut.1)) }
+    ensures only { length (first_in text.now) ≡ width → IsSomeAnd result (λ cut. cut.0.now ≡ first_in text.now) }
 {
     if text.len() == width {
         return Some((text, None));
@@ -100,14 +102,16 @@ pub(crate) fn is_word(word: &[u8], other: &[u8]) -> bool
 
 /// The end of the longest first words. Each byte is compared by itself: that takes less time than a loop over so few.
 fn ends_commit(word: &[u8]) -> bool
-    ensures { result ≡ true → word.now ≡ codes "ommit" }
+    ensures found { result ≡ true → word.now ≡ codes "ommit" }
+    ensures only { word.now ≡ codes "ommit" → result ≡ true }
 {
     matches!(word, b"ommit")
 }
 
 /// The word begins as `row-commit` does.
 fn begins_row_commit(word: &[u8]) -> bool
-    ensures { result ≡ true → word.now ≡ codes "row-c" }
+    ensures found { result ≡ true → word.now ≡ codes "row-c" }
+    ensures only { word.now ≡ codes "row-c" → result ≡ true }
 {
     matches!(word, b"row-c")
 }
@@ -116,7 +120,8 @@ fn begins_row_commit(word: &[u8]) -> bool
 #[tactic(auto, using(crate::proofs::Cutting::row_commit_joined))]
 #[inline(always)]
 fn is_row_commit(word: &[u8]) -> bool
-    ensures { result ≡ true → word.now ≡ codes "row-commit" }
+    ensures found { result ≡ true → word.now ≡ codes "row-commit" }
+    ensures only { word.now ≡ codes "row-commit" → result ≡ true }
 {
     if word.len() != 10 {
         return false;
@@ -130,7 +135,8 @@ fn is_row_commit(word: &[u8]) -> bool
 /// The words behind `row-commit`, where that is a text's first word.
 #[tactic(auto, using(crate::proofs::Cutting::long_words))]
 pub(crate) fn behind_row_commit(text: &[u8]) -> Option<Words<'_>>
-    ensures { IfSome result (λ words. words_in text.now ≡ codes "row-commit" ∷ words) }
+    ensures found { IfSome result (λ words. words_in text.now ≡ codes "row-commit" ∷ words) }
+    ensures only { first_in text.now ≡ codes "row-commit" → IsSome result }
 {
     let (first, rest) = cut_at(text, 10)?;
     if is_row_commit(first) {
@@ -142,7 +148,8 @@ pub(crate) fn behind_row_commit(text: &[u8]) -> Option<Words<'_>>
 
 /// The word begins as `code-commit` does.
 fn begins_code_commit(word: &[u8]) -> bool
-    ensures { result ≡ true → word.now ≡ codes "code-c" }
+    ensures found { result ≡ true → word.now ≡ codes "code-c" }
+    ensures only { word.now ≡ codes "code-c" → result ≡ true }
 {
     matches!(word, b"code-c")
 }
@@ -151,7 +158,8 @@ fn begins_code_commit(word: &[u8]) -> bool
 #[tactic(auto, using(crate::proofs::Cutting::code_commit_joined))]
 #[inline(always)]
 fn is_code_commit(word: &[u8]) -> bool
-    ensures { result ≡ true → word.now ≡ codes "code-commit" }
+    ensures found { result ≡ true → word.now ≡ codes "code-commit" }
+    ensures only { word.now ≡ codes "code-commit" → result ≡ true }
 {
     if word.len() != 11 {
         return false;
@@ -165,7 +173,8 @@ fn is_code_commit(word: &[u8]) -> bool
 /// The words behind `code-commit`, where that is a text's first word.
 #[tactic(auto, using(crate::proofs::Cutting::long_words))]
 pub(crate) fn behind_code_commit(text: &[u8]) -> Option<Words<'_>>
-    ensures { IfSome result (λ words. words_in text.now ≡ codes "code-commit" ∷ words) }
+    ensures found { IfSome result (λ words. words_in text.now ≡ codes "code-commit" ∷ words) }
+    ensures only { first_in text.now ≡ codes "code-commit" → IsSome result }
 {
     let (first, rest) = cut_at(text, 11)?;
     if is_code_commit(first) {
@@ -178,7 +187,8 @@ pub(crate) fn behind_code_commit(text: &[u8]) -> Option<Words<'_>>
 /// The words behind `left`, where that is a text's first word.
 #[tactic(auto, using(crate::proofs::Cutting::long_words))]
 pub(crate) fn behind_left(text: &[u8]) -> Option<Words<'_>>
-    ensures { IfSome result (λ words. words_in text.now ≡ codes "left" ∷ words) }
+    ensures found { IfSome result (λ words. words_in text.now ≡ codes "left" ∷ words) }
+    ensures only { first_in text.now ≡ codes "left" → IsSome result }
 {
     let (first, rest) = cut_at(text, 4)?;
     match first {
@@ -190,7 +200,8 @@ pub(crate) fn behind_left(text: &[u8]) -> Option<Words<'_>>
 /// The words behind `right`, where that is a text's first word.
 #[tactic(auto, using(crate::proofs::Cutting::long_words))]
 pub(crate) fn behind_right(text: &[u8]) -> Option<Words<'_>>
-    ensures { IfSome result (λ words. words_in text.now ≡ codes "right" ∷ words) }
+    ensures found { IfSome result (λ words. words_in text.now ≡ codes "right" ∷ words) }
+    ensures only { first_in text.now ≡ codes "right" → IsSome result }
 {
     let (first, rest) = cut_at(text, 5)?;
     match first {
@@ -202,7 +213,8 @@ pub(crate) fn behind_right(text: &[u8]) -> Option<Words<'_>>
 /// The words behind `both`, where that is a text's first word.
 #[tactic(auto, using(crate::proofs::Cutting::long_words))]
 pub(crate) fn behind_both(text: &[u8]) -> Option<Words<'_>>
-    ensures { IfSome result (λ words. words_in text.now ≡ codes "both" ∷ words) }
+    ensures found { IfSome result (λ words. words_in text.now ≡ codes "both" ∷ words) }
+    ensures only { first_in text.now ≡ codes "both" → IsSome result }
 {
     let (first, rest) = cut_at(text, 4)?;
     match first {

@@ -19,7 +19,7 @@ use Rattle.sg_grammar.proofs.FirstLines.{take_bytes-line, walk-first, walk-none}
 use Rattle.sg_grammar.proofs.Making.{candidates_within, complete-sizes, length-with_candidate, made-line, made-start}
 use Rattle.sg_grammar.proofs.Sections.{commits-length, race_codes-length, results-length}
 use Rattle.sg_grammar.specs.Due.{due_audit, commits, race_codes, results}
-use Rattle.sg_grammar.specs.Head.{Making, behind_candidate, candidate_line, election_line, head_line, instances_line, last_candidates, later_style_line, made, race_line, take_run, take_style, version_line, with_cand, with_instances, with_name, with_race, with_run, with_style, with_version}
+use Rattle.sg_grammar.specs.Head.{Making, behind_candidate, head_line, last_candidates, made, take_run, take_style, with_cand, with_instances, with_name, with_race, with_run, with_style, with_version}
 use Rattle.sg_grammar.specs.Left.{block_left, blocks_left, body_left, disputes_left, left_at, lines_left, most_lines, part_left, results_left}
 use Rattle.sg_grammar.specs.Made.{HasSizes, IsComplete, IsMade}
 use Rattle.sg_grammar.specs.Placed.{Placed}
@@ -161,17 +161,17 @@ body_line-falls plan [] may_begin said t sizes e =
 abbrev making_left : Making → ℕ
 making_left making = left_at making.plan making.head [] (part.Ballots 0)
 
-version_line-falls : (plan : Plan) (said : Said) (m : Making) → version_line plan said ≡ Some m → making_left m < left_at plan head.Version [] (part.Ballots 0)
+version_line-falls : (plan : Plan) (said : Said) (m : Making) → head_line plan head.Version said ≡ Some m → making_left m < left_at plan head.Version [] (part.Ballots 0)
 version_line-falls plan (Version version) m e =
     if_then-claim (λ x. making_left x < left_at plan head.Version [] (part.Ballots 0)) (is_version version) (made (with_version plan version) head.Election) m (λ ok. omega arith) e
 version_line-falls plan said m e = cc
 
-election_line-falls : (plan : Plan) (said : Said) (m : Making) → election_line plan said ≡ Some m → making_left m < left_at plan head.Election [] (part.Ballots 0)
+election_line-falls : (plan : Plan) (said : Said) (m : Making) → head_line plan head.Election said ≡ Some m → making_left m < left_at plan head.Election [] (part.Ballots 0)
 election_line-falls plan (Election name) m e =
     if_then-claim (λ x. making_left x < left_at plan head.Election [] (part.Ballots 0)) (is_name_word name) (made (with_name plan name) head.Instances) m (λ ok. omega arith) e
 election_line-falls plan said m e = cc
 
-instances_line-falls : (plan : Plan) (said : Said) (m : Making) → instances_line plan said ≡ Some m → making_left m < left_at plan head.Instances [] (part.Ballots 0)
+instances_line-falls : (plan : Plan) (said : Said) (m : Making) → head_line plan head.Instances said ≡ Some m → making_left m < left_at plan head.Instances [] (part.Ballots 0)
 instances_line-falls plan (Instances instances) m e =
     if_then-claim (λ x. making_left x < left_at plan head.Instances [] (part.Ballots 0)) (is_within 1 most_instances instances) (made (with_instances plan instances) head.Races) m (λ ok. omega arith) e
 instances_line-falls plan said m e = cc
@@ -190,7 +190,7 @@ few_candidates earlier name candidates votes ok =
     let parts = and_parts (is_name_word name && not (races_have earlier name)) (is_within 2 16 candidates && is_within 1 candidates votes) ok in
     (is_within-true 2 16 candidates (and_parts (is_within 2 16 candidates) (is_within 1 candidates votes) parts.1).0).1
 
-race_line-falls : (plan : Plan) (said : Said) (m : Making) → race_line plan said ≡ Some m → making_left m < left_at plan head.Races [] (part.Ballots 0)
+race_line-falls : (plan : Plan) (said : Said) (m : Making) → head_line plan head.Races said ≡ Some m → making_left m < left_at plan head.Races [] (part.Ballots 0)
 race_line-falls plan (Race name candidates votes) m e =
     if_then-claim (λ x. making_left x < left_at plan head.Races [] (part.Ballots 0))
     (nat_lt (length plan.races) most_races && race_head_keeps plan.races name candidates votes) (made (with_race plan name votes) (head.Candidates candidates)) m
@@ -205,7 +205,7 @@ race_line-falls plan (Style name races) m e =
     omega (arith, take_style-falls plan (Style name races) m (if_some (nat_lt 0 (length plan.races)) (take_style plan (Style name races)) m e))
 race_line-falls plan said m e = cc
 
-candidate_line-falls : (left : ℕ) (plan : Plan) (said : Said) (m : Making) → 1 ≤ left → candidate_line left plan said ≡ Some m
+candidate_line-falls : (left : ℕ) (plan : Plan) (said : Said) (m : Making) → 1 ≤ left → head_line plan (head.Candidates left) said ≡ Some m
     → making_left m < left_at plan (head.Candidates left) [] (part.Ballots 0)
 candidate_line-falls left plan (Cand name) m some e =
     if_then-claim (λ x. making_left x < left_at plan (head.Candidates left) [] (part.Ballots 0)) (candidate_keeps (last_candidates plan.races) name) (made (with_cand plan name) (behind_candidate left)) m
@@ -224,7 +224,7 @@ take_run-falls plan (Ballots style count) m e =
     omega (arith, run.some, run.most, count-push plan.runs (record { style = style; count = count }))) e
 take_run-falls plan said m e = cc
 
-later_style_line-falls : (plan : Plan) (said : Said) (m : Making) → later_style_line plan said ≡ Some m → making_left m < left_at plan head.Styles [] (part.Ballots 0)
+later_style_line-falls : (plan : Plan) (said : Said) (m : Making) → head_line plan head.Styles said ≡ Some m → making_left m < left_at plan head.Styles [] (part.Ballots 0)
 later_style_line-falls plan (Style name races) m e = take_style-falls plan (Style name races) m e
 later_style_line-falls plan said m e = omega (arith, take_run-falls plan said m e)
 

@@ -10,8 +10,8 @@ use Rattle.sg_grammar.specs.Head.{if_then}
 use Rattle.sg_grammar.specs.Placed.{Placed}
 use Rattle.sg_grammar.specs.Placed.Placed.{CodeCommitAt, RowCommitAt, SealAt, PaperAt, CodeAt, FlagsAt, PlacesAt, TotalAt}
 use Rattle.sg_grammar.specs.Slots.{IsIn, HasFittingLine}
-use Rattle.sg_grammar.specs.Spots.{IsPlacedIn}
-use Rattle.sg_grammar.specs.Walk.{in_code_commit, in_row_commit, in_seal, in_paper, in_code, in_flags, in_places, in_total, in_draw, in_row, place}
+use Rattle.sg_grammar.specs.Coordinates.{IsPlacedIn}
+use Rattle.sg_grammar.specs.Walk.{place}
 use Rattle.sg_grammar.specs.declared.state.Block.{Block}
 use Rattle.sg_grammar.specs.declared.state.Slot.{Slot}
 use Rattle.sg_grammar.specs.declared.state.Slot.TheVariants as slot
@@ -41,15 +41,15 @@ pub if_then_claim : {A : Type 0} (P : A → Type 0) (b : Bool) (x : A) → (b �
 if_then_claim P true x h = h refl
 if_then_claim P false x h = tt
 
-code_commit_in : (plan : Plan) (race entry : ℕ) (said : Said) → IsIn plan (slot.CodeCommit race entry) → IfSome (in_code_commit race entry said) (IsPlacedIn plan)
+code_commit_in : (plan : Plan) (race entry : ℕ) (said : Said) → IsIn plan (slot.CodeCommit race entry) → IfSome (place (slot.CodeCommit race entry) said) (IsPlacedIn plan)
 code_commit_in plan race entry (CodeCommit named digest) h = if_then_claim (IsPlacedIn plan) (named == race) (CodeCommitAt race entry digest) (λ _. h)
 code_commit_in plan race entry said h = tt
 
-row_commit_in : (plan : Plan) (race instance row : ℕ) (said : Said) → IsIn plan (slot.RowCommit race instance row) → IfSome (in_row_commit race instance row said) (IsPlacedIn plan)
+row_commit_in : (plan : Plan) (race instance row : ℕ) (said : Said) → IsIn plan (slot.RowCommit race instance row) → IfSome (place (slot.RowCommit race instance row) said) (IsPlacedIn plan)
 row_commit_in plan race instance row (RowCommit named of left right) h = if_then_claim (IsPlacedIn plan) (named == race && of == instance) (RowCommitAt race instance row left right) (λ _. h)
 row_commit_in plan race instance row said h = tt
 
-seal_in : (plan : Plan) (number : ℕ) (said : Said) → IfSome (in_seal number said) (IsPlacedIn plan)
+seal_in : (plan : Plan) (number : ℕ) (said : Said) → IfSome (place (slot.Seal number) said) (IsPlacedIn plan)
 seal_in plan number (Seal named digest) = if_then_claim (IsPlacedIn plan) (named == number) (SealAt number digest) (λ _. tt)
 seal_in plan number said = tt
 
@@ -61,35 +61,35 @@ both_true : (a b : Bool) → a && b ≡ true → b ≡ true
 both_true true b e = e
 both_true false b e = cc
 
-paper_in : (plan : Plan) (ballot race count : ℕ) (said : Said) → IsIn plan (slot.Paper ballot race count) → IfSome (in_paper ballot race count said) (IsPlacedIn plan)
+paper_in : (plan : Plan) (ballot race count : ℕ) (said : Said) → IsIn plan (slot.Paper ballot race count) → IfSome (place (slot.Paper ballot race count) said) (IsPlacedIn plan)
 paper_in plan ballot race count (Paper named list) h =
     if_then_claim (IsPlacedIn plan) (named == race && length list == count) (PaperAt ballot race list) (λ t. (h.0, h.1, h.2, h.3, eqb-true (length list) count (both_true (named == race) (length list == count) t) ∙ h.4))
 paper_in plan ballot race count said h = tt
 
-code_in : (plan : Plan) (kind : Block) (ballot race column : ℕ) (said : Said) → IsIn plan (slot.Code kind ballot race column) → IfSome (in_code kind ballot race column said) (IsPlacedIn plan)
+code_in : (plan : Plan) (kind : Block) (ballot race column : ℕ) (said : Said) → IsIn plan (slot.Code kind ballot race column) → IfSome (place (slot.Code kind ballot race column) said) (IsPlacedIn plan)
 code_in plan kind ballot race column (Code code) h = if_then_claim (IsPlacedIn plan) (code.race == race && code.column == column) (CodeAt kind ballot race column code) (λ _. h)
 code_in plan kind ballot race column said h = tt
 
-flags_in : (plan : Plan) (race instance line count : ℕ) (said : Said) → IsIn plan (slot.Flags race instance line count) → IfSome (in_flags race instance line count said) (IsPlacedIn plan)
+flags_in : (plan : Plan) (race instance line count : ℕ) (said : Said) → IsIn plan (slot.Flags race instance line count) → IfSome (place (slot.Flags race instance line count) said) (IsPlacedIn plan)
 flags_in plan race instance line count (Flags named of bits) h =
     if_then_claim (IsPlacedIn plan) ((named == race && of == instance) && length bits == count) (FlagsAt race instance (64 * line) bits) (λ t. (h.0, h.1, bits_within (entries_of plan race) line count (length bits) h.2 h.4 (eqb-true (length bits) count (both_true (named == race && of == instance) (length bits == count) t))))
 flags_in plan race instance line count said h = tt
 
-places_in : (plan : Plan) (race line count : ℕ) (said : Said) → IsIn plan (slot.Places race line count) → IfSome (in_places race line count said) (IsPlacedIn plan)
+places_in : (plan : Plan) (race line count : ℕ) (said : Said) → IsIn plan (slot.Places race line count) → IfSome (place (slot.Places race line count) said) (IsPlacedIn plan)
 places_in plan race line count (Places named bits) h =
     if_then_claim (IsPlacedIn plan) (named == race && length bits == count) (PlacesAt race (64 * line) bits) (λ t. (h.0, bits_within (entries_of plan race) line count (length bits) h.1 h.3 (eqb-true (length bits) count (both_true (named == race) (length bits == count) t))))
 places_in plan race line count said h = tt
 
-total_in : (plan : Plan) (race candidate : ℕ) (said : Said) → IsIn plan (slot.Total race candidate) → IfSome (in_total race candidate said) (IsPlacedIn plan)
+total_in : (plan : Plan) (race candidate : ℕ) (said : Said) → IsIn plan (slot.Total race candidate) → IfSome (place (slot.Total race candidate) said) (IsPlacedIn plan)
 total_in plan race candidate (Total named of count) h = if_then_claim (IsPlacedIn plan) (named == race && of == candidate) (TotalAt race candidate count) (λ _. h)
 total_in plan race candidate said h = tt
 
-draw_in : (plan : Plan) (said : Said) → IfSome (in_draw said) (IsPlacedIn plan)
+draw_in : (plan : Plan) (said : Said) → IfSome (place slot.Draw said) (IsPlacedIn plan)
 draw_in plan DrawFull = tt
 draw_in plan (DrawPublic digits) = tt
 draw_in plan said = tt
 
-row_in : (plan : Plan) (race instance row : ℕ) (said : Said) → IsIn plan (slot.Row race instance row) → IfSome (in_row race instance row said) (IsPlacedIn plan)
+row_in : (plan : Plan) (race instance row : ℕ) (said : Said) → IsIn plan (slot.Row race instance row) → IfSome (place (slot.Row race instance row) said) (IsPlacedIn plan)
 row_in plan race instance row (Row opening) h = h
 row_in plan race instance row said h = tt
 

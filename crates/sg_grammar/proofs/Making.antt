@@ -24,7 +24,7 @@ use Rattle.sg_plan.specs.declared.plan.Style.{Style as PlanStyle}
 use Rattle.sg_forms.specs.Said.{Said}
 use Rattle.sg_forms.specs.Said.Said.{Ballots, Cand, Election, Instances, Race, Style, Version}
 use Rattle.sg_grammar.proofs.Claims.{if_some, if_then-claim, is_none-None}
-use Rattle.sg_grammar.specs.Head.{Making, behind_candidate, candidate_line, election_line, has_runs, head_line, instances_line, last_candidates, later_style_line, made, no_plan, race_line, take_run, take_style, version_line, with_cand, with_candidate, with_instances, with_name, with_race, with_run, with_style, with_version}
+use Rattle.sg_grammar.specs.Head.{Making, behind_candidate, has_runs, head_line, last_candidates, made, no_plan, take_run, take_style, with_cand, with_candidate, with_instances, with_name, with_race, with_run, with_style, with_version}
 use Rattle.sg_grammar.specs.Made.{HasFront, HasNoRaces, HasNoStyles, HasRaces, HasRacesBut, HasSizes, HasStyles, IsComplete, IsMade, IsSmall, races_keep_but}
 use Rattle.sg_grammar.specs.declared.state.Head.{Head}
 use Rattle.sg_grammar.specs.declared.state.Head.TheVariants as head
@@ -97,20 +97,20 @@ Goes making = IsMade making.plan making.head
 pub made-start : IsMade no_plan head.Version
 made-start = record { stands = record { races = refl; behind = record { styles = refl; runs = refl } } }
 
-version_line-made : (plan : Plan) (said : Said) (m : Making) → HasNoRaces plan → version_line plan said ≡ Some m → Goes m
+version_line-made : (plan : Plan) (said : Said) (m : Making) → HasNoRaces plan → head_line plan head.Version said ≡ Some m → Goes m
 version_line-made plan (Version version) m none e =
     if_then-claim Goes (is_version version) (made (with_version plan version) head.Election) m
     (λ ok. record { stands = (ok, record { races = none.races; behind = record { styles = none.behind.styles; runs = none.behind.runs } }) }) e
 version_line-made plan said m none e = cc
 
-election_line-made : (plan : Plan) (said : Said) (m : Making) → is_version plan.version ≡ true → HasNoRaces plan → election_line plan said ≡ Some m → Goes m
+election_line-made : (plan : Plan) (said : Said) (m : Making) → is_version plan.version ≡ true → HasNoRaces plan → head_line plan head.Election said ≡ Some m → Goes m
 election_line-made plan (Election name) m version none e =
     if_then-claim Goes (is_name_word name) (made (with_name plan name) head.Instances) m
     (λ ok. record { stands = (version, ok, record { races = none.races; behind = record { styles = none.behind.styles; runs = none.behind.runs } }) }) e
 election_line-made plan said m version none e = cc
 
 instances_line-made : (plan : Plan) (said : Said) (m : Making) → is_version plan.version ≡ true → is_name_word plan.name ≡ true → HasNoRaces plan
-    → instances_line plan said ≡ Some m → Goes m
+    → head_line plan head.Instances said ≡ Some m → Goes m
 instances_line-made plan (Instances instances) m version name none e =
     if_then-claim Goes (is_within 1 most_instances instances) (made (with_instances plan instances) head.Races) m
     (λ ok. record {
@@ -146,7 +146,7 @@ take_style-made plan name races m front whole one kept none e =
     }) e
 
 -- a plan with a further race, whose candidates are due
-race_line-made : (plan : Plan) (said : Said) (m : Making) → HasFront plan → HasRaces plan → HasNoStyles plan → race_line plan said ≡ Some m → Goes m
+race_line-made : (plan : Plan) (said : Said) (m : Making) → HasFront plan → HasRaces plan → HasNoStyles plan → head_line plan head.Races said ≡ Some m → Goes m
 race_line-made plan (Race name candidates votes) m front whole none e =
     let race : PlanRace = record { name = name; candidates = []; votes = votes } in
     if_then-claim Goes (nat_lt (length plan.races) most_races && race_head_keeps plan.races name candidates votes) (made (with_race plan name votes) (head.Candidates candidates)) m
@@ -177,7 +177,7 @@ race_line-made plan (Style name races) m front whole none e =
 race_line-made plan said m front whole none e = cc
 
 -- a plan with a further candidate of its last race
-candidate_line-made : (left : ℕ) (plan : Plan) (said : Said) (m : Making) → HasFront plan → HasRacesBut left plan → HasNoStyles plan → candidate_line left plan said ≡ Some m → Goes m
+candidate_line-made : (left : ℕ) (plan : Plan) (said : Said) (m : Making) → HasFront plan → HasRacesBut left plan → HasNoStyles plan → head_line plan (head.Candidates left) said ≡ Some m → Goes m
 candidate_line-made left plan (Cand name) m front but none e =
     if_then-claim Goes (candidate_keeps (last_candidates plan.races) name) (made (with_cand plan name) (behind_candidate left)) m
     (λ ok.
@@ -224,7 +224,7 @@ take_run-made plan (Ballots style count) m front whole styles kept e =
     }) e
 take_run-made plan said m front whole styles kept e = cc
 
-later_style_line-made : (plan : Plan) (said : Said) (m : Making) → HasFront plan → HasRaces plan → HasStyles plan → plan.runs ≡ [] → later_style_line plan said ≡ Some m → Goes m
+later_style_line-made : (plan : Plan) (said : Said) (m : Making) → HasFront plan → HasRaces plan → HasStyles plan → plan.runs ≡ [] → head_line plan head.Styles said ≡ Some m → Goes m
 later_style_line-made plan (Style name races) m front whole styles none e = take_style-made plan name races m front whole styles.one_race styles.keep none e
 later_style_line-made plan said m front whole styles none e =
     take_run-made plan said m front whole styles (ap (λ l. each_keeps (run_keeps (length plan.styles)) [] l) none) e

@@ -15,7 +15,7 @@ use Rattle.sg_plan.specs.declared.plan.Run.{Run}
 use Rattle.sg_forms.specs.Said.{Said}
 use Rattle.sg_forms.specs.Said.Said.{Ballots, Cand, Election, Instances, Race, Style, Version}
 use Rattle.sg_grammar.proofs.Claims.{if_some, if_then-claim}
-use Rattle.sg_grammar.specs.Head.{Making, behind_candidate, candidate_line, election_line, has_runs, head_line, instances_line, last_candidates, later_style_line, made, race_line, take_run, take_style, version_line, with_cand, with_instances, with_name, with_race, with_run, with_style, with_version}
+use Rattle.sg_grammar.specs.Head.{Making, behind_candidate, has_runs, head_line, last_candidates, made, take_run, take_style, with_cand, with_instances, with_name, with_race, with_run, with_style, with_version}
 use Rattle.sg_grammar.specs.Made.{IsMade}
 use Rattle.sg_grammar.specs.Slots.{IsCounted, RunFits, TellsEntries, is_run}
 use Rattle.sg_grammar.specs.declared.state.Head.{Head}
@@ -103,33 +103,33 @@ run_fits plan stage said style count is kept some =
 abbrev IsEarly : Making → Type 0
 IsEarly making = has_runs making.head ≡ false
 
-early_version : (plan : Plan) (said : Said) (m : Making) → version_line plan said ≡ Some m → IsEarly m
+early_version : (plan : Plan) (said : Said) (m : Making) → head_line plan head.Version said ≡ Some m → IsEarly m
 early_version plan (Version version) m e = if_then-claim IsEarly (is_version version) (made (with_version plan version) head.Election) m (λ _. refl) e
 early_version plan said m e = cc
 
-early_election : (plan : Plan) (said : Said) (m : Making) → election_line plan said ≡ Some m → IsEarly m
+early_election : (plan : Plan) (said : Said) (m : Making) → head_line plan head.Election said ≡ Some m → IsEarly m
 early_election plan (Election name) m e = if_then-claim IsEarly (is_name_word name) (made (with_name plan name) head.Instances) m (λ _. refl) e
 early_election plan said m e = cc
 
-early_instances : (plan : Plan) (said : Said) (m : Making) → instances_line plan said ≡ Some m → IsEarly m
+early_instances : (plan : Plan) (said : Said) (m : Making) → head_line plan head.Instances said ≡ Some m → IsEarly m
 early_instances plan (Instances instances) m e = if_then-claim IsEarly (is_within 1 most_instances instances) (made (with_instances plan instances) head.Races) m (λ _. refl) e
 early_instances plan said m e = cc
 
 early_style : (plan : Plan) (name races : List ℕ) (m : Making) → take_style plan (Style name races) ≡ Some m → IsEarly m
 early_style plan name races m e = if_then-claim IsEarly (nat_lt (length plan.styles) most_styles && style_keeps (length plan.races) plan.styles (record { name = name; races = races })) (made (with_style plan name races) head.Styles) m (λ _. refl) e
 
-early_race : (plan : Plan) (said : Said) (m : Making) → race_line plan said ≡ Some m → IsEarly m
+early_race : (plan : Plan) (said : Said) (m : Making) → head_line plan head.Races said ≡ Some m → IsEarly m
 early_race plan (Race name candidates votes) m e = if_then-claim IsEarly (nat_lt (length plan.races) most_races && race_head_keeps plan.races name candidates votes) (made (with_race plan name votes) (head.Candidates candidates)) m (λ _. refl) e
 early_race plan (Style name races) m e = early_style plan name races m (if_some (nat_lt 0 (length plan.races)) (take_style plan (Style name races)) m e)
 early_race plan said m e = cc
 
-early_candidate : (left : ℕ) (plan : Plan) (said : Said) (m : Making) → candidate_line left plan said ≡ Some m → IsEarly m
+early_candidate : (left : ℕ) (plan : Plan) (said : Said) (m : Making) → head_line plan (head.Candidates left) said ≡ Some m → IsEarly m
 early_candidate left plan (Cand name) m e =
     if_then-claim IsEarly (candidate_keeps (last_candidates plan.races) name) (made (with_cand plan name) (behind_candidate left)) m
     (λ _. elim (left == 1) as (λ b. has_runs (cond b head.Races (head.Candidates (left - 1))) ≡ false) [ true ↦ refl | false ↦ refl ]) e
 early_candidate left plan said m e = cc
 
-early_later_style : (plan : Plan) (said : Said) (m : Making) → is_run said ≡ false → later_style_line plan said ≡ Some m → IsEarly m
+early_later_style : (plan : Plan) (said : Said) (m : Making) → is_run said ≡ false → head_line plan head.Styles said ≡ Some m → IsEarly m
 early_later_style plan (Style name races) m other e = early_style plan name races m e
 early_later_style plan (Ballots style count) m other e = cc
 early_later_style plan said m other e = cc

@@ -22,7 +22,7 @@ use Rattle.sg_grammar.specs.Lines.{IsAmong, placed_of}
 use Rattle.sg_grammar.specs.Parting.{IsLineIn}
 use Rattle.sg_grammar.specs.Placed.{Placed}
 use Rattle.sg_grammar.specs.Placed.Placed.{Begun, CodeAt, CodeCommitAt, Disputed, DrawnFull, DrawnPublic, FlagsAt, OverAt, PaperAt, PlacesAt, RowAt, RowCommitAt, SealAt, TotalAt}
-use Rattle.sg_grammar.specs.Spots.{IsRaceOf}
+use Rattle.sg_grammar.specs.Coordinates.{IsRaceOf}
 use Rattle.sg_grammar.specs.Walk.{Next, Taken, Walked, after_block, after_dispute, after_run, begins, behind, body_line, first_taken, headed, in_cast, in_head, follows_in_order, is_column, is_later, is_race_left, place, start, take_at, take_line, took, walk}
 use Rattle.sg_grammar.specs.declared.state.Block.{Block}
 use Rattle.sg_grammar.specs.declared.state.Block.TheVariants as block

@@ -6,7 +6,7 @@ use Rattle.sg_plan.specs.Ballots.{ballot_has, candidates_of, entries_of}
 use Rattle.sg_plan.specs.declared.plan.Plan.{Plan}
 use Rattle.sg_grammar.specs.Due.{numbered, code_line, race_codes, ballot_paper, ballot_codes, code_commit, race_code_commits, row_commit, instance_row_commits, race_row_commits, lines_for, bits_on, due_flags, instance_flags, due_places, due_totals, race_results, row_opening, instance_rows, race_rows}
 use Rattle.sg_grammar.specs.Slots.{code_commits_from, row_commits_from, codes_from, papers_from, results_from, totals_from, places_from, rows_from, rest_of, rest_of_codes, HasNoEntries}
-use Rattle.sg_grammar.specs.Spots.{IsRaceOf, LacksRaces}
+use Rattle.sg_grammar.specs.Coordinates.{IsRaceOf, LacksRaces}
 use Rattle.sg_grammar.specs.declared.state.Block.{Block}
 use Rattle.sg_grammar.specs.declared.state.Block.TheVariants as block
 use Rattle.sg_grammar.specs.declared.state.Slot.{Slot}

@@ -19,7 +19,6 @@ use Rattle.sg_grammar.specs.Head.{Making, has_runs, head_line, take_run}
 use Rattle.sg_grammar.specs.Made.{HasSizes, IsMade}
 use Rattle.sg_grammar.specs.Placed.{Placed}
 use Rattle.sg_grammar.specs.Placed.Placed.{Begun, CodeAt, Disputed, OfPlan, OverAt}
-use Rattle.sg_grammar.specs.Spots.{placed_next}
 use Rattle.sg_grammar.specs.Walk.{Next, Taken, Walked, after_block, after_dispute, after_run, begins, behind, body_line, first_taken, headed, in_cast, in_head, follows_in_order, is_column, is_later, is_race_left, place, read_next, take_at, take_bytes, take_line, taking, took, walk, walked_on}
 use Rattle.sg_grammar.specs.declared.state.Block.TheVariants as block
 use Rattle.sg_grammar.specs.declared.state.Head.{Head}
@@ -69,21 +68,17 @@ pub some_there : {A : Type 0} (o : Option A) → is_some o ≡ true → (x : A) 
 some_there None e = cc
 some_there (Some x) e = (x, refl)
 
--- a line of the plan stands among those of the plan
-pub placed_in_head : (next : Next) (said : Said) → is_some (head_line next.plan next.head said) ≡ true → placed_next next said ≡ Some (OfPlan said)
+-- a line of the plan may stand among those of the plan
+pub taken_in_head : (next : Next) (said : Said) → is_some (head_line next.plan next.head said) ≡ true → is_some (take_line next said) ≡ true
 unfolding take_line
-placed_in_head next said e =
+taken_in_head next said e =
     let there = some_there (head_line next.plan next.head said) e in
-    ap (option_map (λ (t : Taken). t.placed)) (take_at-head next.plan next.head next.due next.part said there.0 there.1)
+    ap is_some (take_at-head next.plan next.head next.due next.part said there.0 there.1)
 
--- another line stands where it is taken
-pub placed_behind : (next : Next) (said : Said) (t : Taken) → Some t ≡ take_at next.plan next.head next.due next.part said → placed_next next said ≡ Some t.placed
+-- another line may stand where it is taken
+pub taken_behind : (next : Next) (said : Said) (found : Option Taken) → found ≡ take_at next.plan next.head next.due next.part said → is_some (take_line next said) ≡ is_some found
 unfolding take_line
-placed_behind next said t e = ap (option_map (λ (x : Taken). x.placed)) (sym e)
-
-pub placed_nowhere : (next : Next) (said : Said) → None ≡ take_at next.plan next.head next.due next.part said → placed_next next said ≡ None
-unfolding take_line
-placed_nowhere next said e = ap (option_map (λ (x : Taken). x.placed)) (sym e)
+taken_behind next said found e = ap is_some (sym e)
 
 -- the step of a line of the plan
 pub stepped_in_head : (next : Next) (said : Said) (making : Making) → head_line next.plan next.head said ≡ Some making → option_map (λ (t : Taken). t.next) (take_line next said) ≡ Some (record { plan = making.plan; head = making.head; due = []; part = part.Ballots 0 })

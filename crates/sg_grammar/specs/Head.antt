@@ -65,57 +65,33 @@ with_run plan style count = record plan { runs = plan.runs ++ record { style = s
 
 -- WHERE EACH LINE MAY STAND
 
-abbrev pub version_line : Plan → Said → Option Making
-version_line plan (Version version) = if_then (is_version version) (made (with_version plan version) head.Election)
-version_line plan said = None
-
-abbrev pub election_line : Plan → Said → Option Making
-election_line plan (Election name) = if_then (is_name_word name) (made (with_name plan name) head.Instances)
-election_line plan said = None
-
-abbrev pub instances_line : Plan → Said → Option Making
-instances_line plan (Instances instances) = if_then (is_within 1 most_instances instances) (made (with_instances plan instances) head.Races)
-instances_line plan said = None
-
 -- a style, behind which a style or a run may come
 abbrev pub take_style : Plan → Said → Option Making
 take_style plan (Style name races) = if_then (nat_lt (length plan.styles) most_styles && style_keeps (length plan.races) plan.styles (record { name = name; races = races })) (made (with_style plan name races) head.Styles)
 take_style plan said = None
 
--- a race, behind which its candidates are due; or the first style, where there is a race
-abbrev pub race_line : Plan → Said → Option Making
-race_line plan (Race name candidates votes) = if_then (nat_lt (length plan.races) most_races && race_head_keeps plan.races name candidates votes) (made (with_race plan name votes) (head.Candidates candidates))
-race_line plan (Style name races) = (if nat_lt 0 (length plan.races) then take_style plan (Style name races) else None)
-race_line plan said = None
-
 -- behind a candidate, so many of which were due
 abbrev pub behind_candidate : ℕ → Head
 behind_candidate left = (if left == 1 then head.Races else head.Candidates (left - 1))
-
-abbrev pub candidate_line : ℕ → Plan → Said → Option Making
-candidate_line left plan (Cand name) = if_then (candidate_keeps (last_candidates plan.races) name) (made (with_cand plan name) (behind_candidate left))
-candidate_line left plan said = None
 
 -- a run, with which there are at most 200,000 rows of table R
 abbrev pub take_run : Plan → Said → Option Making
 take_run plan (Ballots style count) = if_then (run_keeps (length plan.styles) plan.runs (record { style = style; count = count }) && nat_le (r_rows (with_run plan style count)) most_rows) (made (with_run plan style count) head.Runs)
 take_run plan said = None
 
--- a further style, or the first run
-abbrev pub later_style_line : Plan → Said → Option Making
-later_style_line plan (Style name races) = take_style plan (Style name races)
-later_style_line plan said = take_run plan said
-
--- the plan with the line, where it may stand behind the plan's lines so far
+-- the plan with the line, where it may stand behind the plan's lines so far: behind a race its candidates are due, and the
+-- first style may come where there is a race; behind a style a further one may come, or the first run
 abbrev pub head_line : Plan → Head → Said → Option Making
-head_line plan head.Version said = version_line plan said
-head_line plan head.Election said = election_line plan said
-head_line plan head.Instances said = instances_line plan said
-head_line plan head.Races said = race_line plan said
-head_line plan (head.Candidates left) said = candidate_line left plan said
-head_line plan head.Styles said = later_style_line plan said
+head_line plan head.Version (Version version) = if_then (is_version version) (made (with_version plan version) head.Election)
+head_line plan head.Election (Election name) = if_then (is_name_word name) (made (with_name plan name) head.Instances)
+head_line plan head.Instances (Instances instances) = if_then (is_within 1 most_instances instances) (made (with_instances plan instances) head.Races)
+head_line plan head.Races (Race name candidates votes) = if_then (nat_lt (length plan.races) most_races && race_head_keeps plan.races name candidates votes) (made (with_race plan name votes) (head.Candidates candidates))
+head_line plan head.Races (Style name races) = (if nat_lt 0 (length plan.races) then take_style plan (Style name races) else None)
+head_line plan (head.Candidates left) (Cand name) = if_then (candidate_keeps (last_candidates plan.races) name) (made (with_cand plan name) (behind_candidate left))
+head_line plan head.Styles (Style name races) = take_style plan (Style name races)
+head_line plan head.Styles said = take_run plan said
 head_line plan head.Runs said = take_run plan said
-head_line plan head.Whole said = None
+head_line plan stage said = None
 
 -- HOW FAR THE LINES GO
 

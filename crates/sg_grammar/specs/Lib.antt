@@ -1,14 +1,13 @@
+pub mod Coordinates
 pub mod Due
 pub mod Head
 pub mod Laws
 pub mod Left
 pub mod Lines
 pub mod Made
-pub mod Meaning
 pub mod Parting
 pub mod Placed
 pub mod Slots
-pub mod Spots
 pub mod Standing
 pub mod Walk
 pub mod inside

@@ -11,7 +11,7 @@ use Rattle.sg_grammar.specs.Left.{is_total_line}
 use Rattle.sg_grammar.specs.Lines.{IsAmong, is_cast}
 use Rattle.sg_grammar.specs.Placed.{Placed}
 use Rattle.sg_grammar.specs.Placed.Placed.{CodeAt, DrawnFull, DrawnPublic, FlagsAt, PlacesAt, RowAt, TotalAt}
-use Rattle.sg_grammar.specs.Spots.{IsPlacedIn}
+use Rattle.sg_grammar.specs.Coordinates.{IsPlacedIn}
 
 -- LINES THAT NEVER STAND BEHIND OTHERS
 

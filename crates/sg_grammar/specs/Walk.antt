@@ -50,60 +50,20 @@ took placed next = record { placed = placed; next = next }
 
 -- A LINE THAT IS DUE
 
-abbrev pub in_code_commit : ℕ → ℕ → Said → Option Placed
-in_code_commit race entry (CodeCommit named digest) = if_then (named == race) (CodeCommitAt race entry digest)
-in_code_commit race entry said = None
-
-abbrev pub in_row_commit : ℕ → ℕ → ℕ → Said → Option Placed
-in_row_commit race instance at (RowCommit named of left right) = if_then (named == race && of == instance) (RowCommitAt race instance at left right)
-in_row_commit race instance at said = None
-
-abbrev pub in_seal : ℕ → Said → Option Placed
-in_seal number (Seal named digest) = if_then (named == number) (SealAt number digest)
-in_seal number said = None
-
-abbrev pub in_paper : ℕ → ℕ → ℕ → Said → Option Placed
-in_paper ballot race count (Paper named list) = if_then (named == race && length list == count) (PaperAt ballot race list)
-in_paper ballot race count said = None
-
-abbrev pub in_code : Block → ℕ → ℕ → ℕ → Said → Option Placed
-in_code kind ballot race column (Code code) = if_then (code.race == race && code.column == column) (CodeAt kind ballot race column code)
-in_code kind ballot race column said = None
-
--- 64 bits stand on each line, and the rest on the last
-abbrev pub in_flags : ℕ → ℕ → ℕ → ℕ → Said → Option Placed
-in_flags race instance number count (Flags named of bits) = if_then ((named == race && of == instance) && length bits == count) (FlagsAt race instance (most_bits * number) bits)
-in_flags race instance number count said = None
-
-abbrev pub in_places : ℕ → ℕ → ℕ → Said → Option Placed
-in_places race number count (Places named bits) = if_then (named == race && length bits == count) (PlacesAt race (most_bits * number) bits)
-in_places race number count said = None
-
-abbrev pub in_total : ℕ → ℕ → Said → Option Placed
-in_total race candidate (Total named of count) = if_then (named == race && of == candidate) (TotalAt race candidate count)
-in_total race candidate said = None
-
-abbrev pub in_draw : Said → Option Placed
-in_draw DrawFull = Some DrawnFull
-in_draw (DrawPublic digits) = Some (DrawnPublic digits)
-in_draw said = None
-
-abbrev pub in_row : ℕ → ℕ → ℕ → Said → Option Placed
-in_row race instance at (Row opening) = Some (RowAt race instance at opening)
-in_row race instance at said = None
-
--- the line in the place of the one that is due, where it may stand there
+-- the line in the place of the one that is due, where it may stand there; 64 bits stand on each line, and the rest on the last
 abbrev pub place : Slot → Said → Option Placed
-place (slot.CodeCommit race entry) said = in_code_commit race entry said
-place (slot.RowCommit race instance at) said = in_row_commit race instance at said
-place (slot.Seal number) said = in_seal number said
-place (slot.Paper ballot race count) said = in_paper ballot race count said
-place (slot.Code kind ballot race column) said = in_code kind ballot race column said
-place (slot.Flags race instance number count) said = in_flags race instance number count said
-place (slot.Places race number count) said = in_places race number count said
-place (slot.Total race candidate) said = in_total race candidate said
-place slot.Draw said = in_draw said
-place (slot.Row race instance at) said = in_row race instance at said
+place (slot.CodeCommit race entry) (CodeCommit named digest) = if_then (named == race) (CodeCommitAt race entry digest)
+place (slot.RowCommit race instance at) (RowCommit named of left right) = if_then (named == race && of == instance) (RowCommitAt race instance at left right)
+place (slot.Seal number) (Seal named digest) = if_then (named == number) (SealAt number digest)
+place (slot.Paper ballot race count) (Paper named list) = if_then (named == race && length list == count) (PaperAt ballot race list)
+place (slot.Code kind ballot race column) (Code code) = if_then (code.race == race && code.column == column) (CodeAt kind ballot race column code)
+place (slot.Flags race instance number count) (Flags named of bits) = if_then ((named == race && of == instance) && length bits == count) (FlagsAt race instance (most_bits * number) bits)
+place (slot.Places race number count) (Places named bits) = if_then (named == race && length bits == count) (PlacesAt race (most_bits * number) bits)
+place (slot.Total race candidate) (Total named of count) = if_then (named == race && of == candidate) (TotalAt race candidate count)
+place slot.Draw DrawFull = Some DrawnFull
+place slot.Draw (DrawPublic digits) = Some (DrawnPublic digits)
+place (slot.Row race instance at) (Row opening) = Some (RowAt race instance at opening)
+place due said = None
 
 -- behind a line in its place these lines are due
 abbrev pub taking : Plan → List Slot → Part → Option Placed → Option Taken

@@ -8,24 +8,25 @@ ghost use Rattle.sg_grammar.specs.Head.{head_line};
 ghost use Rattle.sg_grammar.specs.Made.{HasSizes, IsMade};
 ghost use Rattle.sg_grammar.specs.Slots.{due_of, rest_of, IsIn, IsInSome, IsPartIn};
 ghost use Rattle.sg_grammar.specs.Standing.{taken_at, IsStandingIn};
-ghost use Rattle.sg_grammar.specs.Spots.{IsRaceOf};
+ghost use Rattle.sg_grammar.specs.Coordinates.{IsRaceOf};
 ghost use Rattle.sg_grammar.specs.Walk.{after_block, after_dispute, after_run, begins, body_line, in_cast, follows_in_order, is_column, is_later, place, take_at, taking};
 
 use crate::counted::CountedPlan;
+use crate::placed::PlacedLine;
+use crate::placing::place_in;
 use crate::slots::{first_commit, first_of_audit, first_of_dispute, first_result, next_slot};
-use crate::spots::spot_in;
-use crate::state::{Block, Head, Part, Slot, Spot};
+use crate::state::{Block, Head, Part, Slot};
 use sg_forms::{CodeLine, Line};
 use sg_plan::ClaimWord;
 use sg_plan::limits::MOST_CLAIMS;
 
-/// Where a line behind the plan stands, and what may stand behind it.
+/// A line behind the plan in its place, and what may stand behind it.
 ///
 /// `Expect::stand` gives it of a line, and `Expect::go_on` takes it.
 #[derive(Clone, Copy, Debug)]
-pub struct Standing {
-    /// Where the line stands.
-    pub spot: Spot,
+pub struct Standing<'a> {
+    /// The line in its place.
+    pub line: PlacedLine<'a>,
     /// The line that is due behind it.
     pub slot: Option<Slot>,
     /// What may begin where none is.
@@ -35,16 +36,21 @@ pub struct Standing {
 /// The line in the place of the one that is due.
 #[tactic(auto, using(crate::proofs::DueLines::standing))]
 #[inline(always)]
-fn stand_due(plan: &CountedPlan, slot: &Slot, part: Part, line: &Line) -> Option<Standing>
+fn stand_due<'a>(
+    plan: &CountedPlan,
+    slot: &Slot,
+    part: Part,
+    line: &Line<'a>,
+) -> Option<Standing<'a>>
     requires sized { HasSizes plan.now }
     requires slot { IsIn plan.now slot.now }
     requires part { IsPartIn plan.now part }
-    ensures stands { option_map (taken_at plan.now (said line.now)) result ≡ taking plan.now (rest_of plan.now slot.now) part (place slot.now (said line.now)) }
-    ensures within { IfSome result (λ standing. IsStandingIn plan.now (said line.now) standing) }
+    ensures stands { option_map (taken_at plan.now) result ≡ taking plan.now (rest_of plan.now slot.now) part (place slot.now (said line.now)) }
+    ensures within { IfSome result (IsStandingIn plan.now) }
 {
-    match spot_in(slot, line) {
-        Some(spot) => Some(Standing {
-            spot,
+    match place_in(slot, line) {
+        Some(line) => Some(Standing {
+            line,
             slot: next_slot(plan, *slot),
             part,
         }),
@@ -89,15 +95,15 @@ fn has_column(plan: &CountedPlan, ballot: u32, race: u32, column: u32) -> bool
 // BLOCKS OF BALLOTS
 
 /// The block of a later ballot that was cast.
-fn stand_cast(plan: &CountedPlan, last: u32, ballot: u32) -> Option<Standing>
-    ensures stands { option_map (taken_at plan.now (Cast ballot)) result ≡ after_block plan.now last (Cast ballot) }
-    ensures within { IfSome result (λ standing. IsStandingIn plan.now (Cast ballot) standing) }
+fn stand_cast<'a>(plan: &CountedPlan, last: u32, ballot: u32) -> Option<Standing<'a>>
+    ensures stands { option_map (taken_at plan.now) result ≡ after_block plan.now last (Cast ballot) }
+    ensures within { IfSome result (IsStandingIn plan.now) }
 {
     if !is_later_ballot(plan, last, ballot) {
         return None;
     }
     Some(Standing {
-        spot: Spot::Begun { ballot },
+        line: PlacedLine::Begun { ballot },
         slot: None,
         part: Part::Cast {
             ballot,
@@ -108,40 +114,40 @@ fn stand_cast(plan: &CountedPlan, last: u32, ballot: u32) -> Option<Standing>
 }
 
 /// The block of a later ballot that was spoiled: it has no other line.
-fn stand_spoiled(plan: &CountedPlan, last: u32, ballot: u32) -> Option<Standing>
-    ensures stands { option_map (taken_at plan.now (Spoiled ballot)) result ≡ after_block plan.now last (Spoiled ballot) }
-    ensures within { IfSome result (λ standing. IsStandingIn plan.now (Spoiled ballot) standing) }
+fn stand_spoiled<'a>(plan: &CountedPlan, last: u32, ballot: u32) -> Option<Standing<'a>>
+    ensures stands { option_map (taken_at plan.now) result ≡ after_block plan.now last (Spoiled ballot) }
+    ensures within { IfSome result (IsStandingIn plan.now) }
 {
     if !is_later_ballot(plan, last, ballot) {
         return None;
     }
     Some(Standing {
-        spot: Spot::Begun { ballot },
+        line: PlacedLine::Begun { ballot },
         slot: None,
         part: Part::Ballots { last: ballot },
     })
 }
 
 /// The block of a later ballot that was audited: its papers are due, and then its codes.
-fn stand_audited(plan: &CountedPlan, last: u32, ballot: u32) -> Option<Standing>
+fn stand_audited<'a>(plan: &CountedPlan, last: u32, ballot: u32) -> Option<Standing<'a>>
     requires { HasSizes plan.now }
-    ensures stands { option_map (taken_at plan.now (Audited ballot)) result ≡ after_block plan.now last (Audited ballot) }
-    ensures within { IfSome result (λ standing. IsStandingIn plan.now (Audited ballot) standing) }
+    ensures stands { option_map (taken_at plan.now) result ≡ after_block plan.now last (Audited ballot) }
+    ensures within { IfSome result (IsStandingIn plan.now) }
 {
     if !is_later_ballot(plan, last, ballot) {
         return None;
     }
     Some(Standing {
-        spot: Spot::Begun { ballot },
+        line: PlacedLine::Begun { ballot },
         slot: first_of_audit(plan, ballot),
         part: Part::Ballots { last: ballot },
     })
 }
 
 /// The block of a later ballot that was voided, which stands in version 2 alone: it has no other line.
-fn stand_voided(plan: &CountedPlan, last: u32, ballot: u32) -> Option<Standing>
-    ensures stands { option_map (taken_at plan.now (Voided ballot)) result ≡ after_block plan.now last (Voided ballot) }
-    ensures within { IfSome result (λ standing. IsStandingIn plan.now (Voided ballot) standing) }
+fn stand_voided<'a>(plan: &CountedPlan, last: u32, ballot: u32) -> Option<Standing<'a>>
+    ensures stands { option_map (taken_at plan.now) result ≡ after_block plan.now last (Voided ballot) }
+    ensures within { IfSome result (IsStandingIn plan.now) }
 {
     if plan.plan().version != 2 {
         return None;
@@ -150,17 +156,17 @@ fn stand_voided(plan: &CountedPlan, last: u32, ballot: u32) -> Option<Standing>
         return None;
     }
     Some(Standing {
-        spot: Spot::Begun { ballot },
+        line: PlacedLine::Begun { ballot },
         slot: None,
         part: Part::Ballots { last: ballot },
     })
 }
 
 /// The block of a later ballot, or the first line of the results.
-fn stand_after_block(plan: &CountedPlan, last: u32, line: &Line) -> Option<Standing>
+fn stand_after_block<'a>(plan: &CountedPlan, last: u32, line: &Line<'a>) -> Option<Standing<'a>>
     requires { HasSizes plan.now }
-    ensures stands { option_map (taken_at plan.now (said line.now)) result ≡ after_block plan.now last (said line.now) }
-    ensures within { IfSome result (λ standing. IsStandingIn plan.now (said line.now) standing) }
+    ensures stands { option_map (taken_at plan.now) result ≡ after_block plan.now last (said line.now) }
+    ensures within { IfSome result (IsStandingIn plan.now) }
 {
     match line {
         Line::Cast(ballot) => stand_cast(plan, last, *ballot),
@@ -181,18 +187,18 @@ fn is_in_order(race: u32, column: u32, next_race: u32, next_column: u32) -> bool
 }
 
 /// A code of a later column in the block of a cast ballot.
-fn stand_code(
+fn stand_code<'a>(
     plan: &CountedPlan,
     ballot: u32,
     race: u32,
     column: u32,
-    code: &CodeLine,
-) -> Option<Standing>
+    code: CodeLine,
+) -> Option<Standing<'a>>
     requires sized { HasSizes plan.now }
     requires first { 1 ≤ ballot }
     requires last { ballot ≤ ballots_of plan.now }
-    ensures stands { option_map (taken_at plan.now (Code code.now)) result ≡ in_cast plan.now ballot race column (Code code.now) }
-    ensures within { IfSome result (λ standing. IsStandingIn plan.now (Code code.now) standing) }
+    ensures stands { option_map (taken_at plan.now) result ≡ in_cast plan.now ballot race column (Code code) }
+    ensures within { IfSome result (IsStandingIn plan.now) }
 {
     if !has_column(plan, ballot, code.race, code.column) {
         return None;
@@ -201,11 +207,12 @@ fn stand_code(
         return None;
     }
     Some(Standing {
-        spot: Spot::Code {
+        line: PlacedLine::Code {
             block: Block::Cast,
             ballot,
             race: code.race,
             column: code.column,
+            code,
         },
         slot: None,
         part: Part::Cast {
@@ -217,18 +224,18 @@ fn stand_code(
 }
 
 /// In the block of a cast ballot, that a race is over: no line of that race comes behind it.
-fn stand_over(
+fn stand_over<'a>(
     plan: &CountedPlan,
     ballot: u32,
     race: u32,
     column: u32,
     next_race: u32,
-) -> Option<Standing>
+) -> Option<Standing<'a>>
     requires sized { HasSizes plan.now }
     requires first { 1 ≤ ballot }
     requires last { ballot ≤ ballots_of plan.now }
-    ensures stands { option_map (taken_at plan.now (Over next_race)) result ≡ in_cast plan.now ballot race column (Over next_race) }
-    ensures within { IfSome result (λ standing. IsStandingIn plan.now (Over next_race) standing) }
+    ensures stands { option_map (taken_at plan.now) result ≡ in_cast plan.now ballot race column (Over next_race) }
+    ensures within { IfSome result (IsStandingIn plan.now) }
 {
     if !has_race(plan, ballot, next_race) {
         return None;
@@ -237,7 +244,7 @@ fn stand_over(
         return None;
     }
     Some(Standing {
-        spot: Spot::Over {
+        line: PlacedLine::Over {
             ballot,
             race: next_race,
         },
@@ -251,21 +258,21 @@ fn stand_over(
 }
 
 /// In the block of a cast ballot: a code of a later column, that a race is over, or what may follow the block.
-fn stand_in_cast(
+fn stand_in_cast<'a>(
     plan: &CountedPlan,
     ballot: u32,
     race: u32,
     column: u32,
-    line: &Line,
-) -> Option<Standing>
+    line: &Line<'a>,
+) -> Option<Standing<'a>>
     requires sized { HasSizes plan.now }
     requires first { 1 ≤ ballot }
     requires last { ballot ≤ ballots_of plan.now }
-    ensures stands { option_map (taken_at plan.now (said line.now)) result ≡ in_cast plan.now ballot race column (said line.now) }
-    ensures within { IfSome result (λ standing. IsStandingIn plan.now (said line.now) standing) }
+    ensures stands { option_map (taken_at plan.now) result ≡ in_cast plan.now ballot race column (said line.now) }
+    ensures within { IfSome result (IsStandingIn plan.now) }
 {
     match line {
-        Line::Code(code) => stand_code(plan, ballot, race, column, code),
+        Line::Code(code) => stand_code(plan, ballot, race, column, *code),
         Line::Over(next_race) => stand_over(plan, ballot, race, column, *next_race),
         _ => stand_after_block(plan, ballot, line),
     }
@@ -274,17 +281,17 @@ fn stand_in_cast(
 // DISPUTES
 
 /// A dispute of a ballot in one of its races, behind so many: its codes in that race are due.
-fn stand_dispute(
+fn stand_dispute<'a>(
     plan: &CountedPlan,
     count: u32,
     ballot: u32,
     race: u32,
     code: u16,
     word: ClaimWord,
-) -> Option<Standing>
+) -> Option<Standing<'a>>
     requires { HasSizes plan.now }
-    ensures stands { option_map (taken_at plan.now (Dispute ballot race code word)) result ≡ after_dispute plan.now count (Dispute ballot race code word) }
-    ensures within { IfSome result (λ standing. IsStandingIn plan.now (Dispute ballot race code word) standing) }
+    ensures stands { option_map (taken_at plan.now) result ≡ after_dispute plan.now count (Dispute ballot race code word) }
+    ensures within { IfSome result (IsStandingIn plan.now) }
 {
     if count as usize >= MOST_CLAIMS {
         return None;
@@ -293,17 +300,22 @@ fn stand_dispute(
         return None;
     }
     Some(Standing {
-        spot: Spot::Dispute { ballot, race },
+        line: PlacedLine::Dispute {
+            ballot,
+            race,
+            code,
+            word,
+        },
         slot: Some(first_of_dispute(plan, ballot, race)),
         part: Part::Disputes { count: count + 1 },
     })
 }
 
 /// Behind so many disputes, a further one.
-fn stand_after_dispute(plan: &CountedPlan, count: u32, line: &Line) -> Option<Standing>
+fn stand_after_dispute<'a>(plan: &CountedPlan, count: u32, line: &Line<'a>) -> Option<Standing<'a>>
     requires { HasSizes plan.now }
-    ensures stands { option_map (taken_at plan.now (said line.now)) result ≡ after_dispute plan.now count (said line.now) }
-    ensures within { IfSome result (λ standing. IsStandingIn plan.now (said line.now) standing) }
+    ensures stands { option_map (taken_at plan.now) result ≡ after_dispute plan.now count (said line.now) }
+    ensures within { IfSome result (IsStandingIn plan.now) }
 {
     match line {
         Line::Dispute {
@@ -320,11 +332,11 @@ fn stand_after_dispute(plan: &CountedPlan, count: u32, line: &Line) -> Option<St
 
 /// A line that may begin where none is due.
 #[inline(always)]
-fn stand_beginning(plan: &CountedPlan, part: Part, line: &Line) -> Option<Standing>
+fn stand_beginning<'a>(plan: &CountedPlan, part: Part, line: &Line<'a>) -> Option<Standing<'a>>
     requires sized { HasSizes plan.now }
     requires part { IsPartIn plan.now part }
-    ensures stands { option_map (taken_at plan.now (said line.now)) result ≡ begins plan.now part (said line.now) }
-    ensures within { IfSome result (λ standing. IsStandingIn plan.now (said line.now) standing) }
+    ensures stands { option_map (taken_at plan.now) result ≡ begins plan.now part (said line.now) }
+    ensures within { IfSome result (IsStandingIn plan.now) }
 {
     match part {
         Part::Ballots { last } => stand_after_block(plan, last, line),
@@ -339,17 +351,17 @@ fn stand_beginning(plan: &CountedPlan, part: Part, line: &Line) -> Option<Standi
 
 /// A line behind the plan, where it may stand.
 #[inline(always)]
-pub(crate) fn stand(
+pub(crate) fn stand<'a>(
     plan: &CountedPlan,
     slot: &Option<Slot>,
     part: Part,
-    line: &Line,
-) -> Option<Standing>
+    line: &Line<'a>,
+) -> Option<Standing<'a>>
     requires sized { HasSizes plan.now }
     requires slot { IsInSome plan.now slot.now }
     requires part { IsPartIn plan.now part }
-    ensures stands { option_map (taken_at plan.now (said line.now)) result ≡ body_line plan.now (due_of plan.now slot.now) part (said line.now) }
-    ensures within { IfSome result (λ standing. IsStandingIn plan.now (said line.now) standing) }
+    ensures stands { option_map (taken_at plan.now) result ≡ body_line plan.now (due_of plan.now slot.now) part (said line.now) }
+    ensures within { IfSome result (IsStandingIn plan.now) }
 {
     match slot {
         Some(slot) => stand_due(plan, slot, part, line),
@@ -359,10 +371,10 @@ pub(crate) fn stand(
 
 /// The first line behind the plan, which is no further run of ballots.
 #[tactic(auto, using(crate::proofs::Walking::behind_runs))]
-fn stand_first(plan: &CountedPlan, line: &Line) -> Option<Standing>
+fn stand_first<'a>(plan: &CountedPlan, line: &Line<'a>) -> Option<Standing<'a>>
     requires { HasSizes plan.now }
-    ensures stands { head_line plan.now Head.Runs (said line.now) ≡ None → option_map (taken_at plan.now (said line.now)) result ≡ after_run plan.now (said line.now) }
-    ensures within { IfSome result (λ standing. IsStandingIn plan.now (said line.now) standing) }
+    ensures stands { head_line plan.now Head.Runs (said line.now) ≡ None → option_map (taken_at plan.now) result ≡ after_run plan.now (said line.now) }
+    ensures within { IfSome result (IsStandingIn plan.now) }
 {
     match line {
         Line::Ballots { .. } => None,
@@ -373,18 +385,18 @@ fn stand_first(plan: &CountedPlan, line: &Line) -> Option<Standing>
 /// A line that is none of the plan, where it may stand.
 #[tactic(auto, using(crate::proofs::Walking::sizes))]
 #[inline(always)]
-pub(crate) fn stand_behind(
+pub(crate) fn stand_behind<'a>(
     plan: &CountedPlan,
     head: Head,
     slot: &Option<Slot>,
     part: Part,
-    line: &Line,
-) -> Option<Standing>
+    line: &Line<'a>,
+) -> Option<Standing<'a>>
     requires made { IsMade plan.now head }
     requires slot { IsInSome plan.now slot.now }
     requires part { IsPartIn plan.now part }
-    ensures stands { head_line plan.now head (said line.now) ≡ None → option_map (taken_at plan.now (said line.now)) result ≡ take_at plan.now head (due_of plan.now slot.now) part (said line.now) }
-    ensures within { IfSome result (λ standing. IsStandingIn plan.now (said line.now) standing) }
+    ensures stands { head_line plan.now head (said line.now) ≡ None → option_map (taken_at plan.now) result ≡ take_at plan.now head (due_of plan.now slot.now) part (said line.now) }
+    ensures within { IfSome result (IsStandingIn plan.now) }
 {
     match head {
         Head::Whole => stand(plan, slot, part, line),

@@ -6,7 +6,6 @@ ghost use Rattle.sg_plan.specs.Limits.{fault_of};
 ghost use Rattle.sg_forms.specs.Said.{said};
 ghost use Rattle.sg_grammar.specs.Head.{has_runs, head_line};
 ghost use Rattle.sg_grammar.specs.Made.{HasSizes, IsMade};
-ghost use Rattle.sg_grammar.specs.Spots.{IsPlacedIn, placed_at, placed_next};
 ghost use Rattle.sg_grammar.specs.Slots.{due_of, IsInSome, IsPartIn};
 ghost use Rattle.sg_grammar.specs.Standing.{taken_at, IsStandingIn};
 ghost use Rattle.sg_grammar.specs.Walk.{behind, is_whole, start, take_line};
@@ -15,7 +14,7 @@ ghost use Rattle.sg_grammar.specs.declared.state.Head.TheVariants as HeadIs;
 use crate::body::{Standing, stand_behind};
 use crate::counted::CountedPlan;
 use crate::head::may_stand_in_head;
-use crate::state::{Head, Part, Slot, Spot};
+use crate::state::{Head, Part, Slot};
 use sg_forms::Line;
 use sg_plan::{NoMemory, Plan};
 use std::alloc::Global;
@@ -23,9 +22,9 @@ use std::marker::Model;
 
 /// What may stand next in a record.
 ///
-/// A caller asks by `spot` or `may` whether a line may stand, and then takes it by `plan_step`
-/// where `is_of_plan` says so, and else by `step`. Behind the plan `stand` and `go_on` do the same,
-/// and look at the line once. Only `plan_step` takes memory.
+/// A caller asks by `may` whether a line may stand, and then takes it by `plan_step` where `is_of_plan`
+/// says so, and else by `step`. Behind the plan `stand` gives the line in its place, and `go_on` takes it,
+/// so that it is looked at once. Only `plan_step` takes memory.
 #[derive(Debug, Drop)]
 pub struct Expect {
     alloc: Global,
@@ -68,25 +67,14 @@ impl Expect {
         may_stand_in_head(&self.plan, self.head, line)
     }
 
-    /// Where the line stands: `None` exactly where it may not stand next.
-    pub fn spot(&self, line: &Line) -> Option<Spot>
-        ensures placed { option_map (λ at. placed_at at (said line.now)) result ≡ placed_next self.now (said line.now) }
-        ensures within { IfSome result (λ at. IsPlacedIn self.now.plan (placed_at at (said line.now))) }
-    {
-        if may_stand_in_head(&self.plan, self.head, line) {
-            return Some(Spot::Plan);
-        }
-        match stand_behind(&self.plan, self.head, &self.slot, self.part, line) {
-            Some(standing) => Some(standing.spot),
-            None => None,
-        }
-    }
-
     /// The line may stand next.
     pub fn may(&self, line: &Line) -> bool
         ensures { result ≡ is_some (take_line self.now (said line.now)) }
     {
-        match self.spot(line) {
+        if may_stand_in_head(&self.plan, self.head, line) {
+            return true;
+        }
+        match stand_behind(&self.plan, self.head, &self.slot, self.part, line) {
             Some(_) => true,
             None => false,
         }
@@ -117,13 +105,13 @@ impl Expect {
         }
     }
 
-    /// Where a line that is none of the plan stands, and what may stand behind it: `None` exactly where it may not stand
+    /// A line that is none of the plan in its place, and what may stand behind it: `None` exactly where it may not stand
     /// next.
     #[inline(always)]
-    pub fn stand(&self, line: &Line) -> Option<Standing>
+    pub fn stand<'a>(&self, line: &Line<'a>) -> Option<Standing<'a>>
         requires behind { head_line self.now.plan self.now.head (said line.now) ≡ None }
-        ensures taken { option_map (taken_at self.now.plan (said line.now)) result ≡ take_line self.now (said line.now) }
-        ensures within { IfSome result (λ standing. IsStandingIn self.now.plan (said line.now) standing) }
+        ensures taken { option_map (taken_at self.now.plan) result ≡ take_line self.now (said line.now) }
+        ensures within { IfSome result (IsStandingIn self.now.plan) }
         ensures made { IsSome result → IsMade self.now.plan HeadIs.Whole }
     {
         stand_behind(&self.plan, self.head, &self.slot, self.part, line)
@@ -134,7 +122,7 @@ impl Expect {
         requires made { IsMade self.old.plan HeadIs.Whole }
         requires slot { IsInSome self.old.plan standing.slot }
         requires part { IsPartIn self.old.plan standing.part }
-        ensures { self.new ≡ behind self.old.plan (due_of self.old.plan standing.slot) standing.part }
+        ensures { self.new ≡ behind self.old.plan (due_of self.old.plan standing.entry.slot) standing.entry.part }
     {
         self.head = Head::Whole;
         self.slot = standing.slot;

@@ -5,7 +5,7 @@ ghost use Rattle.sg_plan.specs.Limits.{is_version, most_ballots, most_races, mos
 ghost use Rattle.sg_plan.specs.Names.{is_within};
 ghost use Rattle.sg_plan.specs.declared.plan.Plan.{Plan as PlanSeen};
 ghost use Rattle.sg_forms.specs.Said.{said};
-ghost use Rattle.sg_grammar.specs.Head.{behind_candidate, candidate_line, election_line, head_line, instances_line, last_candidates, later_style_line, made, race_line, take_run, version_line, with_candidate, with_run, with_style};
+ghost use Rattle.sg_grammar.specs.Head.{behind_candidate, head_line, last_candidates, made, take_run, with_candidate, with_run, with_style};
 ghost use Rattle.sg_grammar.specs.Made.{IsMade, IsSmall};
 ghost use Rattle.sg_grammar.specs.Slots.{is_run};
 
@@ -42,7 +42,7 @@ pub(crate) fn may_stand_in_head(plan: &CountedPlan, head: Head, line: &Line) -> 
 /// The line is a version of the record.
 #[tactic(auto, using(crate::proofs::Claims::tests))]
 fn may_be_version(line: &Line) -> bool
-    ensures { (plan : PlanSeen) → result ≡ is_some (version_line plan (said line.now)) }
+    ensures { (plan : PlanSeen) → result ≡ is_some (head_line plan Head.Version (said line.now)) }
 {
     match line {
         Line::Version(version) => is_version(*version),
@@ -60,7 +60,7 @@ fn is_version(version: u32) -> bool
 /// The line is the election's name.
 #[tactic(auto, using(crate::proofs::Claims::tests))]
 fn may_be_election(line: &Line) -> bool
-    ensures { (plan : PlanSeen) → result ≡ is_some (election_line plan (said line.now)) }
+    ensures { (plan : PlanSeen) → result ≡ is_some (head_line plan Head.Election (said line.now)) }
 {
     match line {
         Line::Election(name) => is_name(name),
@@ -71,7 +71,7 @@ fn may_be_election(line: &Line) -> bool
 /// The line is a number of instances.
 #[tactic(auto, using(crate::proofs::Claims::tests))]
 fn may_be_instances(line: &Line) -> bool
-    ensures { (plan : PlanSeen) → result ≡ is_some (instances_line plan (said line.now)) }
+    ensures { (plan : PlanSeen) → result ≡ is_some (head_line plan Head.Instances (said line.now)) }
 {
     match line {
         Line::Instances(instances) => is_between(*instances, 1, MOST_INSTANCES),
@@ -89,7 +89,7 @@ fn is_between(number: u32, least: u32, most: u32) -> bool
 /// The line is a race, or the first style where there is a race.
 #[tactic(auto, using(crate::proofs::Claims::tests))]
 fn may_follow_race(plan: &Plan, line: &Line) -> bool
-    ensures { result ≡ is_some (race_line plan.now (said line.now)) }
+    ensures { result ≡ is_some (head_line plan.now Head.Races (said line.now)) }
 {
     match line {
         Line::Race {
@@ -118,7 +118,7 @@ fn is_new_race(plan: &Plan, name: &[u8], candidates: u32, votes: u32) -> bool
 #[tactic(auto, using(crate::proofs::Claims::tests))]
 fn may_be_candidate(plan: &Plan, left: u32, line: &Line) -> bool
     requires { 0 < length plan.now.races }
-    ensures { result ≡ is_some (candidate_line left plan.now (said line.now)) }
+    ensures { result ≡ is_some (head_line plan.now (Head.Candidates left) (said line.now)) }
 {
     match line {
         Line::Cand(name) => is_new_name(last_names(&plan.races), name),
@@ -160,7 +160,7 @@ fn is_new_style(plan: &Plan, name: &[u8], races: &[u32]) -> bool
 #[tactic(auto, using(crate::proofs::Claims::tests))]
 fn may_follow_style(plan: &CountedPlan, line: &Line) -> bool
     requires { IsSmall plan.now }
-    ensures { result ≡ is_some (later_style_line plan.now (said line.now)) }
+    ensures { result ≡ is_some (head_line plan.now Head.Styles (said line.now)) }
 {
     match line {
         Line::Style { name, races, count } => is_new_style(
@@ -252,8 +252,8 @@ pub(crate) fn add_to_plan(
 
 /// Adds the version.
 fn add_version(plan: &mut Plan, line: &Line) -> Head
-    requires { IsSome (version_line plan.old (said line.now)) }
-    ensures { version_line plan.old (said line.now) ≡ Some (made plan.new result) }
+    requires { IsSome (head_line plan.old Head.Version (said line.now)) }
+    ensures { head_line plan.old Head.Version (said line.now) ≡ Some (made plan.new result) }
 {
     match line {
         Line::Version(version) => {
@@ -266,8 +266,8 @@ fn add_version(plan: &mut Plan, line: &Line) -> Head
 
 /// Adds the election's name.
 fn add_election(alloc: Global, plan: &mut Plan, line: &Line) -> Result<Head, NoMemory>
-    requires { IsSome (election_line plan.old (said line.now)) }
-    ensures ok { IfOk result (λ next. election_line plan.old (said line.now) ≡ Some (made plan.new next)) }
+    requires { IsSome (head_line plan.old Head.Election (said line.now)) }
+    ensures ok { IfOk result (λ next. head_line plan.old Head.Election (said line.now) ≡ Some (made plan.new next)) }
     ensures err { OnErr result (plan.new ≡ plan.old) }
 {
     match line {
@@ -290,8 +290,8 @@ fn copy_word(alloc: Global, bytes: &[u8]) -> Result<Word, NoMemory>
 
 /// Adds the number of instances.
 fn add_instances(plan: &mut Plan, line: &Line) -> Head
-    requires { IsSome (instances_line plan.old (said line.now)) }
-    ensures { instances_line plan.old (said line.now) ≡ Some (made plan.new result) }
+    requires { IsSome (head_line plan.old Head.Instances (said line.now)) }
+    ensures { head_line plan.old Head.Instances (said line.now) ≡ Some (made plan.new result) }
 {
     match line {
         Line::Instances(instances) => {
@@ -304,8 +304,8 @@ fn add_instances(plan: &mut Plan, line: &Line) -> Head
 
 /// Adds a race, or the first style.
 fn add_behind_race(alloc: Global, plan: &mut Plan, line: &Line) -> Result<Head, NoMemory>
-    requires { IsSome (race_line plan.old (said line.now)) }
-    ensures ok { IfOk result (λ next. race_line plan.old (said line.now) ≡ Some (made plan.new next)) }
+    requires { IsSome (head_line plan.old Head.Races (said line.now)) }
+    ensures ok { IfOk result (λ next. head_line plan.old Head.Races (said line.now) ≡ Some (made plan.new next)) }
     ensures err { OnErr result (plan.new ≡ plan.old) }
 {
     match line {
@@ -345,8 +345,8 @@ fn push_style(alloc: Global, plan: &mut Plan, name: &[u8], races: &[u32]) -> Res
 fn add_candidate(alloc: Global, plan: &mut Plan, left: u32, line: &Line) -> Result<Head, NoMemory>
     requires some { 1 ≤ left }
     requires race { 0 < length plan.old.races }
-    requires may { IsSome (candidate_line left plan.old (said line.now)) }
-    ensures ok { IfOk result (λ next. candidate_line left plan.old (said line.now) ≡ Some (made plan.new next)) }
+    requires may { IsSome (head_line plan.old (Head.Candidates left) (said line.now)) }
+    ensures ok { IfOk result (λ next. head_line plan.old (Head.Candidates left) (said line.now) ≡ Some (made plan.new next)) }
     ensures err { OnErr result (plan.new ≡ plan.old) }
 {
     match line {
@@ -392,9 +392,9 @@ fn head_behind_candidate(left: u32) -> Head
 
 /// Adds a further style.
 fn add_behind_style(alloc: Global, plan: &mut Plan, line: &Line) -> Result<Head, NoMemory>
-    requires may { IsSome (later_style_line plan.old (said line.now)) }
+    requires may { IsSome (head_line plan.old Head.Styles (said line.now)) }
     requires other { is_run (said line.now) ≡ false }
-    ensures ok { IfOk result (λ next. later_style_line plan.old (said line.now) ≡ Some (made plan.new next)) }
+    ensures ok { IfOk result (λ next. head_line plan.old Head.Styles (said line.now) ≡ Some (made plan.new next)) }
     ensures err { OnErr result (plan.new ≡ plan.old) }
 {
     match line {

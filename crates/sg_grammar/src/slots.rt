@@ -5,7 +5,7 @@ ghost use Rattle.sg_plan.specs.declared.plan.Plan.{Plan};
 ghost use Rattle.sg_grammar.specs.Due.{due_audit, commits, race_codes, results, lines_for, bits_on};
 ghost use Rattle.sg_grammar.specs.Made.{HasSizes};
 ghost use Rattle.sg_grammar.specs.Slots.{code_commits_from, row_commits_from, codes_from, papers_from, results_from, totals_from, places_from, rows_from, rest_of, rest_of_codes, rest_of_seal, due_of, IsIn, IsInSome, HasNoEntries};
-ghost use Rattle.sg_grammar.specs.Spots.{IsRaceOf, LacksRaces};
+ghost use Rattle.sg_grammar.specs.Coordinates.{IsRaceOf, LacksRaces};
 
 use crate::counted::CountedPlan;
 use crate::state::{Block, Slot};

@@ -52,32 +52,23 @@ unless test refusal = (if test then None else Some refusal)
 
 abbrev pub is_voting : Phase → Bool
 is_voting phase.Voting = true
-is_voting phase.Closed = false
-is_voting phase.Drawn = false
+is_voting other = false
 
 abbrev pub is_closed : Phase → Bool
-is_closed phase.Voting = false
 is_closed phase.Closed = true
-is_closed phase.Drawn = false
+is_closed other = false
 
 abbrev pub is_drawn : Phase → Bool
-is_drawn phase.Voting = false
-is_drawn phase.Closed = false
 is_drawn phase.Drawn = true
+is_drawn other = false
 
 abbrev pub is_unused : FateWord → Bool
 is_unused word.Unused = true
-is_unused word.Cast = false
-is_unused word.Spoiled = false
-is_unused word.Audited = false
-is_unused word.Voided = false
+is_unused other = false
 
 abbrev pub is_cast_word : FateWord → Bool
-is_cast_word word.Unused = false
 is_cast_word word.Cast = true
-is_cast_word word.Spoiled = false
-is_cast_word word.Audited = false
-is_cast_word word.Voided = false
+is_cast_word other = false
 
 -- the ballot is in the plan
 abbrev pub is_ballot : Plan → ℕ → Bool

@@ -17,10 +17,7 @@ use Rattle.sg_histories.specs.declared.kept.Claim.{Claim}
 -- the ballot was not used
 abbrev pub is_unused_fate : Fate → Bool
 is_unused_fate fate.Unused = true
-is_unused_fate (fate.Cast marks) = false
-is_unused_fate fate.Spoiled = false
-is_unused_fate (fate.Audited paper) = false
-is_unused_fate fate.Voided = false
+is_unused_fate other = false
 
 -- what is told of a ballot
 abbrev pub told_of : (ℕ → Fate) → ℕ → Told

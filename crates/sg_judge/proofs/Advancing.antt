@@ -1,14 +1,15 @@
 -- One more line behind lines that are fine.
-use Rattle.std.proofs.Common.{◌≡◌, ℕ, ◌+◌, ◌≤◌, Bool, true, false, inl, List, [], ◌∷◌, ◌++◌, length, Option, Some, None, refl, sym, subst, ap, ◌∙◌, append_assoc, arith}
+use Rattle.std.proofs.Common.{◌≡◌, ℕ, ◌+◌, ◌≤◌, Bool, true, false, inl, inr, List, [], ◌∷◌, ◌++◌, length, Option, Some, None, refl, sym, subst, ap, ◌∙◌, append_assoc, arith}
 use Rattle.std.specs.Prelude.{IsSome}
 use Rattle.std.specs.Option.{is_some, option_map}
 use Rattle.std.proofs.lemmas.List.{append-nil, length_push, map_push, take_all}
-use Rattle.std.proofs.lemmas.Option.{same_Some}
 use Rattle.sg_grammar.specs.Lines.{placed_of}
 use Rattle.sg_check.proofs.Judging.{bad_in-placed, bad_in-seal}
+use Rattle.sg_check.proofs.OfPlan.{plan_lines-push}
 use Rattle.sg_check.proofs.OneMore.{form_over, kind_over, still_fine}
 use Rattle.sg_check.specs.Judging.{AreOfPlan}
 use Rattle.sg_check.specs.Kinds.{bad_seal, posted_bytes, first_bad}
+use Rattle.sg_check.specs.Laws.{IsPlanKnown}
 use Rattle.sg_check.specs.Verdict.{IsFirstBad, least_broken}
 use Rattle.sg_check.specs.declared.judged.Kind.{Kind}
 use Rattle.sg_check.specs.declared.judged.Kind.TheVariants as kind
@@ -17,17 +18,16 @@ use Rattle.sg_commit.specs.declared.Sealer.{Sealer}
 use Rattle.sg_forms.specs.Said.{Said}
 use Rattle.sg_ledger.specs.declared.ledger.Ledger.{Ledger}
 use Rattle.sg_ledger.specs.Tells.{Tells, TellsSome, plan_kept}
-use Rattle.sg_judge.proofs.Placing.{found_refused, found_taken, plan_taken, taken_there}
-use Rattle.sg_judge.specs.inside.Taking.{Advances, IsRefused, IsTaken, Keeps, Stands, StandsSome, opened_by}
+use Rattle.sg_judge.proofs.Placing.{plan_stepped}
+use Rattle.sg_judge.specs.inside.Taking.{Advances, Keeps, Stands, StandsSome, opened_by}
 use Rattle.sg_plan.specs.declared.plan.Plan.{Plan}
 use Rattle.sg_grammar.proofs.Counting.{most_lines_stand, start-made}
-use Rattle.sg_grammar.proofs.Walking.{take_bytes-not_read, take_bytes-read, take_line-behind, take_line-head, walk-push}
-use Rattle.sg_grammar.specs.Head.{Making, head_line}
+use Rattle.sg_grammar.proofs.Walking.{take_bytes-read, walk-push}
+use Rattle.sg_grammar.specs.Head.{head_line}
 use Rattle.sg_grammar.specs.Made.{IsMade}
 use Rattle.sg_grammar.specs.Placed.{Placed}
 use Rattle.sg_grammar.specs.Placed.Placed.{OfPlan}
-use Rattle.sg_grammar.specs.Spots.{placed_next}
-use Rattle.sg_grammar.specs.Walk.{Next, Posted, Taken, headed, read_next, start, take_bytes, take_line, took}
+use Rattle.sg_grammar.specs.Walk.{Next, Posted, Taken, Walked, headed, read_next, start, take_bytes, take_line}
 
 -- LINES WITH THEIR BYTES
 
@@ -38,58 +38,26 @@ posted_bytes-push (x ∷ lines) line = ap (λ (l : List ℕ). x.bytes ++ l) (pos
 pub placed_of-push : (lines : List Posted) (line : Posted) → placed_of (lines ++ line ∷ []) ≡ placed_of lines ++ line.line ∷ []
 placed_of-push lines line = map_push (λ (l : Posted). l.line) lines line
 
--- THE FIRST BAD LINE
-
 -- bytes of no line that may stand are the first bad line, in form
 pub form_stops : (expect : Next) (sealer : Sealer) (ledger : Option Ledger) (lines : List (List ℕ)) (bytes : List ℕ) → Stands expect sealer ledger lines
-    → read_next expect bytes ≡ None → IsFirstBad (lines ++ bytes ∷ []) (length lines + 1) kind.Form
-form_stops expect sealer ledger lines bytes stands e =
-    form_over lines (record { posted = stands.posted; next = expect }) bytes stands.walks stands.fine (take_bytes-not_read expect bytes e)
+    → take_bytes expect bytes ≡ None → IsFirstBad (lines ++ bytes ∷ []) (length lines + 1) kind.Form
+form_stops expect sealer ledger lines bytes stands e = form_over lines (record { posted = stands.posted; next = expect }) bytes stands.walks stands.fine e
 
--- a bad seal is none of the plan's lines, so the plan stays
-seal_plan-at : (expect : Next) (said : Said) (t : Taken) (before : List ℕ) (o : Option Making) → head_line expect.plan expect.head said ≡ o → take_line expect said ≡ Some t
-    → bad_seal before t.placed ≡ true → t.next.plan ≡ expect.plan
-seal_plan-at expect said t before None e taken bad = (take_line-behind expect said t e taken).0
-seal_plan-at expect said t before (Some making) e taken bad =
-    let same : headed said making ≡ t = same_Some (headed said making) t (sym (take_line-head expect said making e) ∙ taken) in
-    let off : false ≡ true = subst (λ (x : Taken). bad_seal before x.placed ≡ true) (sym same) bad in
-    absurd (let none : ⊥ = cc in none)
-
--- a bad seal is the first bad line, in kind seal
-pub seal_stops : (expect : Next) (sealer : Sealer) (ledger : Option Ledger) (lines : List (List ℕ)) (bytes : List ℕ) (said : Said) (placed : Placed) → (stands : Stands expect sealer ledger lines)
-    → read_next expect bytes ≡ Some said → placed_next expect said ≡ Some placed → bad_seal (posted_bytes stands.posted) placed ≡ true → IsFirstBad (lines ++ bytes ∷ []) (length lines + 1) kind.Seal
-seal_stops expect sealer ledger lines bytes said placed stands read place bad =
-    let there = taken_there expect said placed place in
-    let bad_there : bad_seal (posted_bytes stands.posted) there.0.placed ≡ true = ap (λ (p : Placed). bad_seal (posted_bytes stands.posted) p) there.2 ∙ bad in
-    let same = seal_plan-at expect said there.0 (posted_bytes stands.posted) (head_line expect.plan expect.head said) refl there.1 bad_there in
-    kind_over lines (record { posted = stands.posted; next = expect }) bytes there.0 kind.Seal stands.walks stands.fine (take_bytes-read expect bytes said read ∙ there.1) (inl same)
-    (bad_in-seal there.0.next.plan stands.posted (record { bytes = bytes; line = there.0.placed }) bad_there)
-
--- a line that is refused is the first bad line, in the kind in which it is bad
-pub kind_stops : (expect : Next) (sealer : Sealer) (ledger : Option Ledger) (lines : List (List ℕ)) (bytes : List ℕ) (said : Said) (placed : Placed) (k : Kind) → (stands : Stands expect sealer ledger lines)
-    → read_next expect bytes ≡ Some said → bad_seal (posted_bytes stands.posted) placed ≡ false → IsRefused expect said placed (placed_of stands.posted) k → IsFirstBad (lines ++ bytes ∷ []) (length lines + 1) k
-kind_stops expect sealer ledger lines bytes said placed k stands read good refused =
-    kind_over lines (record { posted = stands.posted; next = expect }) bytes (took placed refused.next) k stands.walks stands.fine (take_bytes-read expect bytes said read ∙ refused.takes) (inl refused.plan_stays)
-    (bad_in-placed refused.next.plan stands.posted (record { bytes = bytes; line = placed }) good
-    ∙ (ap (λ (p : Plan). first_bad p (placed_of stands.posted) placed) refused.plan_stays ∙ refused.bad))
-
--- ONE MORE FINE LINE
-
--- a line that is taken leaves the lines fine, and all is kept of it
-pub still_stands : (expect new : Next) (sealer sealer' : Sealer) (ledger ledger' : Option Ledger) (lines : List (List ℕ)) (bytes : List ℕ) (said : Said) (placed : Placed)
-    → (stands : Stands expect sealer ledger lines) → read_next expect bytes ≡ Some said → bad_seal (posted_bytes stands.posted) placed ≡ false
-    → IsTaken expect new ledger' said placed (placed_of stands.posted) → ((before : List ℕ) → HasTaken sealer before → HasTaken sealer' (before ++ bytes))
-    → Stands new sealer' ledger' (lines ++ bytes ∷ [])
-still_stands expect new sealer sealer' ledger ledger' lines bytes said placed stands read good taken adds =
-    let line : Posted = record { bytes = bytes; line = placed } in
-    let takes : take_bytes expect bytes ≡ Some (took placed new) = take_bytes-read expect bytes said read ∙ taken.takes in
+-- a line that may stand and is bad in nothing leaves the lines fine, where all is kept of it
+still_stands : (expect : Next) (sealer sealer' : Sealer) (ledger ledger' : Option Ledger) (lines : List (List ℕ)) (bytes : List ℕ) (t : Taken)
+    → (stands : Stands expect sealer ledger lines) → take_bytes expect bytes ≡ Some t → IsPlanKnown (record { posted = stands.posted; next = expect }) t
+    → bad_seal (posted_bytes stands.posted) t.placed ≡ false → first_bad t.next.plan (placed_of stands.posted) t.placed ≡ None
+    → Keeps t.next.plan ledger' (placed_of stands.posted ++ t.placed ∷ []) → ((before : List ℕ) → HasTaken sealer before → HasTaken sealer' (before ++ bytes))
+    → Stands t.next sealer' ledger' (lines ++ bytes ∷ [])
+still_stands expect sealer sealer' ledger ledger' lines bytes t stands taken known good fine kept adds =
+    let w : Walked = record { posted = stands.posted; next = expect } in
+    let line : Posted = record { bytes = bytes; line = t.placed } in
     record {
       posted = stands.posted ++ line ∷ [];
-      walks = walk-push start lines (record { posted = stands.posted; next = expect }) bytes (took placed new) stands.walks takes;
-      fine = still_fine lines (record { posted = stands.posted; next = expect }) bytes (took placed new) stands.walks stands.fine takes taken.known
-          (bad_in-placed new.plan stands.posted line good ∙ taken.good);
+      walks = walk-push start lines w bytes t stands.walks taken;
+      fine = still_fine lines w bytes t stands.walks stands.fine taken known (bad_in-placed t.next.plan stands.posted line good ∙ fine);
       sealed = subst (λ (all : List ℕ). HasTaken sealer' all) (sym (posted_bytes-push stands.posted line)) (adds (posted_bytes stands.posted) stands.sealed);
-      kept = subst (λ (all : List Placed). Keeps new.plan ledger' all) (sym (placed_of-push stands.posted line)) taken.kept;
+      kept = subst (λ (all : List Placed). Keeps t.next.plan ledger' all) (sym (placed_of-push stands.posted line)) kept;
     }
 
 -- THE LEDGER'S PLAN
@@ -98,9 +66,13 @@ still_stands expect new sealer sealer' ledger ledger' lines bytes said placed st
 pub kept_plan : (expect : Next) (sealer : Sealer) (ledger : Ledger) → StandsSome expect sealer (Some ledger) → plan_kept ledger ≡ expect.plan
 kept_plan expect sealer ledger some = some.1.kept.sized.book
 
--- and tells some lines of it
+-- and tells the lines by it
+kept_tells : (expect : Next) (sealer : Sealer) (ledger : Ledger) (lines : List (List ℕ)) → (stands : Stands expect sealer (Some ledger) lines) → Tells (plan_kept ledger) ledger (placed_of stands.posted)
+kept_tells expect sealer ledger lines stands = subst (λ (p : Plan). Tells p ledger (placed_of stands.posted)) (sym (kept_plan expect sealer ledger (lines, stands))) stands.kept
+
+-- so it tells some
 pub kept_some : (expect : Next) (sealer : Sealer) (ledger : Ledger) → StandsSome expect sealer (Some ledger) → TellsSome (plan_kept ledger) ledger
-kept_some expect sealer ledger some = subst (λ (p : Plan). TellsSome p ledger) (sym (kept_plan expect sealer ledger some)) (placed_of some.1.posted, some.1.kept)
+kept_some expect sealer ledger some = (placed_of some.1.posted, kept_tells expect sealer ledger some.0 some.1)
 
 -- WHAT WAS ANSWERED OF A LINE
 
@@ -110,36 +82,50 @@ pub plan_advances : (expect new : Next) (sealer sealer' : Sealer) (bytes : List 
     → ((before : List ℕ) → HasTaken sealer before → HasTaken sealer' (before ++ bytes))
     → (lines : List (List ℕ)) → Stands expect sealer None lines → Stands new sealer' None (lines ++ bytes ∷ [])
 plan_advances expect new sealer sealer' bytes said read named stepped adds lines stands =
-    still_stands expect new sealer sealer' None None lines bytes said (OfPlan said) stands read refl (plan_taken expect new said (placed_of stands.posted) named stepped stands.kept) adds
+    let step = plan_stepped expect new said named stepped in
+    subst (λ (n : Next). Stands n sealer' None (lines ++ bytes ∷ [])) step.3
+    (still_stands expect sealer sealer' None None lines bytes (headed said step.0) stands (take_bytes-read expect bytes said read ∙ step.2) (inr stands.kept) refl refl
+    (plan_lines-push (placed_of stands.posted) (OfPlan said) stands.kept tt) adds)
 
--- a line that was found bad by the ledger is the first bad line
-pub kind_advances : (expect : Next) (plan : Plan) (sealer : Sealer) (ledger : Ledger) (bytes : List ℕ) (said : Said) (placed : Placed) (found : Option Kind) (k : Kind) → plan ≡ expect.plan
-    → head_line expect.plan expect.head said ≡ None → read_next expect bytes ≡ Some said → placed_next expect said ≡ Some placed
-    → ((before : List ℕ) → HasTaken sealer before → false ≡ bad_seal before placed)
-    → ((before : List Placed) → Tells plan ledger before → found ≡ first_bad plan before placed) → found ≡ Some k
+-- a line behind the plan that was found a bad seal is the first bad line
+pub seal_advances : (expect : Next) (sealer : Sealer) (ledger : Option Ledger) (bytes : List ℕ) (t : Taken) → take_bytes expect bytes ≡ Some t → t.next.plan ≡ expect.plan
+    → ((before : List ℕ) → HasTaken sealer before → true ≡ bad_seal before t.placed)
+    → (lines : List (List ℕ)) → Stands expect sealer ledger lines → IsFirstBad (lines ++ bytes ∷ []) (length lines + 1) kind.Seal
+seal_advances expect sealer ledger bytes t taken same bad lines stands =
+    kind_over lines (record { posted = stands.posted; next = expect }) bytes t kind.Seal stands.walks stands.fine taken (inl same)
+    (bad_in-seal t.next.plan stands.posted (record { bytes = bytes; line = t.placed }) (sym (bad (posted_bytes stands.posted) stands.sealed)))
+
+-- what the ledger finds is what the line is bad in behind the lines
+found_behind : (expect : Next) (sealer : Sealer) (ledger : Ledger) (t : Taken) (found : Option Kind) → t.next.plan ≡ expect.plan
+    → ((before : List Placed) → Tells (plan_kept ledger) ledger before → found ≡ first_bad (plan_kept ledger) before t.placed)
+    → (lines : List (List ℕ)) → (stands : Stands expect sealer (Some ledger) lines) → first_bad t.next.plan (placed_of stands.posted) t.placed ≡ found
+found_behind expect sealer ledger t found same judges lines stands =
+    let plan = kept_plan expect sealer ledger (lines, stands) in
+    ap (λ (p : Plan). first_bad p (placed_of stands.posted) t.placed) (same ∙ sym plan) ∙ sym (judges (placed_of stands.posted) (kept_tells expect sealer ledger lines stands))
+
+-- one that was found bad by the ledger is the first bad line
+pub kind_advances : (expect : Next) (sealer : Sealer) (ledger : Ledger) (bytes : List ℕ) (t : Taken) (found : Option Kind) (k : Kind) → take_bytes expect bytes ≡ Some t → t.next.plan ≡ expect.plan
+    → ((before : List ℕ) → HasTaken sealer before → false ≡ bad_seal before t.placed)
+    → ((before : List Placed) → Tells (plan_kept ledger) ledger before → found ≡ first_bad (plan_kept ledger) before t.placed) → found ≡ Some k
     → (lines : List (List ℕ)) → Stands expect sealer (Some ledger) lines → IsFirstBad (lines ++ bytes ∷ []) (length lines + 1) k
-kind_advances expect plan sealer ledger bytes said placed found k same named read place good judges is lines stands =
-    kind_stops expect sealer (Some ledger) lines bytes said placed k stands read (sym (good (posted_bytes stands.posted) stands.sealed))
-    (found_refused expect plan ledger said placed found k same named place judges is (placed_of stands.posted) stands.kept)
+kind_advances expect sealer ledger bytes t found k taken same good judges is lines stands =
+    kind_over lines (record { posted = stands.posted; next = expect }) bytes t k stands.walks stands.fine taken (inl same)
+    (bad_in-placed t.next.plan stands.posted (record { bytes = bytes; line = t.placed }) (sym (good (posted_bytes stands.posted) stands.sealed))
+    ∙ (found_behind expect sealer ledger t found same judges lines stands ∙ is))
 
 -- behind one that was found good the lines are fine
-pub line_advances : (expect new : Next) (plan : Plan) (sealer sealer' : Sealer) (ledger ledger' : Ledger) (bytes : List ℕ) (said : Said) (placed : Placed) (found : Option Kind) → plan ≡ expect.plan
-    → head_line expect.plan expect.head said ≡ None → read_next expect bytes ≡ Some said → placed_next expect said ≡ Some placed → option_map (λ (x : Taken). x.next) (take_line expect said) ≡ Some new
-    → ((before : List ℕ) → HasTaken sealer before → false ≡ bad_seal before placed)
-    → ((before : List Placed) → Tells plan ledger before → found ≡ first_bad plan before placed)
-    → ((before : List Placed) → Tells plan ledger before → Tells plan ledger' (before ++ placed ∷ [])) → found ≡ None
+pub line_advances : (expect : Next) (sealer sealer' : Sealer) (ledger ledger' : Ledger) (bytes : List ℕ) (t : Taken) (found : Option Kind) → take_bytes expect bytes ≡ Some t → t.next.plan ≡ expect.plan
+    → ((before : List ℕ) → HasTaken sealer before → false ≡ bad_seal before t.placed)
+    → ((before : List Placed) → Tells (plan_kept ledger) ledger before → found ≡ first_bad (plan_kept ledger) before t.placed)
+    → ((before : List Placed) → Tells (plan_kept ledger) ledger before → Tells (plan_kept ledger) ledger' (before ++ t.placed ∷ [])) → found ≡ None
     → ((before : List ℕ) → HasTaken sealer before → HasTaken sealer' (before ++ bytes))
-    → (lines : List (List ℕ)) → Stands expect sealer (Some ledger) lines → Stands new sealer' (Some ledger') (lines ++ bytes ∷ [])
-line_advances expect new plan sealer sealer' ledger ledger' bytes said placed found same named read place stepped good judges keeps is adds lines stands =
-    still_stands expect new sealer sealer' (Some ledger) (Some ledger') lines bytes said placed stands read (sym (good (posted_bytes stands.posted) stands.sealed))
-    (found_taken expect new plan ledger ledger' said placed found same named place stepped judges keeps is (placed_of stands.posted) stands.kept) adds
-
--- a line that was found a bad seal is the first bad line
-pub seal_advances : (expect : Next) (sealer : Sealer) (ledger : Option Ledger) (bytes : List ℕ) (said : Said) (placed : Placed)
-    → read_next expect bytes ≡ Some said → placed_next expect said ≡ Some placed → ((before : List ℕ) → HasTaken sealer before → true ≡ bad_seal before placed)
-    → (lines : List (List ℕ)) → Stands expect sealer ledger lines → IsFirstBad (lines ++ bytes ∷ []) (length lines + 1) kind.Seal
-seal_advances expect sealer ledger bytes said placed read place bad lines stands =
-    seal_stops expect sealer ledger lines bytes said placed stands read place (sym (bad (posted_bytes stands.posted) stands.sealed))
+    → (lines : List (List ℕ)) → Stands expect sealer (Some ledger) lines → Stands t.next sealer' (Some ledger') (lines ++ bytes ∷ [])
+line_advances expect sealer sealer' ledger ledger' bytes t found taken same good judges keeps is adds lines stands =
+    let plan = kept_plan expect sealer ledger (lines, stands) in
+    still_stands expect sealer sealer' (Some ledger) (Some ledger') lines bytes t stands taken (inl same) (sym (good (posted_bytes stands.posted) stands.sealed))
+    (found_behind expect sealer ledger t found same judges lines stands ∙ is)
+    (subst (λ (p : Plan). Tells p ledger' (placed_of stands.posted ++ t.placed ∷ [])) (plan ∙ sym same) (keeps (placed_of stands.posted) (kept_tells expect sealer ledger lines stands)))
+    adds
 
 -- THE FIRST LINE BEHIND THE PLAN
 

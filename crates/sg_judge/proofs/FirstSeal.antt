@@ -9,7 +9,7 @@ use Rattle.sg_commit.specs.declared.Sealer.{Sealer}
 use Rattle.sg_forms.specs.Said.{Said}
 use Rattle.sg_ledger.specs.declared.ledger.Ledger.{Ledger}
 use Rattle.sg_judge.proofs.Advancing.{placed_of-push}
-use Rattle.sg_judge.proofs.Placing.{taken_there}
+use Rattle.sg_judge.proofs.Sealing.{or_seal_none}
 use Rattle.sg_check.specs.declared.judged.Kind.{Kind}
 use Rattle.sg_judge.proofs.Ending.{open_judges}
 use Rattle.sg_judge.specs.FirstSeal.{first_seal, first_seal_in, first_seal_on}
@@ -18,8 +18,7 @@ use Rattle.sg_judge.specs.inside.Taking.{Advances, Stands, next_seal, or_seal}
 use Rattle.sg_grammar.proofs.Walking.{some_there, take_bytes-read, take_line-head, walk-empty, walk-push}
 use Rattle.sg_grammar.specs.Head.{head_line}
 use Rattle.sg_grammar.specs.Placed.{Placed}
-use Rattle.sg_grammar.specs.Spots.{placed_next}
-use Rattle.sg_grammar.specs.Walk.{Next, Posted, Taken, Walked, read_next, start, take_bytes, walk}
+use Rattle.sg_grammar.specs.Walk.{Next, Posted, Taken, Walked, headed, read_next, start, take_bytes, walk}
 
 first_given-or : (o a b : Option Digest) → option_map_or Some o (or_seal a b) ≡ or_seal (option_map_or Some o a) b
 first_given-or None a b = refl
@@ -59,24 +58,17 @@ pub first_seal-push : (expect new : Next) (sealer sealer' : Sealer) (ledger ledg
     → first_seal (lines ++ bytes ∷ []) ≡ or_seal (first_seal lines) (next_seal expect bytes)
 first_seal-push expect new sealer sealer' ledger ledger' lines bytes stands stands' = push-at expect sealer ledger lines bytes (take_bytes expect bytes) refl stands new sealer' ledger' stands'
 
--- that of the next line, where its place is known
-pub next_seal-at : (expect : Next) (bytes : List ℕ) (said : Said) (placed : Placed) → read_next expect bytes ≡ Some said → placed_next expect said ≡ Some placed → next_seal expect bytes ≡ first_seal_on placed
-next_seal-at expect bytes said placed read place =
-    let there = taken_there expect said placed place in
-    ap (λ (o : Option Taken). option_map_or (λ (t : Taken). first_seal_on t.placed) o None) (take_bytes-read expect bytes said read ∙ there.1) ∙ ap first_seal_on there.2
-
-or_seal-none : (seal : Option Digest) → or_seal seal None ≡ seal
-or_seal-none None = refl
-or_seal-none (Some digest) = refl
+-- that of the next line, where it may stand
+pub next_seal-at : (expect : Next) (bytes : List ℕ) (t : Taken) → take_bytes expect bytes ≡ Some t → next_seal expect bytes ≡ first_seal_on t.placed
+next_seal-at expect bytes t taken = ap (λ (o : Option Taken). option_map_or (λ (x : Taken). first_seal_on x.placed) o None) taken
 
 -- a line of the plan is none
 pub next_seal-plan : (expect : Next) (bytes : List ℕ) (said : Said) (seal : Option Digest) → read_next expect bytes ≡ Some said → is_some (head_line expect.plan expect.head said) ≡ true
     → seal ≡ or_seal seal (next_seal expect bytes)
 next_seal-plan expect bytes said seal read named =
     let there = some_there (head_line expect.plan expect.head said) named in
-    let none : next_seal expect bytes ≡ None =
-    ap (λ (o : Option Taken). option_map_or (λ (t : Taken). first_seal_on t.placed) o None) (take_bytes-read expect bytes said read ∙ take_line-head expect said there.0 there.1) in
-    sym (ap (or_seal seal) none ∙ or_seal-none seal)
+    let none : next_seal expect bytes ≡ None = next_seal-at expect bytes (headed said there.0) (take_bytes-read expect bytes said read ∙ take_line-head expect said there.0 there.1) in
+    sym (ap (or_seal seal) none ∙ or_seal_none seal)
 
 -- the seal that is kept behind one more fine line
 pub seal_going : (broken found : Option Kind) (expect new : Next) (sealer sealer' : Sealer) (ledger ledger' : Option Ledger) (number : ℕ) (bytes : List ℕ) (lines : List (List ℕ)) → broken ≡ None → found ≡ None

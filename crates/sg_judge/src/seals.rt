@@ -3,96 +3,46 @@ ghost use Rattle.std.specs.Prelude.{◌≡◌, ℕ, List, bytes_eq, not};
 ghost use Rattle.sha2.specs.Sha256.{sha256};
 ghost use Rattle.sg_check.specs.Kinds.{bad_seal};
 ghost use Rattle.sg_commit.specs.Seals.{StandsFor as HasTaken};
-ghost use Rattle.sg_forms.specs.Said.{said};
 ghost use Rattle.sg_grammar.specs.Placed.Placed.{SealAt};
-ghost use Rattle.sg_grammar.specs.Spots.{placed_at};
+ghost use Rattle.sg_grammar.specs.Coordinates.{placed};
 ghost use Rattle.sg_judge.specs.FirstSeal.{first_seal_on};
-ghost use Rattle.sg_judge.specs.inside.Taking.{is_seal_spot, or_seal};
+ghost use Rattle.sg_judge.specs.inside.Taking.{or_seal};
 
 use sg_commit::{Digest, Sealer};
-use sg_grammar::{Line, Meaning, Spot, meaning_of};
+use sg_grammar::PlacedLine;
 
 /// The line is a seal, and not the hash of the bytes before it.
-#[tactic(auto, using(crate::proofs::Sealing::elsewhere))]
-#[inline(always)]
-pub(crate) fn is_bad_seal(sealer: &Sealer, at: Spot, line: &Line) -> bool
-    ensures { (before : List ℕ) → HasTaken sealer.now before → result ≡ bad_seal before (placed_at at (said line.now)) }
-{
-    if !is_at_seal(at) {
-        return false;
-    }
-    is_bad_seal_there(sealer, at, line)
-}
-
-/// A seal is due there.
-fn is_at_seal(at: Spot) -> bool
-    ensures { result ≡ is_seal_spot at }
-{
-    matches!(at, Spot::Seal { .. })
-}
-
-/// The line says a seal, and not the hash of the bytes before it.
 #[tactic(auto, using(crate::proofs::Sealing::seals))]
-fn is_bad_seal_there(sealer: &Sealer, at: Spot, line: &Line) -> bool
-    ensures { (before : List ℕ) → HasTaken sealer.now before → result ≡ bad_seal before (placed_at at (said line.now)) }
+#[inline(always)]
+pub(crate) fn is_bad_seal(sealer: &Sealer, line: &PlacedLine) -> bool
+    ensures { (before : List ℕ) → HasTaken sealer.now before → result ≡ bad_seal before (placed line.now) }
 {
-    match meaning_of(at, line) {
-        Meaning::Seal(_, digest) => is_other(sealer, &digest),
-        Meaning::CodeCommit(..) => false,
-        Meaning::RowCommit(..) => false,
-        Meaning::Code(..) => false,
-        Meaning::Over(..) => false,
-        Meaning::Paper(..) => false,
-        Meaning::Flags(..) => false,
-        Meaning::Places(..) => false,
-        Meaning::Total(..) => false,
-        Meaning::DrawFull => false,
-        Meaning::DrawPublic(..) => false,
-        Meaning::Row(..) => false,
-        Meaning::Dispute(..) => false,
-        Meaning::Nothing => false,
+    match *line {
+        PlacedLine::Seal { digest, .. } => is_other(sealer, &digest),
+        _ => false,
     }
 }
 
 /// Keeps the digest of the line `seal 1`.
-#[tactic(auto, using(crate::proofs::Sealing::elsewhere_first))]
+#[tactic(auto, using(crate::proofs::Sealing::or_seal_none))]
 #[inline(always)]
-pub(crate) fn note_seal(seal: &mut Option<Digest>, at: Spot, line: &Line)
-    ensures { seal.new ≡ or_seal seal.old (first_seal_on (placed_at at (said line.now))) }
+pub(crate) fn note_seal(seal: &mut Option<Digest>, line: &PlacedLine)
+    ensures { seal.new ≡ or_seal seal.old (first_seal_on (placed line.now)) }
 {
-    if seal.is_none() && is_at_seal(at) {
-        *seal = first_seal_told(at, line);
+    match *line {
+        PlacedLine::Seal { number, digest } => keep_first(seal, number, digest),
+        _ => (),
     }
 }
 
-/// The digest of the line `seal 1`, where this is that line.
-#[tactic(auto, using(crate::proofs::Sealing::quiet_first))]
-fn first_seal_told(at: Spot, line: &Line) -> Option<Digest>
-    ensures { result ≡ first_seal_on (placed_at at (said line.now)) }
+/// Keeps the digest of a seal with this number, where it is the first, and none is kept.
+#[tactic(auto, using(crate::proofs::Sealing::or_seal_none))]
+fn keep_first(seal: &mut Option<Digest>, number: u32, digest: Digest)
+    ensures { seal.new ≡ or_seal seal.old (first_seal_on (SealAt number digest)) }
 {
-    match meaning_of(at, line) {
-        Meaning::Seal(number, digest) => first_of(number, digest),
-        Meaning::CodeCommit(..) => None,
-        Meaning::RowCommit(..) => None,
-        Meaning::Code(..) => None,
-        Meaning::Over(..) => None,
-        Meaning::Paper(..) => None,
-        Meaning::Flags(..) => None,
-        Meaning::Places(..) => None,
-        Meaning::Total(..) => None,
-        Meaning::DrawFull => None,
-        Meaning::DrawPublic(..) => None,
-        Meaning::Row(..) => None,
-        Meaning::Dispute(..) => None,
-        Meaning::Nothing => None,
+    if seal.is_none() && number == 1 {
+        *seal = Some(digest);
     }
-}
-
-/// The digest, where the number is 1.
-fn first_of(number: u32, digest: Digest) -> Option<Digest>
-    ensures { result ≡ first_seal_on (SealAt number digest) }
-{
-    if number == 1 { Some(digest) } else { None }
 }
 
 /// The digest is not the hash of the bytes that were taken in.

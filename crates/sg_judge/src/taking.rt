@@ -6,22 +6,17 @@ ghost use Rattle.sg_check.specs.Verdict.{total_on};
 ghost use Rattle.sg_forms.specs.Reading.{line_of};
 ghost use Rattle.sg_forms.specs.Said.{said, said_commits};
 ghost use Rattle.sg_forms.specs.Said.Said.{CodeCommit, Row};
-ghost use Rattle.sg_forms.specs.Spelling.{IsInRange};
 ghost use Rattle.sg_ledger.specs.Tells.{HasDigits, Tells, TellsSome, plan_kept, totals_kept};
-ghost use Rattle.sg_judge.specs.inside.Taking.{Advances, IsNoPlanLine, Stands, StandsSome, next_seal, or_seal};
+ghost use Rattle.sg_judge.specs.inside.Taking.{Advances, IsNoPlanLine, Stands, StandsAt, StandsSome, next_seal, or_seal};
 ghost use Rattle.sg_grammar.specs.Left.{lines_left};
 ghost use Rattle.sg_grammar.specs.Placed.{Placed};
-ghost use Rattle.sg_grammar.specs.Made.{IsMade};
-ghost use Rattle.sg_grammar.specs.Spots.{IsPlacedIn, placed_at};
-ghost use Rattle.sg_grammar.specs.Standing.{taken_at, IsStandingIn};
-ghost use Rattle.sg_grammar.specs.Walk.{take_line};
-ghost use Rattle.sg_grammar.specs.declared.state.Head.TheVariants as HeadIs;
+ghost use Rattle.sg_grammar.specs.Coordinates.{IsPlacedIn, placed};
 
 use crate::seals::{is_bad_seal, note_seal};
 use sg_check::Kind;
 use sg_commit::{Digest, Sealer};
 use sg_forms::{RowCommitLine, RowOpening, read_code_commit, read_form, read_row, read_row_commit};
-use sg_grammar::{Expect, Line, Spot, Standing};
+use sg_grammar::{Expect, Line, PlacedLine, Standing};
 use sg_ledger::Ledger;
 
 /// Takes the next line, with its line feed, where it is none of the plan, and answers what it is bad in. It takes no
@@ -88,7 +83,6 @@ fn advance_line(
     requires stands { StandsSome expect.old sealer.old (Some ledger.old) }
     requires behind { IsNoPlanLine expect.old bytes.now }
     requires read { line_of expect.old.plan.version bytes.now ≡ Some (said line.now) }
-    requires range { IsInRange expect.old.plan.version (said line.now) }
     ensures goes_on { (lines : List (List ℕ)) → Stands expect.old sealer.old (Some ledger.old) lines → Advances result expect.new sealer.new (Some ledger.new) lines bytes.now }
     ensures seal { result ≡ None → seal.new ≡ or_seal seal.old (next_seal expect.old bytes.now) }
     ensures whole { result ≡ None → is_behind expect.new.head ≡ true }
@@ -103,14 +97,13 @@ fn advance_line(
         ledger,
         seal,
         bytes,
-        line,
         standing,
-        standing.spot,
+        &standing.line,
     )
 }
 
-/// The same of bytes that were read as the commitments of a row, of which a record has most. Where they are due, the compiler
-/// makes of all that follows what is done for them alone.
+/// The same of bytes that were read as the commitments of a row, of which a record has most. Where they are due, the line is
+/// made anew, so that the compiler makes of all that follows what is done for them alone.
 fn advance_commits(
     expect: &mut Expect,
     sealer: &mut Sealer,
@@ -122,7 +115,6 @@ fn advance_commits(
     requires stands { StandsSome expect.old sealer.old (Some ledger.old) }
     requires behind { IsNoPlanLine expect.old bytes.now }
     requires read { line_of expect.old.plan.version bytes.now ≡ Some (said_commits row) }
-    requires range { IsInRange expect.old.plan.version (said_commits row) }
     ensures goes_on { (lines : List (List ℕ)) → Stands expect.old sealer.old (Some ledger.old) lines → Advances result expect.new sealer.new (Some ledger.new) lines bytes.now }
     ensures seal { result ≡ None → seal.new ≡ or_seal seal.old (next_seal expect.old bytes.now) }
     ensures whole { result ≡ None → is_behind expect.new.head ≡ true }
@@ -137,20 +129,24 @@ fn advance_commits(
     let Some(standing) = expect.stand(&line) else {
         return Some(Kind::Form);
     };
-    let Spot::RowCommit {
+    let PlacedLine::RowCommit {
         race,
         instance,
         row,
-    } = standing.spot
+        left,
+        right,
+    } = standing.line
     else {
         return advance_line(expect, sealer, ledger, seal, bytes, &line);
     };
-    let at = Spot::RowCommit {
+    let there = PlacedLine::RowCommit {
         race,
         instance,
         row,
+        left,
+        right,
     };
-    advance_there(expect, sealer, ledger, seal, bytes, &line, standing, at)
+    advance_there(expect, sealer, ledger, seal, bytes, standing, &there)
 }
 
 /// The same of bytes that were read as what is opened of a row.
@@ -165,7 +161,6 @@ fn advance_row(
     requires stands { StandsSome expect.old sealer.old (Some ledger.old) }
     requires behind { IsNoPlanLine expect.old bytes.now }
     requires read { line_of expect.old.plan.version bytes.now ≡ Some (Row opening) }
-    requires range { IsInRange expect.old.plan.version (Row opening) }
     ensures goes_on { (lines : List (List ℕ)) → Stands expect.old sealer.old (Some ledger.old) lines → Advances result expect.new sealer.new (Some ledger.new) lines bytes.now }
     ensures seal { result ≡ None → seal.new ≡ or_seal seal.old (next_seal expect.old bytes.now) }
     ensures whole { result ≡ None → is_behind expect.new.head ≡ true }
@@ -175,20 +170,22 @@ fn advance_row(
     let Some(standing) = expect.stand(&line) else {
         return Some(Kind::Form);
     };
-    let Spot::Row {
+    let PlacedLine::Row {
         race,
         instance,
         row,
-    } = standing.spot
+        opening,
+    } = standing.line
     else {
         return advance_line(expect, sealer, ledger, seal, bytes, &line);
     };
-    let at = Spot::Row {
+    let there = PlacedLine::Row {
         race,
         instance,
         row,
+        opening,
     };
-    advance_there(expect, sealer, ledger, seal, bytes, &line, standing, at)
+    advance_there(expect, sealer, ledger, seal, bytes, standing, &there)
 }
 
 /// The same of bytes that were read as the commitment of a code.
@@ -204,7 +201,6 @@ fn advance_commit(
     requires stands { StandsSome expect.old sealer.old (Some ledger.old) }
     requires behind { IsNoPlanLine expect.old bytes.now }
     requires read { line_of expect.old.plan.version bytes.now ≡ Some (CodeCommit race digest) }
-    requires range { IsInRange expect.old.plan.version (CodeCommit race digest) }
     ensures goes_on { (lines : List (List ℕ)) → Stands expect.old sealer.old (Some ledger.old) lines → Advances result expect.new sealer.new (Some ledger.new) lines bytes.now }
     ensures seal { result ≡ None → seal.new ≡ or_seal seal.old (next_seal expect.old bytes.now) }
     ensures whole { result ≡ None → is_behind expect.new.head ≡ true }
@@ -214,11 +210,20 @@ fn advance_commit(
     let Some(standing) = expect.stand(&line) else {
         return Some(Kind::Form);
     };
-    let Spot::CodeCommit { race, entry } = standing.spot else {
+    let PlacedLine::CodeCommit {
+        race,
+        entry,
+        digest,
+    } = standing.line
+    else {
         return advance_line(expect, sealer, ledger, seal, bytes, &line);
     };
-    let at = Spot::CodeCommit { race, entry };
-    advance_there(expect, sealer, ledger, seal, bytes, &line, standing, at)
+    let there = PlacedLine::CodeCommit {
+        race,
+        entry,
+        digest,
+    };
+    advance_there(expect, sealer, ledger, seal, bytes, standing, &there)
 }
 
 /// The same of a line that stands there.
@@ -229,30 +234,23 @@ fn advance_there(
     ledger: &mut Ledger,
     seal: &mut Option<Digest>,
     bytes: &[u8],
-    line: &Line,
     standing: Standing,
-    at: Spot,
+    line: &PlacedLine,
 ) -> Option<Kind>
     requires stands { StandsSome expect.old sealer.old (Some ledger.old) }
-    requires behind { IsNoPlanLine expect.old bytes.now }
-    requires read { line_of expect.old.plan.version bytes.now ≡ Some (said line.now) }
-    requires range { IsInRange expect.old.plan.version (said line.now) }
-    requires taken { take_line expect.old (said line.now) ≡ Some (taken_at expect.old.plan (said line.now) standing) }
-    requires within { IsStandingIn expect.old.plan (said line.now) standing }
-    requires made { IsMade expect.old.plan HeadIs.Whole }
-    requires spot { at ≡ standing.spot }
+    requires there { StandsAt expect.old bytes.now standing (placed line.now) }
     ensures goes_on { (lines : List (List ℕ)) → Stands expect.old sealer.old (Some ledger.old) lines → Advances result expect.new sealer.new (Some ledger.new) lines bytes.now }
     ensures seal { result ≡ None → seal.new ≡ or_seal seal.old (next_seal expect.old bytes.now) }
     ensures whole { result ≡ None → is_behind expect.new.head ≡ true }
     ensures falls { result ≡ None → lines_left expect.new < lines_left expect.old }
 {
-    if is_bad_seal(sealer, at, line) {
+    if is_bad_seal(sealer, line) {
         return Some(Kind::Seal);
     }
-    match judge_and_keep(ledger, at, line) {
+    match judge_and_keep(ledger, line) {
         Some(kind) => Some(kind),
         None => {
-            note_seal(seal, at, line);
+            note_seal(seal, line);
             expect.go_on(standing);
             sealer.add(bytes);
             None
@@ -262,18 +260,18 @@ fn advance_there(
 
 /// Judges a line by the ledger, and keeps it there where it is bad in nothing.
 #[inline(always)]
-fn judge_and_keep(ledger: &mut Ledger, at: Spot, line: &Line) -> Option<Kind>
-    requires placed { IsPlacedIn (plan_kept ledger.old) (placed_at at (said line.now)) }
-    requires digits { HasDigits (placed_at at (said line.now)) }
+fn judge_and_keep(ledger: &mut Ledger, line: &PlacedLine) -> Option<Kind>
+    requires placed { IsPlacedIn (plan_kept ledger.old) (placed line.now) }
+    requires digits { HasDigits (placed line.now) }
     requires some { TellsSome (plan_kept ledger.old) ledger.old }
-    requires room { totals_kept ledger.old + length (total_on (placed_at at (said line.now))) ≤ 512 }
-    ensures judges { (lines : List Placed) → Tells (plan_kept ledger.old) ledger.old lines → result ≡ first_bad (plan_kept ledger.old) lines (placed_at at (said line.now)) }
-    ensures keeps { result ≡ None → (lines : List Placed) → Tells (plan_kept ledger.old) ledger.old lines → Tells (plan_kept ledger.old) ledger.new (lines ++ placed_at at (said line.now) ∷ []) }
+    requires room { totals_kept ledger.old + length (total_on (placed line.now)) ≤ 512 }
+    ensures judges { (lines : List Placed) → Tells (plan_kept ledger.old) ledger.old lines → result ≡ first_bad (plan_kept ledger.old) lines (placed line.now) }
+    ensures keeps { result ≡ None → (lines : List Placed) → Tells (plan_kept ledger.old) ledger.old lines → Tells (plan_kept ledger.old) ledger.new (lines ++ placed line.now ∷ []) }
 {
-    match ledger.judge(at, line) {
+    match ledger.judge(line) {
         Some(kind) => Some(kind),
         None => {
-            ledger.keep(at, line);
+            ledger.keep(line);
             None
         }
     }

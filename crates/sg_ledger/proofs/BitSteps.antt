@@ -15,7 +15,7 @@ use Rattle.sg_plan.specs.Ballots.{all_entries, candidates_of, entries_of, entry_
 use Rattle.sg_plan.specs.declared.plan.Plan.{Plan}
 use Rattle.sg_grammar.specs.Placed.{Placed}
 use Rattle.sg_grammar.specs.Placed.Placed.{FlagsAt, PlacesAt}
-use Rattle.sg_grammar.specs.Spots.{IsPlacedIn}
+use Rattle.sg_grammar.specs.Coordinates.{IsPlacedIn}
 
 -- a bit at a place is that of the coordinate, where `same` says that the coordinates before the last are those of the line
 bit_is : (at from place number : ℕ) (bits : List ℕ) (same : Bool) → (same ≡ true → place + from ≡ at + number) → (same ≡ false → at ≤ place → place < at + length bits → ⊥)

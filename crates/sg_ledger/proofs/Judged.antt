@@ -26,7 +26,7 @@ use Rattle.sg_plan.specs.Ballots.{ballot_has, candidates_of, entries_of, entry_a
 use Rattle.sg_plan.specs.declared.plan.Plan.{Plan}
 use Rattle.sg_grammar.specs.Placed.{Placed}
 use Rattle.sg_grammar.specs.Placed.Placed.{CodeAt, RowAt}
-use Rattle.sg_grammar.specs.Spots.{IsPlacedIn}
+use Rattle.sg_grammar.specs.Coordinates.{IsPlacedIn}
 use Rattle.sg_grammar.specs.declared.state.Block.{Block}
 
 -- THE COLUMNS OF A BALLOT

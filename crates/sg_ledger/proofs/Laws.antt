@@ -6,7 +6,6 @@ use Rattle.sg_check.specs.Kinds.{first_bad}
 use Rattle.sg_check.specs.Verdict.{total_on}
 use Rattle.sg_check.specs.declared.judged.Total.{Total}
 use Rattle.sg_commit.specs.declared.Opening.{Opening}
-use Rattle.sg_forms.specs.Said.{Said}
 use Rattle.sg_forms.specs.declared.line.RowOpening.TheVariants as row
 use Rattle.sg_ledger.proofs.BitLists.{length-bits, length-votes}
 use Rattle.sg_ledger.proofs.BitSteps.{flagged_step, places_step, votes_step}
@@ -27,8 +26,8 @@ use Rattle.sg_plan.specs.Ballots.{candidates_of, entries_of, entry_at, entry_pla
 use Rattle.sg_plan.specs.Limits.{fault_of}
 use Rattle.sg_plan.specs.declared.plan.Plan.{Plan}
 use Rattle.sg_grammar.specs.Placed.{Placed}
-use Rattle.sg_grammar.specs.Placed.Placed.{OfPlan, CodeCommitAt, RowCommitAt, CodeAt, PaperAt, FlagsAt, PlacesAt, RowAt}
-use Rattle.sg_grammar.specs.Spots.{IsPlacedIn}
+use Rattle.sg_grammar.specs.Placed.Placed.{CodeCommitAt, RowCommitAt, CodeAt, PaperAt, FlagsAt, PlacesAt, RowAt}
+use Rattle.sg_grammar.specs.Coordinates.{IsPlacedIn}
 
 -- THE TABLES KEEP THEIR LENGTHS
 
@@ -177,7 +176,3 @@ tells_after plan ledger lines line good placed tells fine =
 -- the ledger has the totals of the lines that it tells
 pub totals_kept-tells : (plan : Plan) (ledger : Ledger) (lines : List Placed) → Tells plan ledger lines → totals_kept ledger ≡ length (totals_placed lines)
 totals_kept-tells plan ledger lines tells = ap length tells.totals
-
--- a line of the plan is never bad
-pub of_plan-fine : (plan : Plan) (lines : List Placed) (said : Said) → first_bad plan lines (OfPlan said) ≡ None
-of_plan-fine plan lines said = refl

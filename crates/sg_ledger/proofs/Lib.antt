@@ -1,7 +1,6 @@
 pub mod AuditSteps
 pub mod BitLists
 pub mod BitSteps
-pub mod Digits
 pub mod DrawSteps
 pub mod Judged
 pub mod KeptSteps

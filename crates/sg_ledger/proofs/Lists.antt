@@ -14,7 +14,7 @@ use Rattle.sg_ledger.specs.Tells.{ArePlacedIn, totals_placed}
 use Rattle.sg_plan.specs.declared.plan.Plan.{Plan}
 use Rattle.sg_grammar.specs.Placed.{Placed}
 use Rattle.sg_grammar.specs.Placed.Placed.{OfPlan}
-use Rattle.sg_grammar.specs.Spots.{IsPlacedIn}
+use Rattle.sg_grammar.specs.Coordinates.{IsPlacedIn}
 use Rattle.sg_grammar.specs.Walk.{Posted}
 
 pub or-false : (b : Bool) → (b || false) ≡ b
@@ -60,11 +60,6 @@ totals-push (x ∷ xs) line = ap (λ totals. total_on x ++ totals) (totals-push 
 pub placed-push : (plan : Plan) (lines : List Placed) (line : Placed) → ArePlacedIn plan lines → IsPlacedIn plan line → ArePlacedIn plan (lines ++ line ∷ [])
 placed-push plan [] line placed here = (here, tt)
 placed-push plan (x ∷ xs) line placed here = (placed.0, placed-push plan xs line placed.1 here)
-
--- lines stay of the plan
-pub of_plan-push : (lines : List Placed) (line : Placed) → AreOfPlan lines → IsOfPlan line → AreOfPlan (lines ++ line ∷ [])
-of_plan-push [] line lines_are here = (here, tt)
-of_plan-push (x ∷ xs) line lines_are here = (lines_are.0, of_plan-push xs line lines_are.1 here)
 
 -- LINES OF THE PLAN
 

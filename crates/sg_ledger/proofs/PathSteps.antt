@@ -15,7 +15,7 @@ use Rattle.sg_plan.specs.Ballots.{all_entries, entries_of, entry_place}
 use Rattle.sg_plan.specs.declared.plan.Plan.{Plan}
 use Rattle.sg_grammar.specs.Placed.{Placed}
 use Rattle.sg_grammar.specs.Placed.Placed.{RowAt}
-use Rattle.sg_grammar.specs.Spots.{IsPlacedIn}
+use Rattle.sg_grammar.specs.Coordinates.{IsPlacedIn}
 
 -- both pointers are below n
 abbrev pub are_small : Plan → ℕ → Opening → Opening → Bool

@@ -30,13 +30,10 @@ use Rattle.sg_plan.specs.Ballots.{ballot_has, candidates_of, entries_of, entry_a
 use Rattle.sg_plan.specs.declared.plan.Plan.{Plan}
 use Rattle.sg_grammar.specs.Placed.{Placed}
 use Rattle.sg_grammar.specs.Placed.Placed.{CodeAt}
-use Rattle.sg_grammar.specs.Spots.{IsPlacedIn}
+use Rattle.sg_grammar.specs.Coordinates.{IsPlacedIn}
 use Rattle.sg_grammar.specs.declared.state.Block.{Block}
 
 -- A RACE THAT IS OVER
-
-count-zero : (count : ℕ) → count ≡ 0 → nat_lt 0 count ≡ false
-count-zero count none = le-ltb 0 count (omega arith)
 
 -- a ballot has a mark exactly where some line marks it
 any-count : (p : Placed → Bool) (lines : List Placed) → nat_lt 0 (count_by p lines) ≡ list_any p lines

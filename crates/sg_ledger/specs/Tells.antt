@@ -23,7 +23,7 @@ use Rattle.sg_plan.specs.Ballots.{all_entries, ballot_has, candidates_of, entrie
 use Rattle.sg_plan.specs.declared.plan.Plan.{Plan}
 use Rattle.sg_grammar.specs.Placed.{Placed}
 use Rattle.sg_grammar.specs.Placed.Placed.{CodeAt, DrawnPublic, RowAt}
-use Rattle.sg_grammar.specs.Spots.{IsPlacedIn}
+use Rattle.sg_grammar.specs.Coordinates.{IsPlacedIn}
 use Rattle.sg_streams.specs.CoinSides.{coin_seed}
 
 -- LINES

@@ -3,7 +3,6 @@ ghost use Rattle.std.specs.Prelude.{◌≡◌, ◌+◌, ◌<◌, ◌≤◌, ◌=
 ghost use Rattle.sg_check.specs.Kinds.{first_bad};
 ghost use Rattle.sg_check.specs.Verdict.{total_on};
 ghost use Rattle.sg_check.specs.inside.ByKind.{bad_dispute, bad_flag, bad_opening, bad_pointer, bad_print, bad_side};
-ghost use Rattle.sg_forms.specs.Said.{said};
 ghost use Rattle.sg_forms.specs.Spelling.{AreDigits};
 ghost use Rattle.sg_ledger.specs.inside.Blank.{ledger_with};
 ghost use Rattle.sg_ledger.specs.inside.Sizes.{AreSizes};
@@ -13,7 +12,7 @@ ghost use Rattle.sg_plan.specs.Ballots.{candidates_of, entry_at, entry_place, r_
 ghost use Rattle.sg_plan.specs.declared.plan.Plan.{Plan as PlanOf};
 ghost use Rattle.sg_grammar.specs.Placed.{Placed};
 ghost use Rattle.sg_grammar.specs.Placed.Placed.{CodeCommitAt, RowCommitAt, CodeAt, OverAt, PaperAt, FlagsAt, PlacesAt, TotalAt, DrawnFull, DrawnPublic, RowAt, Disputed};
-ghost use Rattle.sg_grammar.specs.Spots.{IsPlacedIn, placed_at};
+ghost use Rattle.sg_grammar.specs.Coordinates.{IsPlacedIn, placed};
 
 use crate::audits::{Audits, are_both, count_both, has_repeat, is_number_wrong, is_paper_wrong};
 use crate::bits::{Bits, is_flag_wrong};
@@ -29,8 +28,8 @@ use crate::tables::{look, put_first, put_firsts, set_bits};
 use crate::totals::Totals;
 use sg_check::{Kind, Total};
 use sg_commit::Digest;
-use sg_forms::{CodeLine, Line, RowOpening};
-use sg_grammar::{Block, Meaning, Spot, meaning_of};
+use sg_forms::{CodeLine, RowOpening};
+use sg_grammar::{Block, PlacedLine};
 use sg_plan::limits::MOST_CANDIDATES;
 use sg_plan::{BallotIndex, ClaimWord, Items, NoMemory};
 use std::alloc::Global;
@@ -54,7 +53,7 @@ pub struct Ledger {
 }
 
 impl Ledger {
-    ghost use Rattle.sg_ledger.specs.inside.Steps.{ledger_after};
+    ghost use Rattle.sg_ledger.specs.inside.Steps.{IsOther, ledger_after};
     ghost use Rattle.sg_check.specs.Judging.{AreOfPlan};
     ghost use Rattle.sg_ledger.specs.Tells.{HasDigits, IsSized, Tells, TellsSome, plan_kept, totals_kept, totals_placed};
 
@@ -72,47 +71,61 @@ impl Ledger {
 
     /// What the line in its place is bad in, against the lines told: all kinds but form and seal.
     #[inline(always)]
-    pub fn judge(&self, at: Spot, line: &Line) -> Option<Kind>
-        requires placed { IsPlacedIn (plan_kept self.now) (placed_at at (said line.now)) }
-        requires digits { HasDigits (placed_at at (said line.now)) }
+    pub fn judge(&self, line: &PlacedLine) -> Option<Kind>
+        requires placed { IsPlacedIn (plan_kept self.now) (placed line.now) }
+        requires digits { HasDigits (placed line.now) }
         requires some { TellsSome (plan_kept self.now) self.now }
-        ensures { (lines : List Placed) → Tells (plan_kept self.now) self.now lines → result ≡ first_bad (plan_kept self.now) lines (placed_at at (said line.now)) }
+        ensures { (lines : List Placed) → Tells (plan_kept self.now) self.now lines → result ≡ first_bad (plan_kept self.now) lines (placed line.now) }
     {
-        match meaning_of(at, line) {
-            Meaning::CodeCommit(..) => None,
-            Meaning::RowCommit(..) => None,
-            Meaning::Code(block, ballot, race, column, code) => self.judge_code(
-                block, ballot, race, column, &code,
-            ),
-            Meaning::Over(ballot, race) => self.judge_over(ballot, race),
-            Meaning::Paper(ballot, race, codes, count) => self.judge_paper(
-                ballot, race, &codes, count,
-            ),
-            Meaning::Flags(..) => None,
-            Meaning::Places(..) => None,
-            Meaning::Total(race, candidate, count) => self.judge_total(race, candidate, count),
-            Meaning::Seal(..) => None,
-            Meaning::DrawFull => None,
-            Meaning::DrawPublic(_) => None,
-            Meaning::Row(race, instance, row, opening) => self.judge_row(
-                race, instance, row, &opening,
-            ),
-            Meaning::Dispute(..) => None,
-            Meaning::Nothing => None,
+        match *line {
+            PlacedLine::CodeCommit { .. } => None,
+            PlacedLine::RowCommit { .. } => None,
+            PlacedLine::Seal { .. } => None,
+            PlacedLine::Begun { .. } => None,
+            PlacedLine::Code {
+                block,
+                ballot,
+                race,
+                column,
+                code,
+            } => self.judge_code(block, ballot, race, column, &code),
+            PlacedLine::Over { ballot, race } => self.judge_over(ballot, race),
+            PlacedLine::Paper {
+                ballot,
+                race,
+                codes,
+                count,
+            } => self.judge_paper(ballot, race, &codes, count),
+            PlacedLine::Flags { .. } => None,
+            PlacedLine::Places { .. } => None,
+            PlacedLine::Total {
+                race,
+                candidate,
+                count,
+            } => self.judge_total(race, candidate, count),
+            PlacedLine::DrawFull => None,
+            PlacedLine::DrawPublic { .. } => None,
+            PlacedLine::Row {
+                race,
+                instance,
+                row,
+                opening,
+            } => self.judge_row(race, instance, row, &opening),
+            PlacedLine::Dispute { .. } => None,
         }
     }
 
     /// Tells one more line, in which nothing is bad. It takes no memory.
     #[inline(always)]
-    pub fn keep(&mut self, at: Spot, line: &Line)
-        requires placed { IsPlacedIn (plan_kept self.old) (placed_at at (said line.now)) }
-        requires digits { HasDigits (placed_at at (said line.now)) }
+    pub fn keep(&mut self, line: &PlacedLine)
+        requires placed { IsPlacedIn (plan_kept self.old) (placed line.now) }
+        requires digits { HasDigits (placed line.now) }
         requires some { TellsSome (plan_kept self.old) self.old }
-        requires room { totals_kept self.old + length (total_on (placed_at at (said line.now))) ≤ most_totals }
-        ensures { (lines : List Placed) → Tells (plan_kept self.old) self.old lines → first_bad (plan_kept self.old) lines (placed_at at (said line.now)) ≡ None → Tells (plan_kept self.old) self.new (lines ++ placed_at at (said line.now) ∷ []) }
+        requires room { totals_kept self.old + length (total_on (placed line.now)) ≤ most_totals }
+        ensures { (lines : List Placed) → Tells (plan_kept self.old) self.old lines → first_bad (plan_kept self.old) lines (placed line.now) ≡ None → Tells (plan_kept self.old) self.new (lines ++ placed line.now ∷ []) }
     {
         let _ = self.book.plan();
-        self.write(at, line);
+        self.write(line);
     }
 
     /// The totals told, in the order of their lines.
@@ -359,40 +372,83 @@ impl Ledger {
 
     /// Puts what the line tells into the tables.
     #[inline(always)]
-    fn write(&mut self, at: Spot, line: &Line)
-        requires placed { IsPlacedIn self.old.book (placed_at at (said line.now)) }
-        requires digits { HasDigits (placed_at at (said line.now)) }
+    fn write(&mut self, line: &PlacedLine)
+        requires placed { IsPlacedIn self.old.book (placed line.now) }
+        requires digits { HasDigits (placed line.now) }
         requires sized { IsSized self.old.book self.old }
-        requires room { totals_kept self.old + length (total_on (placed_at at (said line.now))) ≤ most_totals }
-        ensures { self.new ≡ ledger_after self.old.book self.old (placed_at at (said line.now)) }
+        requires room { totals_kept self.old + length (total_on (placed line.now)) ≤ most_totals }
+        ensures { self.new ≡ ledger_after self.old.book self.old (placed line.now) }
     {
-        match meaning_of(at, line) {
-            Meaning::CodeCommit(race, entry, digest) => self.write_code_commit(race, entry, digest),
-            Meaning::RowCommit(race, instance, row, left, right) => self.write_row_commit(
-                race, instance, row, left, right,
-            ),
-            Meaning::Code(block, ballot, race, column, code) => self.write_code(
-                block, ballot, race, column, &code,
-            ),
-            Meaning::Over(..) => (),
-            Meaning::Paper(ballot, race, codes, count) => self.write_paper(
-                ballot, race, &codes, count,
-            ),
-            Meaning::Flags(race, instance, from, bits) => self.write_flags(
-                race, instance, from, bits,
-            ),
-            Meaning::Places(race, from, bits) => self.write_places(race, from, bits),
-            Meaning::Total(race, candidate, count) => self.write_total(race, candidate, count),
-            Meaning::Seal(..) => (),
-            Meaning::DrawFull => self.write_full(),
-            Meaning::DrawPublic(digits) => self.write_public(digits),
-            Meaning::Row(race, instance, row, opening) => self.write_row(
-                race, instance, row, &opening,
-            ),
-            Meaning::Dispute(ballot, race, code, word) => self.write_claim(
-                ballot, race, code, word,
-            ),
-            Meaning::Nothing => (),
+        match *line {
+            PlacedLine::CodeCommit {
+                race,
+                entry,
+                digest,
+            } => self.write_code_commit(race, entry, digest),
+            PlacedLine::RowCommit {
+                race,
+                instance,
+                row,
+                left,
+                right,
+            } => self.write_row_commit(race, instance, row, left, right),
+            PlacedLine::Code {
+                block,
+                ballot,
+                race,
+                column,
+                code,
+            } => self.write_code(block, ballot, race, column, &code),
+            PlacedLine::Row {
+                race,
+                instance,
+                row,
+                opening,
+            } => self.write_row(race, instance, row, &opening),
+            _ => self.write_other(line),
+        }
+    }
+
+    /// The same of a line that is no commitment, code or row.
+    fn write_other(&mut self, line: &PlacedLine)
+        requires placed { IsPlacedIn self.old.book (placed line.now) }
+        requires digits { HasDigits (placed line.now) }
+        requires sized { IsSized self.old.book self.old }
+        requires room { totals_kept self.old + length (total_on (placed line.now)) ≤ most_totals }
+        requires other { IsOther (placed line.now) }
+        ensures { self.new ≡ ledger_after self.old.book self.old (placed line.now) }
+    {
+        match *line {
+            PlacedLine::Seal { .. } => (),
+            PlacedLine::Begun { .. } => (),
+            PlacedLine::Over { .. } => (),
+            PlacedLine::Paper {
+                ballot,
+                race,
+                codes,
+                count,
+            } => self.write_paper(ballot, race, &codes, count),
+            PlacedLine::Flags {
+                race,
+                instance,
+                from,
+                bits,
+            } => self.write_flags(race, instance, from, bits),
+            PlacedLine::Places { race, from, bits } => self.write_places(race, from, bits),
+            PlacedLine::Total {
+                race,
+                candidate,
+                count,
+            } => self.write_total(race, candidate, count),
+            PlacedLine::DrawFull => self.write_full(),
+            PlacedLine::DrawPublic { digits } => self.write_public(digits),
+            PlacedLine::Dispute {
+                ballot,
+                race,
+                code,
+                word,
+            } => self.write_claim(ballot, race, code, word),
+            _ => unreachable!(),
         }
     }
 

@@ -1,4 +1,3 @@
 -- The proofs.
 mod Picking
-mod Spots
 mod Telling

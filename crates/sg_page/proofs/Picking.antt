@@ -5,29 +5,19 @@ use Rattle.std.specs.Prelude.{option_and_then}
 use Rattle.std.proofs.lemmas.Option.{same_Some}
 use Rattle.sg_forms.specs.Reading.{line_of}
 use Rattle.sg_forms.specs.Said.{Said}
-use Rattle.sg_forms.specs.Said.Said.{Ballots}
-use Rattle.sg_plan.specs.declared.plan.Plan.{Plan}
 use Rattle.sg_grammar.proofs.Claims.{option_map-some}
 use Rattle.sg_grammar.proofs.FirstLines.{walk-first}
 use Rattle.sg_grammar.proofs.Walking.{some_there, take_line-head}
-use Rattle.sg_grammar.specs.Due.{commits}
+use Rattle.sg_grammar.specs.Coordinates.{placed}
 use Rattle.sg_grammar.specs.Head.{head_line}
 use Rattle.sg_grammar.specs.Placed.{Placed}
 use Rattle.sg_grammar.specs.Placed.Placed.{OfPlan}
 use Rattle.sg_grammar.specs.Slots.{due_of}
-use Rattle.sg_grammar.specs.Spots.{placed_at}
 use Rattle.sg_grammar.specs.Standing.{taken_at}
-use Rattle.sg_grammar.specs.Walk.{Next, Posted, Taken, Walked, after_run, behind, headed, in_head, start, take_at, take_bytes, take_line, walk}
+use Rattle.sg_grammar.specs.Walk.{Next, Posted, Taken, Walked, behind, headed, start, take_bytes, take_line, walk}
 use Rattle.sg_grammar.specs.declared.body.Standing.{Standing}
-use Rattle.sg_grammar.specs.declared.state.Head.{Head}
-use Rattle.sg_grammar.specs.declared.state.Head.TheVariants as head
-use Rattle.sg_grammar.specs.declared.state.Part.{Part}
-use Rattle.sg_grammar.specs.declared.state.Part.TheVariants as part
-use Rattle.sg_grammar.specs.declared.state.Slot.{Slot}
-use Rattle.sg_record.proofs.BytesWalk.{IsBehind, body-behind}
-use Rattle.sg_page.proofs.Spots.{wanted_spot}
 use Rattle.sg_page.specs.Shown.{ShowsLines, bytes_where, placed_front, text_where}
-use Rattle.sg_page.specs.inside.Wanting.{Found, found_so, is_spot_wanted, is_wanted, step_of}
+use Rattle.sg_page.specs.inside.Wanting.{Found, found_so, is_wanted, step_of}
 use Rattle.sg_page.specs.declared.wanted.Wanted.{Wanted}
 
 -- ALL LINES
@@ -95,32 +85,10 @@ found_of_plan which next after bytes said is read named stepped wants =
     found_taken which next bytes said (Some (headed said there.0)) read taken
     ∙ (ap (λ (n : Next). Some (found_so n (is_wanted which (OfPlan said)))) same ∙ ap (λ b. Some (found_so after b)) (sym (wants said)))
 
--- A LINE BEHIND THE PLAN
-
-head-none : (plan : Plan) (stage : Head) (said : Said) (t : Taken) → head_line plan stage said ≡ None → in_head plan stage said ≡ Some t → IsBehind plan t
-head-none plan stage said t none e = let from = option_map-some (headed said) (head_line plan stage said) t e in absurd (nothing from.0 (sym none ∙ from.1))
-  where
-    nothing : {A : Type 0} (x : A) → ◌≡◌ {A = Option A} None (Some x) → ⊥
-    nothing x e = cc
-
-run-behind : (plan : Plan) (said : Said) (t : Taken) → head_line plan head.Runs said ≡ None → after_run plan said ≡ Some t → IsBehind plan t
-run-behind plan (Ballots style count) t none e = head-none plan head.Runs (Ballots style count) t none e
-run-behind plan said t none e = body-behind plan (commits plan) (part.Ballots 0) said t e
-
-at-behind : (plan : Plan) (stage : Head) (due : List Slot) (may_begin : Part) (said : Said) (t : Taken) → head_line plan stage said ≡ None → take_at plan stage due may_begin said ≡ Some t → IsBehind plan t
-at-behind plan head.Whole due may_begin said t none e = body-behind plan due may_begin said t e
-at-behind plan head.Runs due may_begin said t none e = run-behind plan said t none e
-at-behind plan stage due may_begin said t none e = head-none plan stage said t none e
-
-line-behind : (next : Next) (said : Said) (t : Taken) → head_line next.plan next.head said ≡ None → take_line next said ≡ Some t → IsBehind next.plan t
-unfolding take_line
-line-behind next said t none e = at-behind next.plan next.head next.due next.part said t none e
-
+-- a line behind the plan
 pub found_behind : (which : Wanted) (next after : Next) (bytes : List ℕ) (said : Said) (standing : Standing) (is : Bool) → line_of next.plan.version bytes ≡ Some said
-    → head_line next.plan next.head said ≡ None → take_line next said ≡ Some (taken_at next.plan said standing) → after ≡ behind next.plan (due_of next.plan standing.slot) standing.part
-    → is ≡ is_spot_wanted which standing.spot → step_of which next bytes ≡ Some (found_so after is)
-found_behind which next after bytes said standing is read none taken goes wants =
-    let place = line-behind next said (taken_at next.plan said standing) none taken in
-    let same : is_wanted which (placed_at standing.spot said) ≡ is = wanted_spot which standing.spot said place.2 ∙ sym wants in
-    found_taken which next bytes said (Some (taken_at next.plan said standing)) read taken
-    ∙ (ap (λ (n : Next). Some (found_so n (is_wanted which (placed_at standing.spot said)))) (sym goes) ∙ ap (λ b. Some (found_so after b)) same)
+    → take_line next said ≡ Some (taken_at next.plan standing) → after ≡ behind next.plan (due_of next.plan standing.slot) standing.part → is ≡ is_wanted which (placed standing.line)
+    → step_of which next bytes ≡ Some (found_so after is)
+found_behind which next after bytes said standing is read taken goes wants =
+    found_taken which next bytes said (Some (taken_at next.plan standing)) read taken
+    ∙ (ap (λ (n : Next). Some (found_so n (is_wanted which (placed standing.line)))) (sym goes) ∙ ap (λ b. Some (found_so after b)) (sym wants))

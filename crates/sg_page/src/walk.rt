@@ -59,7 +59,7 @@ fn take_line(expect: &mut Expect, wanted: Wanted, bytes: &[u8]) -> Result<Option
         return Ok(None);
     };
     expect.go_on(standing);
-    Ok(Some(wants(wanted, standing.spot)))
+    Ok(Some(wants(wanted, &standing.line)))
 }
 
 /// Puts the bytes behind the first `at`, and answers how many stand then.

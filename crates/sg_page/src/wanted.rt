@@ -1,10 +1,12 @@
-//! Which lines are wanted, told by where they stand.
-ghost use Rattle.std.specs.Prelude.{◌≡◌, true, false};
+//! Which lines are wanted, told by their places.
+ghost use Rattle.std.specs.Prelude.{◌≡◌};
 ghost use Rattle.sg_forms.specs.Said.{Said};
+ghost use Rattle.sg_grammar.specs.Coordinates.{placed};
 ghost use Rattle.sg_grammar.specs.Placed.Placed.{OfPlan};
-ghost use Rattle.sg_page.specs.inside.Wanting.{is_spot_about, is_spot_seal, is_spot_wanted, is_wanted};
+ghost use Rattle.sg_page.specs.Shown.{is_about, is_seal};
+ghost use Rattle.sg_page.specs.inside.Wanting.{is_wanted};
 
-use sg_grammar::Spot;
+use sg_grammar::PlacedLine;
 
 /// Lines of a record that are wanted.
 #[derive(Clone, Copy, PartialEq, Eq)]
@@ -28,37 +30,37 @@ pub(crate) fn wants_plan(wanted: Wanted) -> bool
     }
 }
 
-/// A line behind the plan is wanted that stands here.
-pub(crate) fn wants(wanted: Wanted, at: Spot) -> bool
-    ensures { result ≡ is_spot_wanted wanted at }
+/// This line behind the plan is wanted.
+pub(crate) fn wants(wanted: Wanted, line: &PlacedLine) -> bool
+    ensures { result ≡ is_wanted wanted (placed line.now) }
 {
     match wanted {
         Wanted::Plan => false,
-        Wanted::Seals => is_seal(at),
-        Wanted::Ballot(ballot) => is_about(ballot, at),
+        Wanted::Seals => is_seal(line),
+        Wanted::Ballot(ballot) => is_about(ballot, line),
     }
 }
 
-/// A seal stands here.
-fn is_seal(at: Spot) -> bool
-    ensures { result ≡ is_spot_seal at }
+/// The line is a seal.
+fn is_seal(line: &PlacedLine) -> bool
+    ensures { result ≡ is_seal (placed line.now) }
 {
-    match at {
-        Spot::Seal { .. } => true,
+    match *line {
+        PlacedLine::Seal { .. } => true,
         _ => false,
     }
 }
 
-/// A line about the ballot stands here.
-fn is_about(ballot: u32, at: Spot) -> bool
-    ensures { result ≡ is_spot_about ballot at }
+/// The line is about the ballot.
+fn is_about(ballot: u32, line: &PlacedLine) -> bool
+    ensures { result ≡ is_about ballot (placed line.now) }
 {
-    match at {
-        Spot::Begun { ballot: of } => of == ballot,
-        Spot::Code { ballot: of, .. } => of == ballot,
-        Spot::Over { ballot: of, .. } => of == ballot,
-        Spot::Paper { ballot: of, .. } => of == ballot,
-        Spot::Dispute { ballot: of, .. } => of == ballot,
+    match *line {
+        PlacedLine::Begun { ballot: of } => of == ballot,
+        PlacedLine::Code { ballot: of, .. } => of == ballot,
+        PlacedLine::Over { ballot: of, .. } => of == ballot,
+        PlacedLine::Paper { ballot: of, .. } => of == ballot,
+        PlacedLine::Dispute { ballot: of, .. } => of == ballot,
         _ => false,
     }
 }

@@ -17,7 +17,7 @@ use Rattle.sg_grammar.specs.Due.{due_audit, commits, race_codes, results}
 use Rattle.sg_grammar.specs.Head.{Making, behind_candidate, head_line, last_candidates, made, no_plan, take_run, take_style, with_cand, with_instances, with_name, with_race, with_run, with_style, with_version}
 use Rattle.sg_grammar.specs.Placed.{Placed}
 use Rattle.sg_grammar.specs.Placed.Placed.{Begun, CodeAt, CodeCommitAt, Disputed, DrawnFull, DrawnPublic, FlagsAt, OfPlan, OverAt, PaperAt, PlacesAt, RowAt, RowCommitAt, SealAt, TotalAt}
-use Rattle.sg_grammar.specs.Walk.{Next, Taken, Walked, after_block, after_dispute, after_run, behind, body_line, first_taken, headed, in_cast, in_code, in_code_commit, in_draw, in_flags, in_head, follows_in_order, in_paper, in_places, in_row, in_row_commit, in_seal, in_total, is_column, is_later, is_race_left, place, start, take_at, take_bytes, take_line, taking, took, walk, walked_on}
+use Rattle.sg_grammar.specs.Walk.{Next, Taken, Walked, after_block, after_dispute, after_run, behind, body_line, first_taken, headed, in_cast, in_head, follows_in_order, is_column, is_later, is_race_left, place, start, take_at, take_bytes, take_line, taking, took, walk, walked_on}
 use Rattle.sg_grammar.specs.declared.state.Block.{Block}
 use Rattle.sg_grammar.specs.declared.state.Block.TheVariants as block
 use Rattle.sg_grammar.specs.declared.state.Head.{Head}
@@ -52,48 +52,48 @@ IsBody line = Unit {0}
 abbrev pub IsBehind : Plan → Taken → Type 0
 IsBehind plan taken = (taken.next.plan ≡ plan) × (taken.next.head ≡ head.Whole) × IsBody taken.placed
 
-code_commit-body : (race entry : ℕ) (said : Said) (line : Placed) → in_code_commit race entry said ≡ Some line → IsBody line
+code_commit-body : (race entry : ℕ) (said : Said) (line : Placed) → place (slot.CodeCommit race entry) said ≡ Some line → IsBody line
 code_commit-body race entry (CodeCommit named digest) line e = if_then-claim IsBody (named == race) (CodeCommitAt race entry digest) line (λ ok. tt) e
 code_commit-body race entry said line e = cc
 
-row_commit-body : (race instance at : ℕ) (said : Said) (line : Placed) → in_row_commit race instance at said ≡ Some line → IsBody line
+row_commit-body : (race instance at : ℕ) (said : Said) (line : Placed) → place (slot.RowCommit race instance at) said ≡ Some line → IsBody line
 row_commit-body race instance at (RowCommit named of left right) line e =
     if_then-claim IsBody (named == race && of == instance) (RowCommitAt race instance at left right) line (λ ok. tt) e
 row_commit-body race instance at said line e = cc
 
-seal-body : (number : ℕ) (said : Said) (line : Placed) → in_seal number said ≡ Some line → IsBody line
+seal-body : (number : ℕ) (said : Said) (line : Placed) → place (slot.Seal number) said ≡ Some line → IsBody line
 seal-body number (Seal named digest) line e = if_then-claim IsBody (named == number) (SealAt number digest) line (λ ok. tt) e
 seal-body number said line e = cc
 
-paper-body : (ballot race count : ℕ) (said : Said) (line : Placed) → in_paper ballot race count said ≡ Some line → IsBody line
+paper-body : (ballot race count : ℕ) (said : Said) (line : Placed) → place (slot.Paper ballot race count) said ≡ Some line → IsBody line
 paper-body ballot race count (Paper named list) line e = if_then-claim IsBody (named == race && length list == count) (PaperAt ballot race list) line (λ ok. tt) e
 paper-body ballot race count said line e = cc
 
-code-body : (kind : Block) (ballot race column : ℕ) (said : Said) (line : Placed) → in_code kind ballot race column said ≡ Some line → IsBody line
+code-body : (kind : Block) (ballot race column : ℕ) (said : Said) (line : Placed) → place (slot.Code kind ballot race column) said ≡ Some line → IsBody line
 code-body kind ballot race column (Code code) line e =
     if_then-claim IsBody (code.race == race && code.column == column) (CodeAt kind ballot race column code) line (λ ok. tt) e
 code-body kind ballot race column said line e = cc
 
-flags-body : (race instance number count : ℕ) (said : Said) (line : Placed) → in_flags race instance number count said ≡ Some line → IsBody line
+flags-body : (race instance number count : ℕ) (said : Said) (line : Placed) → place (slot.Flags race instance number count) said ≡ Some line → IsBody line
 flags-body race instance number count (Flags named of bits) line e =
     if_then-claim IsBody ((named == race && of == instance) && length bits == count) (FlagsAt race instance (64 * number) bits) line (λ ok. tt) e
 flags-body race instance number count said line e = cc
 
-places-body : (race number count : ℕ) (said : Said) (line : Placed) → in_places race number count said ≡ Some line → IsBody line
+places-body : (race number count : ℕ) (said : Said) (line : Placed) → place (slot.Places race number count) said ≡ Some line → IsBody line
 places-body race number count (Places named bits) line e =
     if_then-claim IsBody (named == race && length bits == count) (PlacesAt race (64 * number) bits) line (λ ok. tt) e
 places-body race number count said line e = cc
 
-total-body : (race candidate : ℕ) (said : Said) (line : Placed) → in_total race candidate said ≡ Some line → IsBody line
+total-body : (race candidate : ℕ) (said : Said) (line : Placed) → place (slot.Total race candidate) said ≡ Some line → IsBody line
 total-body race candidate (Total named of count) line e = if_then-claim IsBody (named == race && of == candidate) (TotalAt race candidate count) line (λ ok. tt) e
 total-body race candidate said line e = cc
 
-draw-body : (said : Said) (line : Placed) → in_draw said ≡ Some line → IsBody line
+draw-body : (said : Said) (line : Placed) → place slot.Draw said ≡ Some line → IsBody line
 draw-body DrawFull line e = subst IsBody (same_Some DrawnFull line e) tt
 draw-body (DrawPublic digits) line e = subst IsBody (same_Some (DrawnPublic digits) line e) tt
 draw-body said line e = cc
 
-row-body : (race instance at : ℕ) (said : Said) (line : Placed) → in_row race instance at said ≡ Some line → IsBody line
+row-body : (race instance at : ℕ) (said : Said) (line : Placed) → place (slot.Row race instance at) said ≡ Some line → IsBody line
 row-body race instance at (Row opening) line e = subst IsBody (same_Some (RowAt race instance at opening) line e) tt
 row-body race instance at said line e = cc
 

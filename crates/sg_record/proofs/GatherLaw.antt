@@ -3,7 +3,7 @@ use Rattle.std.proofs.Common.{◌≡◌, ℕ, ◌⊎◌, true, false, inl, inr, 
 use Rattle.std.proofs.lemmas.List.{append-nil}
 use Rattle.std.proofs.lemmas.Option.{same_Some}
 use Rattle.std.specs.List.{flat_map}
-use Rattle.std.specs.Option.{option_map, option_map_or}
+use Rattle.std.specs.Option.{is_some, option_map, option_map_or}
 use Rattle.std.specs.Prelude.{option_and_then}
 use Rattle.sg_commit.specs.declared.Digest.{Digest}
 use Rattle.sg_plan.specs.declared.plan.Plan.{Plan}
@@ -13,18 +13,16 @@ use Rattle.sg_forms.specs.Said.{Said}
 use Rattle.sg_forms.specs.Said.Said.{Ballots, Version}
 use Rattle.sg_forms.specs.Spelling.{spelling}
 use Rattle.sg_grammar.proofs.Claims.{option_and_then-some, option_map-some}
+use Rattle.sg_grammar.proofs.Walking.{some_there, take_line-head}
 use Rattle.sg_grammar.specs.Due.{commits}
 use Rattle.sg_grammar.specs.Head.{head_line, no_plan}
-use Rattle.sg_grammar.specs.Placed.{Placed}
 use Rattle.sg_grammar.specs.Placed.Placed.{OfPlan}
-use Rattle.sg_grammar.specs.Spots.{placed_at, placed_next}
 use Rattle.sg_grammar.specs.Walk.{Next, Taken, Walked, after_run, behind, headed, in_head, is_whole, start, take_at, take_bytes, take_line, walk, walked_on}
 use Rattle.sg_grammar.specs.declared.state.Head.{Head}
 use Rattle.sg_grammar.specs.declared.state.Head.TheVariants as head
 use Rattle.sg_grammar.specs.declared.state.Part.{Part}
 use Rattle.sg_grammar.specs.declared.state.Part.TheVariants as part
 use Rattle.sg_grammar.specs.declared.state.Slot.{Slot}
-use Rattle.sg_grammar.specs.declared.state.Spot.{Spot}
 use Rattle.sg_record.proofs.BodyOut.{run_state}
 use Rattle.sg_record.proofs.BytesWalk.{AreIn-from_All, Stays, body-behind, first_line, take_line-stays}
 use Rattle.sg_record.proofs.Filling.{AreIn}
@@ -132,28 +130,15 @@ gather_line-is : (so_far : Gathered) (bytes : List ℕ) (said : Said) (t : Taken
     → gather_line so_far bytes ≡ Some (gathered_on so_far said t)
 gather_line-is so_far bytes said t read taken = rw (read, taken) refl
 
--- a line in its place, as the program says it: with the state that it leads to
-pub gather_line-step : (so_far : Gathered) (bytes : List ℕ) (said : Said) (at : Spot) (next : Next) → line_of so_far.next.plan.version bytes ≡ Some said
-    → Some (placed_at at said) ≡ placed_next so_far.next said → option_map (λ taken. taken.next) (take_line so_far.next said) ≡ Some next
-    → gather_line so_far bytes ≡ Some (record { next = next; made = added next.plan so_far.made (placed_at at said) said })
-gather_line-step so_far bytes said at next read place step =
-    let from = option_map-some (λ (t : Taken). t.next) (take_line so_far.next said) next step in
-    let placed : placed_at at said ≡ from.0.placed = same_Some (placed_at at said) from.0.placed (place ∙ ap (λ o. option_map (λ (t : Taken). t.placed) o) from.1) in
-    gather_line-is so_far bytes said from.0 read from.1
-    ∙ (ap (λ (n : Next). Some (record { next = n; made = added n.plan so_far.made from.0.placed said })) from.2
-    ∙ ap (λ (p : Placed). Some (record { next = next; made = added next.plan so_far.made p said })) (sym placed))
-
--- a line that may not stand
-pub gather_line-none : (so_far : Gathered) (bytes : List ℕ) → option_and_then (take_line so_far.next) (line_of so_far.next.plan.version bytes) ≡ None → gather_line so_far bytes ≡ None
-gather_line-none so_far bytes none = at_line (line_of so_far.next.plan.version bytes) none
-  where
-    at_taken : (said : Said) (o : Option Taken) → o ≡ None → option_map (gathered_on so_far said) o ≡ None
-    at_taken said None e = refl
-    at_taken said (Some t) e = cc
-
-    at_line : (o : Option Said) → option_and_then (take_line so_far.next) o ≡ None → option_and_then (λ said. option_map (gathered_on so_far said) (take_line so_far.next said)) o ≡ None
-    at_line None e = refl
-    at_line (Some said) e = at_taken said (take_line so_far.next said) e
+-- a line of the plan: no line behind the plan stands yet
+pub plan_line-gathers : (so_far : Gathered) (bytes : List ℕ) (said : Said) (next : Next) → line_of so_far.next.plan.version bytes ≡ Some said
+    → is_some (head_line so_far.next.plan so_far.next.head said) ≡ true → option_map (λ taken. taken.next) (take_line so_far.next said) ≡ Some next
+    → gather_line so_far bytes ≡ Some (record { next = next; made = blank next.plan })
+plan_line-gathers so_far bytes said next read of_plan step =
+    let making = some_there (head_line so_far.next.plan so_far.next.head said) of_plan in
+    let taken : take_line so_far.next said ≡ Some (headed said making.0) = take_line-head so_far.next said making.0 making.1 in
+    gather_line-is so_far bytes said (headed said making.0) read taken
+    ∙ ap (λ (n : Next). Some (record { next = n; made = blank n.plan })) (same_Some (headed said making.0).next next (sym (ap (option_map (λ (t : Taken). t.next)) taken) ∙ step))
 
 -- ALL LINES, AS BYTES
 

@@ -19,7 +19,6 @@ pub mod GatherLaw
 pub mod GatheredBlocks
 pub mod GatheredLines
 pub mod GatheredLists
-pub mod Growing
 pub mod HeadBack
 pub mod HeadOut
 pub mod Limits
@@ -34,6 +33,5 @@ pub mod RecordWords
 pub mod SaidWalk
 pub mod SectionLines
 pub mod SlotLines
-pub mod Telling
 pub mod TextLaw
 pub mod WholeLaw

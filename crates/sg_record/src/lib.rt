@@ -29,6 +29,6 @@ pub use posts::Posts;
 pub use read::{RecordReading, read_record};
 pub use record::{BallotBlock, BlockFate, DisputeBlock, Record, RowCommit};
 pub use sg_forms::{CodeLine, Line, RowOpening, write_line};
-pub use sg_grammar::{Expect, Meaning, Spot, meaning_of, read_line};
+pub use sg_grammar::{Expect, read_line};
 pub use typed::{know_types, know_words};
 pub use write::{Wrote, put_stage, write_plan, write_record};

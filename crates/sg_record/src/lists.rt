@@ -2,11 +2,10 @@
 ghost use Rattle.std.specs.Prelude.{◌≡◌, ℕ, IfOk, OnOk, take};
 ghost use Rattle.sg_forms.specs.Reading.{bytes_of_digits};
 ghost use Rattle.sg_forms.specs.Said.{Said, said};
-ghost use Rattle.sg_grammar.specs.Placed.Placed.{Begun, CodeAt, Disputed};
-ghost use Rattle.sg_grammar.specs.Spots.{placed_at};
-ghost use Rattle.sg_grammar.specs.Meaning.{meant_line};
+ghost use Rattle.sg_grammar.specs.Placed.Placed.{CodeAt};
+ghost use Rattle.sg_grammar.specs.Coordinates.{placed};
 ghost use Rattle.sg_record.specs.inside.Gathering.{blank, sealed};
-ghost use Rattle.sg_record.specs.inside.Growing.{Adds, with_plan};
+ghost use Rattle.sg_record.specs.inside.Growing.{Adds, IsOfRace, with_plan};
 
 use crate::last::{Addition, begin_fate, push_dispute_code, push_last};
 use crate::nested::{empty_lists, empty_tables, push_at, push_bits_at, push_bits_in, push_in};
@@ -14,8 +13,9 @@ use crate::record::{BallotBlock, DisputeBlock, Record, RowCommit};
 use hex::FromHexError;
 use sg_commit::Digest;
 use sg_forms::{CodeLine, Line, RowOpening};
-use sg_grammar::{Block, Meaning, Spot, meaning_of};
-use sg_plan::{ClaimWord, Draw, Items, NoMemory, Plan, Word};
+use sg_grammar::{Block, PlacedLine};
+use sg_plan::limits::MOST_CANDIDATES;
+use sg_plan::{Draw, Items, NoMemory, Plan, Word};
 use std::alloc::Global;
 
 /// The lists of a record while its lines come. Its plan stands apart, where its lines are taken.
@@ -75,65 +75,90 @@ impl Lists {
     }
 
     /// Adds a line behind the plan, in its place.
-    pub(crate) fn add(&mut self, alloc: Global, at: Spot, line: &Line) -> Result<(), NoMemory>
-        ensures { OnOk result (Adds self.old self.new (placed_at at (said line.now)) (said line.now)) }
+    pub(crate) fn add(
+        &mut self,
+        alloc: Global,
+        at: &PlacedLine,
+        line: &Line,
+    ) -> Result<(), NoMemory>
+        ensures { OnOk result (Adds self.old self.new (placed at.now) (said line.now)) }
     {
-        match at {
-            Spot::Begun { ballot } => self.begin(alloc, ballot, line),
-            _ => self.add_meaning(alloc, meaning_of(at, line)),
-        }
-    }
-
-    /// Begins the block of a ballot.
-    fn begin(&mut self, alloc: Global, ballot: u32, line: &Line) -> Result<(), NoMemory>
-        ensures { OnOk result (Adds self.old self.new (Begun ballot) (said line.now)) }
-    {
-        let fate = begin_fate(alloc, line);
-        self.ballots.push(BallotBlock { ballot, fate })
-    }
-
-    /// Adds what a line says that begins no block.
-    fn add_meaning(&mut self, alloc: Global, meaning: Meaning) -> Result<(), NoMemory>
-        ensures { OnOk result ((s : Said) → Adds self.old self.new (meant_line meaning.entry s) s) }
-    {
-        match meaning {
-            Meaning::CodeCommit(race, _, digest) => {
-                push_at(alloc, &mut self.code_commits, race, digest)
-            }
-            Meaning::RowCommit(race, instance, _, left, right) => {
-                let row = RowCommit { left, right };
-                push_in(alloc, &mut self.row_commits, race, instance, row)
-            }
-            Meaning::Code(block, _, _, _, code) => self.add_code(alloc, block, code),
-            Meaning::Over(_, race) => push_last(alloc, &mut self.ballots, Addition::Over(race)),
-            Meaning::Paper(_, _, codes, count) => {
-                let paper = Addition::Paper(first_codes(&codes, count));
-                push_last(alloc, &mut self.ballots, paper)
-            }
-            Meaning::Flags(race, instance, _, bits) => {
-                push_bits_in(alloc, &mut self.flags, race, instance, bits)
-            }
-            Meaning::Places(race, _, bits) => push_bits_at(alloc, &mut self.places, race, bits),
-            Meaning::Total(race, _, count) => push_at(alloc, &mut self.totals, race, count),
-            Meaning::Row(race, instance, _, opening) => {
-                push_in(alloc, &mut self.rows, race, instance, opening)
-            }
-            Meaning::Dispute(ballot, race, code, word) => self.dispute(
-                alloc, ballot, race, code, word,
-            ),
-            Meaning::Seal(number, digest) => {
+        match *at {
+            PlacedLine::Seal { number, digest } => {
                 put_seal(&mut self.seals, number, digest);
                 Ok(())
             }
-            Meaning::DrawFull => {
+            PlacedLine::Begun { ballot } => {
+                let fate = begin_fate(alloc, line);
+                self.ballots.push(BallotBlock { ballot, fate })
+            }
+            PlacedLine::Code { block, code, .. } => self.add_code(alloc, block, code),
+            PlacedLine::Over { race, .. } => {
+                push_last(alloc, &mut self.ballots, Addition::Over(race))
+            }
+            PlacedLine::Paper { codes, count, .. } => {
+                let paper = Addition::Paper(first_codes(&codes, count));
+                push_last(alloc, &mut self.ballots, paper)
+            }
+            PlacedLine::DrawFull => {
                 self.draw = Draw::Full;
                 Ok(())
             }
-            Meaning::DrawPublic(digits) => {
+            PlacedLine::DrawPublic { digits } => {
                 self.draw = Draw::Public(word_of(alloc, digits)?);
                 Ok(())
             }
-            Meaning::Nothing => Ok(()),
+            PlacedLine::Dispute {
+                ballot,
+                race,
+                code,
+                word,
+            } => self.disputes.push(DisputeBlock {
+                ballot,
+                race,
+                code,
+                word,
+                codes: Items::new(alloc),
+            }),
+            _ => self.add_of_race(alloc, at),
+        }
+    }
+
+    /// Adds a line that stands in the list of a race, or of one of its instances. Any other adds nothing.
+    fn add_of_race(&mut self, alloc: Global, at: &PlacedLine) -> Result<(), NoMemory>
+        ensures { OnOk result (IsOfRace (placed at.now) → (s : Said) → Adds self.old self.new (placed at.now) s) }
+    {
+        match *at {
+            PlacedLine::CodeCommit { race, digest, .. } => {
+                push_at(alloc, &mut self.code_commits, race, digest)
+            }
+            PlacedLine::RowCommit {
+                race,
+                instance,
+                left,
+                right,
+                ..
+            } => {
+                let row = RowCommit { left, right };
+                push_in(alloc, &mut self.row_commits, race, instance, row)
+            }
+            PlacedLine::Flags {
+                race,
+                instance,
+                bits,
+                ..
+            } => push_bits_in(alloc, &mut self.flags, race, instance, bits),
+            PlacedLine::Places { race, bits, .. } => {
+                push_bits_at(alloc, &mut self.places, race, bits)
+            }
+            PlacedLine::Total { race, count, .. } => push_at(alloc, &mut self.totals, race, count),
+            PlacedLine::Row {
+                race,
+                instance,
+                opening,
+                ..
+            } => push_in(alloc, &mut self.rows, race, instance, opening),
+            _ => Ok(()),
         }
     }
 
@@ -148,30 +173,10 @@ impl Lists {
             Block::Dispute => push_dispute_code(alloc, &mut self.disputes, code),
         }
     }
-
-    /// Begins the block of a dispute.
-    fn dispute(
-        &mut self,
-        alloc: Global,
-        ballot: u32,
-        race: u32,
-        code: u16,
-        word: ClaimWord,
-    ) -> Result<(), NoMemory>
-        ensures { OnOk result ((s : Said) → Adds self.old self.new (Disputed ballot race code word) s) }
-    {
-        self.disputes.push(DisputeBlock {
-            ballot,
-            race,
-            code,
-            word,
-            codes: Items::new(alloc),
-        })
-    }
 }
 
 /// The first so many codes: all, where there are fewer.
-fn first_codes(codes: &[u16], count: u32) -> &[u16]
+fn first_codes(codes: &[u16; MOST_CANDIDATES], count: u32) -> &[u16]
     ensures { result.now ≡ take count codes.now }
 {
     let count = count as usize;

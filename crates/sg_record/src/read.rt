@@ -2,7 +2,7 @@
 ghost use Rattle.std.specs.Prelude.{◌≡◌, ◌++◌, ◌∷◌, ℕ, IfOk, IfSome, List, OnOk, None, Some, [], if◌then◌else◌};
 ghost use Rattle.std.specs.Option.{option_map};
 ghost use Rattle.sg_forms.specs.Said.{said};
-ghost use Rattle.sg_grammar.specs.Spots.{placed_at};
+ghost use Rattle.sg_grammar.specs.Coordinates.{placed};
 ghost use Rattle.sg_grammar.specs.Walk.{is_whole};
 ghost use Rattle.sg_outside.specs.TextLines.{lines_of};
 ghost use Rattle.sg_record.specs.inside.Gathering.{gather, gather_line, nothing_yet};
@@ -12,8 +12,8 @@ ghost use Rattle.sg_record.specs.Taking.{HasTaken};
 
 use crate::lists::Lists;
 use crate::record::Record;
-use sg_forms::Line;
-use sg_grammar::{Expect, Spot, read_line};
+use sg_forms::{Line, read_form};
+use sg_grammar::{Expect, PlacedLine};
 use sg_outside::line_end;
 use sg_plan::{NoMemory, Plan};
 use std::alloc::Global;
@@ -109,7 +109,7 @@ impl Reading {
     fn take(&mut self, alloc: Global, bytes: &[u8]) -> Result<bool, NoMemory>
         ensures { IfOk result (λ taken. gather_line (so_far self.old) bytes.now ≡ (if taken then Some (so_far self.new) else None)) }
     {
-        let Some(line) = read_line(&self.expect, bytes) else {
+        let Some(line) = read_form(self.expect.plan().version, bytes) else {
             return Ok(false);
         };
         if self.expect.is_of_plan(&line) {
@@ -117,11 +117,17 @@ impl Reading {
             self.lists = None;
             return Ok(true);
         }
-        let Some(at) = self.expect.spot(&line) else {
-            unreachable!()
+        let Some(standing) = self.expect.stand(&line) else {
+            return Ok(false);
         };
-        add_line(alloc, &mut self.lists, self.expect.plan(), at, &line)?;
-        self.expect.step(&line);
+        add_line(
+            alloc,
+            &mut self.lists,
+            self.expect.plan(),
+            &standing.line,
+            &line,
+        )?;
+        self.expect.go_on(standing);
         Ok(true)
     }
 
@@ -156,10 +162,10 @@ fn add_line(
     alloc: Global,
     lists: &mut Option<Lists>,
     plan: &Plan,
-    at: Spot,
+    at: &PlacedLine,
     line: &Line,
 ) -> Result<(), NoMemory>
-    ensures { OnOk result (AddsTo plan.now lists.old lists.new (placed_at at (said line.now)) (said line.now)) }
+    ensures { OnOk result (AddsTo plan.now lists.old lists.new (placed at.now) (said line.now)) }
 {
     if let Some(lists) = lists {
         return lists.add(alloc, at, line);

@@ -1,9 +1,9 @@
 -- One line, taken behind lines that are fine.
-use Rattle.std.specs.Prelude.{◌≡◌, ℕ, ◌+◌, ◌⊎◌, Bool, true, false, List, [], ◌∷◌, ◌++◌, length, Option, Some, None}
+use Rattle.std.specs.Prelude.{◌≡◌, ℕ, ◌+◌, List, [], ◌∷◌, ◌++◌, length, Option, Some, None}
 use Rattle.std.specs.Option.{option_map_or}
 use Rattle.sg_grammar.specs.Lines.{placed_of}
 use Rattle.sg_check.specs.Judging.{AreOfPlan}
-use Rattle.sg_check.specs.Kinds.{posted_bytes, first_bad}
+use Rattle.sg_check.specs.Kinds.{posted_bytes}
 use Rattle.sg_check.specs.Verdict.{AreFine, IsFirstBad}
 use Rattle.sg_check.specs.declared.judged.Kind.{Kind}
 use Rattle.sg_commit.specs.Seals.{StandsFor as HasTaken}
@@ -14,11 +14,14 @@ use Rattle.sg_ledger.specs.Tells.{Tells}
 use Rattle.sg_ledger.specs.declared.ledger.Ledger.{Ledger}
 use Rattle.sg_judge.specs.FirstSeal.{first_seal_on}
 use Rattle.sg_plan.specs.declared.plan.Plan.{Plan}
+use Rattle.sg_grammar.specs.Coordinates.{IsPlacedIn}
 use Rattle.sg_grammar.specs.Head.{head_line}
+use Rattle.sg_grammar.specs.Made.{IsMade}
 use Rattle.sg_grammar.specs.Placed.{Placed}
-use Rattle.sg_grammar.specs.Walk.{Next, Posted, read_next, start, take_bytes, take_line, took, walk}
-use Rattle.sg_grammar.specs.declared.state.Spot.{Spot}
-use Rattle.sg_grammar.specs.declared.state.Spot.TheVariants as spot
+use Rattle.sg_grammar.specs.Slots.{due_of, IsInSome, IsPartIn}
+use Rattle.sg_grammar.specs.Walk.{Next, Posted, behind, read_next, start, take_bytes, took, walk}
+use Rattle.sg_grammar.specs.declared.body.Standing.{Standing}
+use Rattle.sg_grammar.specs.declared.state.Head.TheVariants as head
 
 -- the bytes are no line of the plan that may stand next
 abbrev pub IsNoPlanLine : Next → List ℕ → Type 0
@@ -31,26 +34,15 @@ Keeps plan (Some ledger) lines = Tells plan ledger lines
 
 -- A LINE IN ITS PLACE
 
--- the line is taken: it may stand in this place, it is bad in nothing there, and it is kept
-pub record IsTaken (old new : Next) (ledger : Option Ledger) (said : Said) (placed : Placed) (lines : List Placed) : Type 0 where
-  pub takes : take_line old said ≡ Some (took placed new)
-  pub known : (new.plan ≡ old.plan) ⊎ AreOfPlan lines
-  pub good : first_bad new.plan lines placed ≡ None
-  pub kept : Keeps new.plan ledger (lines ++ placed ∷ [])
-
--- the line may stand in this place, and is bad there in this kind
-pub record IsRefused (old : Next) (said : Said) (placed : Placed) (lines : List Placed) (broken : Kind) : Type 0 where
-  pub next : Next
-  pub takes : take_line old said ≡ Some (took placed next)
-  pub plan_stays : next.plan ≡ old.plan
-  pub bad : first_bad old.plan lines placed ≡ Some broken
+-- the bytes are this line in its place, and behind it may stand what the program says; all of it is of the plan
+pub record StandsAt (expect : Next) (bytes : List ℕ) (standing : Standing) (line : Placed) : Type 0 where
+  pub taken : take_bytes expect bytes ≡ Some (took line (behind expect.plan (due_of expect.plan standing.slot) standing.part))
+  pub placed : IsPlacedIn expect.plan line
+  pub slot : IsInSome expect.plan standing.slot
+  pub part : IsPartIn expect.plan standing.part
+  pub made : IsMade expect.plan head.Whole
 
 -- THE FIRST SEAL
-
--- a seal is due in this spot
-abbrev pub is_seal_spot : Spot → Bool
-is_seal_spot (spot.Seal number) = true
-is_seal_spot at = false
 
 -- the digest that was kept, or else the new line's
 abbrev pub or_seal : Option Digest → Option Digest → Option Digest

@@ -126,3 +126,11 @@ ledger_after plan ledger line = record {
   claim = claim_after ledger.claim line;
   totals = ledger.totals ++ total_on line;
 }
+
+-- the line is no commitment, code or row
+abbrev pub IsOther : Placed → Type 0
+IsOther (CodeCommitAt race entry digest) = ⊥
+IsOther (RowCommitAt race instance number left right) = ⊥
+IsOther (CodeAt block ballot race column code) = ⊥
+IsOther (RowAt race instance number opening) = ⊥
+IsOther line = Unit {0}

@@ -1,10 +1,8 @@
 -- Which lines the walk picks.
-use Rattle.std.specs.Prelude.{ℕ, ◌==◌, Bool, true, false, List, Option}
+use Rattle.std.specs.Prelude.{ℕ, Bool, List, Option}
 use Rattle.std.specs.Option.{option_map}
 use Rattle.sg_grammar.specs.Placed.{Placed}
 use Rattle.sg_grammar.specs.Walk.{Next, take_bytes}
-use Rattle.sg_grammar.specs.declared.state.Spot.{Spot}
-use Rattle.sg_grammar.specs.declared.state.Spot.TheVariants as spot
 use Rattle.sg_page.specs.Shown.{is_about, is_of_plan, is_seal}
 use Rattle.sg_page.specs.declared.wanted.Wanted.{Wanted}
 use Rattle.sg_page.specs.declared.wanted.Wanted.TheVariants as wanted
@@ -14,25 +12,6 @@ abbrev pub is_wanted : Wanted → Placed → Bool
 is_wanted wanted.Plan = is_of_plan
 is_wanted wanted.Seals = is_seal
 is_wanted (wanted.Ballot ballot) = is_about ballot
-
--- the same of a line behind the plan, by its spot
-
-abbrev pub is_spot_seal : Spot → Bool
-is_spot_seal (spot.Seal number) = true
-is_spot_seal at = false
-
-abbrev pub is_spot_about : ℕ → Spot → Bool
-is_spot_about ballot (spot.Begun of) = of == ballot
-is_spot_about ballot (spot.Code block of race column) = of == ballot
-is_spot_about ballot (spot.Over of race) = of == ballot
-is_spot_about ballot (spot.Paper of race) = of == ballot
-is_spot_about ballot (spot.Dispute of race) = of == ballot
-is_spot_about ballot at = false
-
-abbrev pub is_spot_wanted : Wanted → Spot → Bool
-is_spot_wanted wanted.Plan at = false
-is_spot_wanted wanted.Seals at = is_spot_seal at
-is_spot_wanted (wanted.Ballot ballot) at = is_spot_about ballot at
 
 -- a line was taken: whether it is wanted, and what may stand behind it
 pub record Found : Type 0 where

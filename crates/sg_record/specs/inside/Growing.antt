@@ -3,7 +3,7 @@ use Rattle.std.specs.Prelude.{◌≡◌, Option, Some, None}
 use Rattle.sg_plan.specs.declared.plan.Plan.{Plan}
 use Rattle.sg_forms.specs.Said.{Said}
 use Rattle.sg_grammar.specs.Placed.{Placed}
-use Rattle.sg_grammar.specs.Placed.Placed.{OfPlan}
+use Rattle.sg_grammar.specs.Placed.Placed.{CodeCommitAt, FlagsAt, PlacesAt, RowAt, RowCommitAt, TotalAt}
 use Rattle.sg_record.specs.inside.Gathering.{Gathered, added, blank, with_code, with_over, with_paper}
 use Rattle.sg_record.specs.declared.last.Addition.{Addition}
 use Rattle.sg_record.specs.declared.last.Addition.TheVariants as addition
@@ -34,19 +34,27 @@ with_plan plan lists = record {
   disputes = lists.disputes;
 }
 
--- the lists have grown by this line, where it is none of the plan
+-- the lists have grown by this line behind the plan
 abbrev pub Adds : Lists → Lists → Placed → Said → Type 0
-Adds old new (OfPlan line) said = Unit {0}
 Adds old new placed said = (plan : Plan) → with_plan plan new ≡ added plan (with_plan plan old) placed said
+
+-- the line stands in the list of a race, or of one of its instances
+abbrev pub IsOfRace : Placed → Type 0
+IsOfRace (CodeCommitAt race entry digest) = Unit {0}
+IsOfRace (RowCommitAt race instance row left right) = Unit {0}
+IsOfRace (FlagsAt race instance from bits) = Unit {0}
+IsOfRace (PlacesAt race from bits) = Unit {0}
+IsOfRace (TotalAt race candidate count) = Unit {0}
+IsOfRace (RowAt race instance row opening) = Unit {0}
+IsOfRace placed = ⊥
 
 -- the record so far: no line behind the plan stands where there are no lists
 abbrev pub made_of : Plan → Option Lists → Record
 made_of plan None = blank plan
 made_of plan (Some lists) = with_plan plan lists
 
--- the record has grown by this line, where it is none of the plan
+-- the record has grown by this line behind the plan
 abbrev pub AddsTo : Plan → Option Lists → Option Lists → Placed → Said → Type 0
-AddsTo plan old new (OfPlan line) said = Unit {0}
 AddsTo plan old new placed said = made_of plan new ≡ added plan (made_of plan old) placed said
 
 -- what may stand next, and the record so far

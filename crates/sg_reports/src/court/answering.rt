@@ -3,7 +3,7 @@ ghost use Rattle.std.specs.Prelude.{◌≡◌, ◌⊎◌};
 ghost use Rattle.sg_outside.specs.Streams.{seen};
 ghost use Rattle.sg_reports.specs.court.Says.{OddsSays, RecountSays};
 
-use crate::court::judges::{Oddsmaker, Recounter};
+use crate::court::judges::{CourtJudge, Recounts, TellsOdds};
 use sg_driver::answer_on;
 use sg_outside::{Outcome, Sink, Source};
 use std::alloc::Global;
@@ -17,7 +17,7 @@ pub fn answer_recount<S: Source, O: Sink>(alloc: Global, input: &mut S, out: &mu
         (seen (O.written out.old) (O.faults out.old)) (seen (O.written out.new) (O.faults out.new)) }
     ensures quiet { (result ≡ Outcome.ReadFailed) ⊎ (result ≡ Outcome.NoMemory) → out.new ≡ out.old }
 {
-    answer_on::<Recounter, S, O>(alloc, input, out)
+    answer_on::<CourtJudge<Recounts>, S, O>(alloc, input, out)
 }
 
 /// Reads the same input, and writes the exponent of each race's odds; or the first row without a left or a right pointer of
@@ -27,5 +27,5 @@ pub fn answer_odds<S: Source, O: Sink>(alloc: Global, input: &mut S, out: &mut O
         (seen (O.written out.old) (O.faults out.old)) (seen (O.written out.new) (O.faults out.new)) }
     ensures quiet { (result ≡ Outcome.ReadFailed) ⊎ (result ≡ Outcome.NoMemory) → out.new ≡ out.old }
 {
-    answer_on::<Oddsmaker, S, O>(alloc, input, out)
+    answer_on::<CourtJudge<TellsOdds>, S, O>(alloc, input, out)
 }

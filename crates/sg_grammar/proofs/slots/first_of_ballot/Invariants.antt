@@ -1,4 +1,4 @@
-use Rattle.sg_grammar.specs.Spots.{LacksRaces}
+use Rattle.sg_grammar.specs.Coordinates.{LacksRaces}
 use Rattle.sg_grammar.proofs.slots.first_of_ballot.Given as goal
 
 abbrev pub invariant-loop-race : goal.invariant-loop-race

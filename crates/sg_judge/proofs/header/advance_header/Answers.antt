@@ -7,14 +7,15 @@ use Rattle.sg_judge.proofs.FirstSeal.{next_seal-plan}
 use Rattle.sg_judge.proofs.Placing.{good_plan, plan_step-before, step-falls}
 use Rattle.sg_judge.proofs.header.advance_header.Goals as goal
 use Rattle.sg_judge.specs.inside.Taking.{Stands}
-use Rattle.sg_grammar.proofs.Walking.{none_there, some_there}
+use Rattle.sg_grammar.proofs.Walking.{none_there, some_there, take_bytes-not_read}
 use Rattle.sg_grammar.specs.Head.{head_line}
 use Rattle.sg_grammar.specs.Walk.{take_line}
 use Rattle.sg_plan.specs.Limits.{fault_of}
 
 pub returns-in_default-clause-goes_on : goal.returns-in_default-clause-goes_on
 returns-in_default-clause-goes_on c = λ lines stands.
-    form_stops c.args.expect.now c.args.sealer.now None lines c.args.bytes.now stands (sym c.in_default.ensures.exact)
+    form_stops c.args.expect.now c.args.sealer.now None lines c.args.bytes.now stands
+    (take_bytes-not_read c.args.expect.now c.args.bytes.now (sym c.in_default.ensures.exact))
 
 pub returns-then-is_of_plan-clause-goes_on : goal.returns-then-is_of_plan-clause-goes_on
 returns-then-is_of_plan-clause-goes_on c = λ lines stands.

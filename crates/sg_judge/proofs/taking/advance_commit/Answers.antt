@@ -1,11 +1,14 @@
-use Rattle.std.proofs.Common.{Some, sym, ap}
-use Rattle.std.specs.Option.{is_some}
+use Rattle.std.proofs.Common.{Some, refl, sym, ◌∙◌}
 use Rattle.sg_forms.specs.Said.Said.{CodeCommit}
-use Rattle.sg_grammar.proofs.Walking.{read_next-not_taken}
 use Rattle.sg_judge.proofs.Advancing.{form_stops}
+use Rattle.sg_judge.proofs.Placing.{stands_there, take_bytes-spelled}
 use Rattle.sg_judge.proofs.taking.advance_commit.Goals as goal
 
 pub returns-in_default-clause-goes_on : goal.returns-in_default-clause-goes_on
 returns-in_default-clause-goes_on c = λ lines stands.
     form_stops c.args.expect.now c.args.sealer.now (Some c.args.ledger.now) lines c.args.bytes.now stands
-    (read_next-not_taken c.args.expect.now c.args.bytes.now (CodeCommit c.args.race c.args.digest) c.requires.read (ap is_some (sym c.in_default.ensures.taken)))
+    (take_bytes-spelled c.args.expect.now c.args.bytes.now (CodeCommit c.args.race c.args.digest) c.requires.read ∙ sym c.in_default.ensures.taken)
+
+pub advance_there-requires-clause-there : goal.advance_there-requires-clause-there
+advance_there-requires-clause-there c =
+    stands_there c.args.expect.now c.args.bytes.now (CodeCommit c.args.race c.args.digest) c.in-Some.standing _ c.requires.read c.in-Some.ensures.taken c.in-Some.ensures.within (c.in-Some.ensures.made refl) c.in-CodeCommit.is

@@ -2,7 +2,6 @@
 use Rattle.std.proofs.Common.{ap, sym, ◌∙◌}
 use Rattle.sg_forms.specs.Reading.{line_of}
 use Rattle.sg_forms.specs.Said.{said}
-use Rattle.sg_grammar.proofs.Walking.{none_there}
 use Rattle.sg_plan.specs.declared.plan.Plan.{Plan}
 use Rattle.sg_page.proofs.Picking.{found_behind, found_no_line, found_nowhere, found_of_plan}
 use Rattle.sg_page.proofs.walk.take_line.Goals as goal
@@ -25,5 +24,4 @@ returns-in_default-stand c =
 pub returns : goal.returns
 returns c =
     found_behind c.args.wanted c.args.expect.now c.go_on.new.self c.args.bytes.now (said c.in-Some.line) c.in-Some-stand.standing c.wants.result
-    (ap (λ (p : Plan). line_of p.version c.args.bytes.now) (sym c.plan.ensures.is) ∙ sym c.in-Some.ensures.exact) (none_there _ (sym c.is_of_plan.ensures ∙ c.if-is_of_plan.false))
-    (sym c.in-Some-stand.ensures.taken) c.go_on.ensures c.wants.ensures
+    (ap (λ (p : Plan). line_of p.version c.args.bytes.now) (sym c.plan.ensures.is) ∙ sym c.in-Some.ensures.exact) (sym c.in-Some-stand.ensures.taken) c.go_on.ensures c.wants.ensures
