@@ -1,5 +1,5 @@
 -- What holds of a line that may stand.
-use Rattle.std.proofs.Common.{◌≡◌, ℕ, ◌+◌, ◌*◌, ◌≤◌, Bool, ◌&&◌, ◌==◌, nat_lt, List, [], ◌∷◌, if◌then◌else◌, length, count_by, Option, Some, None, refl, arith, subst}
+use Rattle.std.proofs.Common.{◌≡◌, ℕ, ◌+◌, ◌*◌, ◌≤◌, Bool, ◌&&◌, ◌==◌, nat_lt, List, [], ◌∷◌, if◌then◌else◌, length, count_by, Option, Some, None, refl, arith, subst, sym, ◌∙◌}
 use Rattle.std.specs.Prelude.{IfSome}
 use Rattle.std.specs.Option.{option_map}
 use Rattle.std.proofs.lemmas.List.{length-append}
@@ -13,7 +13,12 @@ use Rattle.sg_forms.specs.Spelling.{IsInRange}
 use Rattle.sg_ledger.proofs.Laws.{totals_kept-tells}
 use Rattle.sg_ledger.specs.Tells.{HasDigits, totals_kept, totals_placed}
 use Rattle.sg_ledger.specs.declared.ledger.Ledger.{Ledger}
-use Rattle.sg_judge.specs.inside.Taking.{Stands}
+use Rattle.sg_judge.specs.inside.Taking.{Stands, StandsAt}
+use Rattle.sg_judge.proofs.Placing.{take_bytes-spelled}
+use Rattle.sg_commit.specs.declared.Digest.{Digest}
+use Rattle.sg_forms.specs.Reading.{line_of}
+use Rattle.sg_forms.specs.declared.line.RowOpening.{RowOpening}
+use Rattle.sg_grammar.specs.declared.body.Standing.{Standing}
 use Rattle.sg_plan.specs.Ballots.{ballot_has}
 use Rattle.sg_plan.specs.Limits.{most_claims}
 use Rattle.sg_plan.specs.declared.plan.Plan.{Plan}
@@ -25,7 +30,7 @@ use Rattle.sg_grammar.specs.Head.{Making, head_line, if_then}
 use Rattle.sg_grammar.specs.Left.{is_total_line}
 use Rattle.sg_grammar.specs.Lines.{placed_of}
 use Rattle.sg_grammar.specs.Placed.{Placed}
-use Rattle.sg_grammar.specs.Placed.Placed.{Begun, CodeAt, CodeCommitAt, Disputed, FlagsAt, OverAt, PaperAt, PlacesAt, RowCommitAt, SealAt, TotalAt}
+use Rattle.sg_grammar.specs.Placed.Placed.{Begun, CodeAt, CodeCommitAt, Disputed, FlagsAt, OverAt, PaperAt, PlacesAt, RowAt, RowCommitAt, SealAt, TotalAt, DrawnPublic}
 use Rattle.sg_grammar.specs.Walk.{Next, Taken, after_block, after_dispute, after_run, behind, body_line, first_taken, follows_in_order, headed, in_cast, is_column, is_later, is_race_left, place, take_at, take_bytes, take_line, taking, took}
 use Rattle.sg_grammar.specs.declared.state.Block.TheVariants as block
 use Rattle.sg_grammar.specs.declared.state.Head.{Head}
@@ -35,83 +40,130 @@ use Rattle.sg_grammar.specs.declared.state.Part.TheVariants as part
 use Rattle.sg_grammar.specs.declared.state.Slot.{Slot}
 use Rattle.sg_grammar.specs.declared.state.Slot.TheVariants as slot
 
--- DIGITS: the public bytes of a line that may stand are spelled as its form wants
+-- WHAT A LINE IN ITS PLACE SAYS: commitments, openings and public bytes are those of its words
 
-place-digits : (version : ℕ) (s : Slot) (said : Said) → IsInRange version said → IfSome (place s said) HasDigits
-place-digits version (slot.CodeCommit race entry) (CodeCommit named digest) fits = if_then_claim HasDigits (named == race) (CodeCommitAt race entry digest) (λ _. tt)
-place-digits version (slot.RowCommit race instance at) (RowCommit named of left right) fits = if_then_claim HasDigits (named == race && of == instance) (RowCommitAt race instance at left right) (λ _. tt)
-place-digits version (slot.Seal number) (Seal named digest) fits = if_then_claim HasDigits (named == number) (SealAt number digest) (λ _. tt)
-place-digits version (slot.Paper ballot race count) (Paper named list) fits = if_then_claim HasDigits (named == race && length list == count) (PaperAt ballot race list) (λ _. tt)
-place-digits version (slot.Code kind ballot race column) (Code code) fits = if_then_claim HasDigits (code.race == race && code.column == column) (CodeAt kind ballot race column code) (λ _. tt)
-place-digits version (slot.Flags race instance number count) (Flags named of bits) fits = if_then_claim HasDigits ((named == race && of == instance) && length bits == count) (FlagsAt race instance (64 * number) bits) (λ _. tt)
-place-digits version (slot.Places race number count) (Places named bits) fits = if_then_claim HasDigits (named == race && length bits == count) (PlacesAt race (64 * number) bits) (λ _. tt)
-place-digits version (slot.Total race candidate) (Total named of count) fits = if_then_claim HasDigits (named == race && of == candidate) (TotalAt race candidate count) (λ _. tt)
-place-digits version slot.Draw (DrawPublic digits) fits = fits
-place-digits version slot.Draw DrawFull fits = tt
-place-digits version (slot.Row race instance at) (Row opening) fits = tt
-place-digits version s said fits = tt
+abbrev pub IsSaid : Said → Placed → Type 0
+IsSaid said (CodeCommitAt race entry digest) = (named : ℕ) × (said ≡ CodeCommit named digest)
+IsSaid said (RowCommitAt race instance row left right) = (named of : ℕ) × (said ≡ RowCommit named of left right)
+IsSaid said (RowAt race instance row opening) = said ≡ Row opening
+IsSaid said (DrawnPublic digits) = said ≡ DrawPublic digits
+IsSaid said line = Unit {0}
+
+place-said : (s : Slot) (said : Said) → IfSome (place s said) (IsSaid said)
+place-said (slot.CodeCommit race entry) (CodeCommit named digest) = if_then_claim (IsSaid (CodeCommit named digest)) (named == race) (CodeCommitAt race entry digest) (λ _. (named, refl))
+place-said (slot.RowCommit race instance at) (RowCommit named of left right) =
+    if_then_claim (IsSaid (RowCommit named of left right)) (named == race && of == instance) (RowCommitAt race instance at left right) (λ _. (named, of, refl))
+place-said (slot.Seal number) (Seal named digest) = if_then_claim (IsSaid (Seal named digest)) (named == number) (SealAt number digest) (λ _. tt)
+place-said (slot.Paper ballot race count) (Paper named list) = if_then_claim (IsSaid (Paper named list)) (named == race && length list == count) (PaperAt ballot race list) (λ _. tt)
+place-said (slot.Code kind ballot race column) (Code code) = if_then_claim (IsSaid (Code code)) (code.race == race && code.column == column) (CodeAt kind ballot race column code) (λ _. tt)
+place-said (slot.Flags race instance number count) (Flags named of bits) = if_then_claim (IsSaid (Flags named of bits)) ((named == race && of == instance) && length bits == count) (FlagsAt race instance (64 * number) bits) (λ _. tt)
+place-said (slot.Places race number count) (Places named bits) = if_then_claim (IsSaid (Places named bits)) (named == race && length bits == count) (PlacesAt race (64 * number) bits) (λ _. tt)
+place-said (slot.Total race candidate) (Total named of count) = if_then_claim (IsSaid (Total named of count)) (named == race && of == candidate) (TotalAt race candidate count) (λ _. tt)
+place-said slot.Draw (DrawPublic digits) = refl
+place-said slot.Draw DrawFull = tt
+place-said (slot.Row race instance at) (Row opening) = refl
+place-said s said = tt
 
 -- so it is of a line that is taken
-abbrev FitsDigits : Taken → Type 0
-FitsDigits t = HasDigits t.placed
+abbrev TakesSaid : Said → Taken → Type 0
+TakesSaid said t = IsSaid said t.placed
 
-taking-digits : (plan : Plan) (due : List Slot) (may_begin : Part) (line : Option Placed) → IfSome line HasDigits → IfSome (taking plan due may_begin line) FitsDigits
-taking-digits plan due may_begin None fits = tt
-taking-digits plan due may_begin (Some line) fits = fits
+taking-said : (said : Said) (plan : Plan) (due : List Slot) (may_begin : Part) (line : Option Placed) → IfSome line (IsSaid said) → IfSome (taking plan due may_begin line) (TakesSaid said)
+taking-said said plan due may_begin None is = tt
+taking-said said plan due may_begin (Some line) is = is
 
 -- where it only begins
-begun-digits : (b : Bool) (line : Placed) (next : Next) → HasDigits line → IfSome (if_then b (took line next)) FitsDigits
-begun-digits b line next fits = if_then_claim FitsDigits b (took line next) (λ _. fits)
+begun-said : (said : Said) (b : Bool) (line : Placed) (next : Next) → IsSaid said line → IfSome (if_then b (took line next)) (TakesSaid said)
+begun-said said b line next is = if_then_claim (TakesSaid said) b (took line next) (λ _. is)
 
-first-digits : (plan : Plan) (version : ℕ) (due : List Slot) (said : Said) → IsInRange version said → IfSome (first_taken plan due said) FitsDigits
-first-digits plan version [] said fits = tt
-first-digits plan version (s ∷ due) said fits = taking-digits plan due (part.Disputes 0) (place s said) (place-digits version s said fits)
+first-said : (plan : Plan) (due : List Slot) (said : Said) → IfSome (first_taken plan due said) (TakesSaid said)
+first-said plan [] said = tt
+first-said plan (s ∷ due) said = taking-said said plan due (part.Disputes 0) (place s said) (place-said s said)
 
-block-digits : (plan : Plan) (version last : ℕ) (said : Said) → IsInRange version said → IfSome (after_block plan last said) FitsDigits
-block-digits plan version last (Cast ballot) fits = begun-digits (is_later plan last ballot) (Begun ballot) (behind plan [] (part.Cast ballot 0 0)) tt
-block-digits plan version last (Spoiled ballot) fits = begun-digits (is_later plan last ballot) (Begun ballot) (behind plan [] (part.Ballots ballot)) tt
-block-digits plan version last (Audited ballot) fits = begun-digits (is_later plan last ballot) (Begun ballot) (behind plan (due_audit plan ballot) (part.Ballots ballot)) tt
-block-digits plan version last (Voided ballot) fits = begun-digits (plan.version == 2 && is_later plan last ballot) (Begun ballot) (behind plan [] (part.Ballots ballot)) tt
-block-digits plan version last said fits = first-digits plan version (results plan) said fits
+block-said : (plan : Plan) (last : ℕ) (said : Said) → IfSome (after_block plan last said) (TakesSaid said)
+block-said plan last (Cast ballot) = begun-said (Cast ballot) (is_later plan last ballot) (Begun ballot) (behind plan [] (part.Cast ballot 0 0)) tt
+block-said plan last (Spoiled ballot) = begun-said (Spoiled ballot) (is_later plan last ballot) (Begun ballot) (behind plan [] (part.Ballots ballot)) tt
+block-said plan last (Audited ballot) = begun-said (Audited ballot) (is_later plan last ballot) (Begun ballot) (behind plan (due_audit plan ballot) (part.Ballots ballot)) tt
+block-said plan last (Voided ballot) = begun-said (Voided ballot) (plan.version == 2 && is_later plan last ballot) (Begun ballot) (behind plan [] (part.Ballots ballot)) tt
+block-said plan last said = first-said plan (results plan) said
 
-cast-digits : (plan : Plan) (version ballot race column : ℕ) (said : Said) → IsInRange version said → IfSome (in_cast plan ballot race column said) FitsDigits
-cast-digits plan version ballot race column (Code code) fits =
-    begun-digits (is_column plan ballot code.race code.column && follows_in_order race column code.race code.column) (CodeAt block.Cast ballot code.race code.column code) (behind plan [] (part.Cast ballot code.race (code.column + 1))) tt
-cast-digits plan version ballot race column (Over later) fits = begun-digits (is_race_left plan ballot race later) (OverAt ballot later) (behind plan [] (part.Cast ballot (later + 1) 0)) tt
-cast-digits plan version ballot race column said fits = block-digits plan version ballot said fits
+cast-said : (plan : Plan) (ballot race column : ℕ) (said : Said) → IfSome (in_cast plan ballot race column said) (TakesSaid said)
+cast-said plan ballot race column (Code code) =
+    begun-said (Code code) (is_column plan ballot code.race code.column && follows_in_order race column code.race code.column) (CodeAt block.Cast ballot code.race code.column code) (behind plan [] (part.Cast ballot code.race (code.column + 1))) tt
+cast-said plan ballot race column (Over later) = begun-said (Over later) (is_race_left plan ballot race later) (OverAt ballot later) (behind plan [] (part.Cast ballot (later + 1) 0)) tt
+cast-said plan ballot race column said = block-said plan ballot said
 
-dispute-digits : (plan : Plan) (count : ℕ) (said : Said) → IfSome (after_dispute plan count said) FitsDigits
-dispute-digits plan count (Dispute ballot race code word) =
-    begun-digits (nat_lt count most_claims && (nat_lt race (length plan.races) && ballot_has plan ballot race)) (Disputed ballot race code word) (behind plan (race_codes plan block.Dispute ballot race) (part.Disputes (count + 1))) tt
-dispute-digits plan count said = tt
+dispute-said : (plan : Plan) (count : ℕ) (said : Said) → IfSome (after_dispute plan count said) (TakesSaid said)
+dispute-said plan count (Dispute ballot race code word) =
+    begun-said (Dispute ballot race code word) (nat_lt count most_claims && (nat_lt race (length plan.races) && ballot_has plan ballot race)) (Disputed ballot race code word) (behind plan (race_codes plan block.Dispute ballot race) (part.Disputes (count + 1))) tt
+dispute-said plan count said = tt
 
-body-digits : (plan : Plan) (version : ℕ) (due : List Slot) (may_begin : Part) (said : Said) → IsInRange version said → IfSome (body_line plan due may_begin said) FitsDigits
-body-digits plan version (s ∷ due) may_begin said fits = taking-digits plan due may_begin (place s said) (place-digits version s said fits)
-body-digits plan version [] (part.Ballots last) said fits = block-digits plan version last said fits
-body-digits plan version [] (part.Cast ballot race column) said fits = cast-digits plan version ballot race column said fits
-body-digits plan version [] (part.Disputes count) said fits = dispute-digits plan count said
+body-said : (plan : Plan) (due : List Slot) (may_begin : Part) (said : Said) → IfSome (body_line plan due may_begin said) (TakesSaid said)
+body-said plan (s ∷ due) may_begin said = taking-said said plan due may_begin (place s said) (place-said s said)
+body-said plan [] (part.Ballots last) said = block-said plan last said
+body-said plan [] (part.Cast ballot race column) said = cast-said plan ballot race column said
+body-said plan [] (part.Disputes count) said = dispute-said plan count said
 
-made-digits : (said : Said) (making : Option Making) → IfSome (option_map (headed said) making) FitsDigits
-made-digits said None = tt
-made-digits said (Some making) = tt
+made-said : (said : Said) (making : Option Making) → IfSome (option_map (headed said) making) (TakesSaid said)
+made-said said None = tt
+made-said said (Some making) = tt
 
-run-digits : (plan : Plan) (version : ℕ) (said : Said) → IsInRange version said → IfSome (after_run plan said) FitsDigits
-run-digits plan version (Ballots style count) fits = made-digits (Ballots style count) (head_line plan head.Runs (Ballots style count))
-run-digits plan version said fits = body-digits plan version (commits plan) (part.Ballots 0) said fits
+run-said : (plan : Plan) (said : Said) → IfSome (after_run plan said) (TakesSaid said)
+run-said plan (Ballots style count) = made-said (Ballots style count) (head_line plan head.Runs (Ballots style count))
+run-said plan said = body-said plan (commits plan) (part.Ballots 0) said
 
-at-digits : (plan : Plan) (version : ℕ) (stage : Head) (due : List Slot) (may_begin : Part) (said : Said) → IsInRange version said → IfSome (take_at plan stage due may_begin said) FitsDigits
-at-digits plan version head.Whole due may_begin said fits = body-digits plan version due may_begin said fits
-at-digits plan version head.Runs due may_begin said fits = run-digits plan version said fits
-at-digits plan version stage due may_begin said fits = made-digits said (head_line plan stage said)
+at-said : (plan : Plan) (stage : Head) (due : List Slot) (may_begin : Part) (said : Said) → IfSome (take_at plan stage due may_begin said) (TakesSaid said)
+at-said plan head.Whole due may_begin said = body-said plan due may_begin said
+at-said plan head.Runs due may_begin said = run-said plan said
+at-said plan stage due may_begin said = made-said said (head_line plan stage said)
 
-line-digits : (next : Next) (said : Said) (t : Taken) → IsInRange next.plan.version said → take_line next said ≡ Some t → HasDigits t.placed
+line-said : (next : Next) (said : Said) (t : Taken) → take_line next said ≡ Some t → IsSaid said t.placed
 unfolding take_line
-line-digits next said t fits taken = subst (λ (o : Option Taken). IfSome o FitsDigits) taken (at-digits next.plan next.plan.version next.head next.due next.part said fits)
+line-said next said t taken = subst (λ (o : Option Taken). IfSome o (TakesSaid said)) taken (at-said next.plan next.head next.due next.part said)
+
+-- the line that the bytes spell
+pub taken-said : (next : Next) (bytes : List ℕ) (said : Said) (t : Taken) → line_of next.plan.version bytes ≡ Some said → take_bytes next bytes ≡ Some t → IsSaid said t.placed
+taken-said next bytes said t spelled taken = line-said next said t (sym (take_bytes-spelled next bytes said spelled) ∙ taken)
+
+-- public bytes are spelled as their form wants
+digits-said : (version : ℕ) (said : Said) (line : Placed) → IsInRange version said → IsSaid said line → HasDigits line
+digits-said version said (DrawnPublic digits) fits is = subst (IsInRange version) is fits
+digits-said version said line fits is = tt
 
 pub taken-digits : (next : Next) (bytes : List ℕ) (t : Taken) → take_bytes next bytes ≡ Some t → HasDigits t.placed
 taken-digits next bytes t taken =
     let line = take_bytes-line next bytes t taken in
-    line-digits next line.0 t (lines_are_spelled next.plan.version bytes line.0 line.1).0 line.2
+    digits-said next.plan.version line.0 t.placed (lines_are_spelled next.plan.version bytes line.0 line.1).0 (line-said next line.0 t line.2)
+
+-- A LINE OF WHICH A RECORD HAS MANY STANDS WITH WHAT ITS WORDS SAY
+
+same_row : (a b : RowOpening) → Row a ≡ Row b → b ≡ a
+same_row a b e = cc
+
+pub row_stands : (expect : Next) (bytes : List ℕ) (standing : Standing) (race instance row : ℕ) (opening told : RowOpening) → line_of expect.plan.version bytes ≡ Some (Row opening)
+    → StandsAt expect bytes standing (RowAt race instance row told) → StandsAt expect bytes standing (RowAt race instance row opening)
+row_stands expect bytes standing race instance row opening told spelled there =
+    subst (λ (o : RowOpening). StandsAt expect bytes standing (RowAt race instance row o)) (same_row opening told (taken-said expect bytes (Row opening) _ spelled there.taken)) there
+
+same_commits : (race instance named of : ℕ) (left right left' right' : Digest) → RowCommit race instance left right ≡ RowCommit named of left' right' → (left' ≡ left) × (right' ≡ right)
+same_commits race instance named of left right left' right' e = (cc, cc)
+
+pub commits_stand : (expect : Next) (bytes : List ℕ) (standing : Standing) (race instance row named of : ℕ) (left right left' right' : Digest) → line_of expect.plan.version bytes ≡ Some (RowCommit named of left right)
+    → StandsAt expect bytes standing (RowCommitAt race instance row left' right') → StandsAt expect bytes standing (RowCommitAt race instance row left right)
+commits_stand expect bytes standing race instance row named of left right left' right' spelled there =
+    let said = taken-said expect bytes (RowCommit named of left right) _ spelled there.taken in
+    let same = same_commits named of said.0 said.1 left right left' right' said.2 in
+    subst (λ (d : Digest). StandsAt expect bytes standing (RowCommitAt race instance row left d)) same.1
+    (subst (λ (d : Digest). StandsAt expect bytes standing (RowCommitAt race instance row d right')) same.0 there)
+
+same_commit : (race named : ℕ) (digest digest' : Digest) → CodeCommit race digest ≡ CodeCommit named digest' → digest' ≡ digest
+same_commit race named digest digest' e = cc
+
+pub commit_stands : (expect : Next) (bytes : List ℕ) (standing : Standing) (race entry named : ℕ) (digest digest' : Digest) → line_of expect.plan.version bytes ≡ Some (CodeCommit named digest)
+    → StandsAt expect bytes standing (CodeCommitAt race entry digest') → StandsAt expect bytes standing (CodeCommitAt race entry digest)
+commit_stands expect bytes standing race entry named digest digest' spelled there =
+    let said = taken-said expect bytes (CodeCommit named digest) _ spelled there.taken in
+    subst (λ (d : Digest). StandsAt expect bytes standing (CodeCommitAt race entry d)) (same_commit named said.0 digest digest' said.1) there
 
 -- TOTALS
 

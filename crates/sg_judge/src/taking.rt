@@ -110,21 +110,21 @@ fn advance_commits(
     ledger: &mut Ledger,
     seal: &mut Option<Digest>,
     bytes: &[u8],
-    row: RowCommitLine,
+    commits: RowCommitLine,
 ) -> Option<Kind>
     requires stands { StandsSome expect.old sealer.old (Some ledger.old) }
     requires behind { IsNoPlanLine expect.old bytes.now }
-    requires read { line_of expect.old.plan.version bytes.now ≡ Some (said_commits row) }
+    requires read { line_of expect.old.plan.version bytes.now ≡ Some (said_commits commits) }
     ensures goes_on { (lines : List (List ℕ)) → Stands expect.old sealer.old (Some ledger.old) lines → Advances result expect.new sealer.new (Some ledger.new) lines bytes.now }
     ensures seal { result ≡ None → seal.new ≡ or_seal seal.old (next_seal expect.old bytes.now) }
     ensures whole { result ≡ None → is_behind expect.new.head ≡ true }
     ensures falls { result ≡ None → lines_left expect.new < lines_left expect.old }
 {
     let line = Line::RowCommit {
-        race: row.race,
-        instance: row.instance,
-        left: row.left,
-        right: row.right,
+        race: commits.race,
+        instance: commits.instance,
+        left: commits.left,
+        right: commits.right,
     };
     let Some(standing) = expect.stand(&line) else {
         return Some(Kind::Form);
@@ -133,8 +133,7 @@ fn advance_commits(
         race,
         instance,
         row,
-        left,
-        right,
+        ..
     } = standing.line
     else {
         return advance_line(expect, sealer, ledger, seal, bytes, &line);
@@ -143,8 +142,8 @@ fn advance_commits(
         race,
         instance,
         row,
-        left,
-        right,
+        left: commits.left,
+        right: commits.right,
     };
     advance_there(expect, sealer, ledger, seal, bytes, standing, &there)
 }
@@ -174,7 +173,7 @@ fn advance_row(
         race,
         instance,
         row,
-        opening,
+        ..
     } = standing.line
     else {
         return advance_line(expect, sealer, ledger, seal, bytes, &line);
@@ -210,12 +209,7 @@ fn advance_commit(
     let Some(standing) = expect.stand(&line) else {
         return Some(Kind::Form);
     };
-    let PlacedLine::CodeCommit {
-        race,
-        entry,
-        digest,
-    } = standing.line
-    else {
+    let PlacedLine::CodeCommit { race, entry, .. } = standing.line else {
         return advance_line(expect, sealer, ledger, seal, bytes, &line);
     };
     let there = PlacedLine::CodeCommit {

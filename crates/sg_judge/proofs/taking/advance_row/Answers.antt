@@ -2,6 +2,7 @@ use Rattle.std.proofs.Common.{Some, refl, sym, ◌∙◌}
 use Rattle.sg_forms.specs.Said.Said.{Row}
 use Rattle.sg_judge.proofs.Advancing.{form_stops}
 use Rattle.sg_judge.proofs.Placing.{stands_there, take_bytes-spelled}
+use Rattle.sg_judge.proofs.Reading.{row_stands}
 use Rattle.sg_judge.proofs.taking.advance_row.Goals as goal
 
 pub returns-in_default-clause-goes_on : goal.returns-in_default-clause-goes_on
@@ -11,4 +12,5 @@ returns-in_default-clause-goes_on c = λ lines stands.
 
 pub advance_there-requires-clause-there : goal.advance_there-requires-clause-there
 advance_there-requires-clause-there c =
-    stands_there c.args.expect.now c.args.bytes.now (Row c.args.opening) c.in-Some.standing _ c.requires.read c.in-Some.ensures.taken c.in-Some.ensures.within (c.in-Some.ensures.made refl) c.in-Row.is
+    row_stands c.args.expect.now c.args.bytes.now c.in-Some.standing c.in-Row.race c.in-Row.instance c.in-Row.row c.args.opening c.in-Row.opening c.requires.read
+    (stands_there c.args.expect.now c.args.bytes.now (Row c.args.opening) c.in-Some.standing _ c.requires.read c.in-Some.ensures.taken c.in-Some.ensures.within (c.in-Some.ensures.made refl) c.in-Row.is)
