@@ -15,7 +15,8 @@ import sys
 
 CRATES = os.path.join(os.path.dirname(os.path.abspath(__file__)), "..", "crates")
 KNOWN = [
-    ("status 0 of audit", ["sg_check/Verdict.IsGood"]),
+    ("status 0 of audit", ["sg_fronts/ByRecords.IsYes"]),
+    ("the same by the walk over the lines", ["sg_check/Verdict.IsGood"]),
     ("headline with what each status of audit says", ["sg_app/Headline.Headline", "sg_reports/audit/Audit.AuditSays"]),
     ("all that run says", ["sg_app/Headline.Headline", "sg_app/Says.Ended"]),
 ]

@@ -32,7 +32,7 @@ pub record FrontWalk (next : Next) (lines : List (List ℕ)) (w : Walked) (count
   pub plan : (front.next.plan ≡ w.next.plan) ⊎ AreOfPlan (placed_of front.posted)
 
 -- a line behind which the plan may still change is one of the plan
-take_line-ends : (next : Next) (said : Said) (t : Taken) → take_line next said ≡ Some t → (t.next.head ≡ head.Whole) ⊎ (t.placed ≡ OfPlan said)
+pub take_line-ends : (next : Next) (said : Said) (t : Taken) → take_line next said ≡ Some t → (t.next.head ≡ head.Whole) ⊎ (t.placed ≡ OfPlan said)
 take_line-ends next said t e = by_head (head_line next.plan next.head said) refl
   where
     by_head : (o : Option Making) → head_line next.plan next.head said ≡ o → (t.next.head ≡ head.Whole) ⊎ (t.placed ≡ OfPlan said)
@@ -43,7 +43,8 @@ walk-one : (next : Next) (bytes : List ℕ) (t : Taken) (lines : List (List ℕ)
 unfolding walk
 walk-one next bytes t lines w taken on = rw (taken, on) refl
 
-front-walk : (next : Next) (lines : List (List ℕ)) (w : Walked) (count : ℕ) → walk next lines ≡ Some w → FrontWalk next lines w count
+-- and it is there for each number of first lines
+pub front-walk : (next : Next) (lines : List (List ℕ)) (w : Walked) (count : ℕ) → walk next lines ≡ Some w → FrontWalk next lines w count
 unfolding walk
 front-walk next lines w zero e = record { front = record { posted = []; next = next }; goes = refl; posted = refl; plan = inr tt }
 front-walk next [] w (suc count) e =

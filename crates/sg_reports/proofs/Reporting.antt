@@ -7,13 +7,13 @@ use Rattle.sg_outside.specs.declared.outcome.Outcome.{Outcome}
 use Rattle.sg_outside.specs.declared.outcome.Outcome.TheVariants as outcome
 use Rattle.sg_county.specs.Tally.{IsUnsettled}
 use Rattle.sg_driver.proofs.Starting.{took_nothing}
+use Rattle.sg_fronts.specs.ByRecords.{IsPlanFront}
 use Rattle.sg_words.specs.declared.command.Command.{Command}
 use Rattle.sg_words.specs.declared.command.Command.TheVariants as command
 use Rattle.sg_reports.proofs.Auditing.Judging.{none_of_plan}
 use Rattle.sg_reports.proofs.Counties.Judging.{none_unsettled}
 use Rattle.sg_reports.proofs.Courts.Taking.{none_unsettled as none_heard}
 use Rattle.sg_reports.specs.Reports.{IsReported, ReportSays, report_of}
-use Rattle.sg_reports.specs.audit.Audit.{AreOfPlan}
 use Rattle.sg_reports.specs.court.Heard.{IsUnsettled as IsUnheard}
 use Rattle.sg_reports.specs.declared.report.Report.{Report}
 use Rattle.sg_reports.specs.declared.report.Report.TheVariants.{Audit, Recount, Odds, County}
@@ -37,7 +37,7 @@ is_reported _ _ input input' out out' says reads writes = tt
 
 -- where memory was wanted, and nothing was done
 pub memory_reports : (report : Report) (input out : Seen) → ReportSays report outcome.NoMemory input input out out
-memory_reports Audit input out = record { taken = took_nothing AreOfPlan input.bytes none_of_plan; written = refl }
+memory_reports Audit input out = record { taken = took_nothing IsPlanFront input.bytes none_of_plan; written = refl }
 memory_reports Recount input out = record { taken = took_nothing IsUnheard input.bytes none_heard; written = refl }
 memory_reports Odds input out = record { taken = took_nothing IsUnheard input.bytes none_heard; written = refl }
 memory_reports County input out = record { taken = took_nothing IsUnsettled input.bytes none_unsettled; written = refl }

@@ -3,7 +3,7 @@ use Rattle.std.proofs.Common.{◌≡◌, ℕ, zero, suc, ◌+◌, ◌<◌, ◌�
 use Rattle.std.proofs.lemmas.Bool.{cases_lt}
 use Rattle.std.proofs.lemmas.List.{take-append-le}
 use Rattle.std.proofs.lemmas.Option.{none-some}
-use Rattle.std.specs.Prelude.{Option}
+use Rattle.std.specs.Prelude.{IfSome, Option}
 use Rattle.std.specs.List.{concat}
 use Rattle.std.specs.Io.KnownBytes.{Consumes}
 use Rattle.sg_outside.specs.TextLines.{AreLines, lines_of}
@@ -12,7 +12,6 @@ use Rattle.sg_check.specs.Verdict.{AreFine, IsVerdict, least_broken}
 use Rattle.sg_check.specs.declared.judged.Judged.TheVariants.{No}
 use Rattle.sg_check.specs.declared.judged.Kind.{Kind}
 use Rattle.sg_driver.specs.Taken.{TookOneMore, TookUpTo}
-use Rattle.sg_reports.specs.audit.Audit.{Judges}
 
 -- a no on fine lines and others names a line behind the fine ones
 number-behind : (done more : List (List ℕ)) (number : ℕ) (broken : Kind) → AreFine done → IsVerdict (done ++ more) (No number broken) → length done < number
@@ -40,7 +39,7 @@ taken-first bytes (Some left) done rest whole taken =
     (lines_of (rest ++ left), ap lines_of (taken ∙ append_assoc (concat done) rest left) ∙ lines_of-lines done (rest ++ left) whole)
 
 -- a no took little behind the line that it names
-pub no-read : (known now : Option (List ℕ)) (number : ℕ) (broken : Kind) → Judges known (No number broken) → TookOneMore AreFine known now → TookUpTo number known now
+pub no-read : (known now : Option (List ℕ)) (number : ℕ) (broken : Kind) → IfSome known (λ bytes. IsVerdict (lines_of bytes) (No number broken)) → TookOneMore AreFine known now → TookUpTo number known now
 no-read None now number broken judged took = record { front = took.up_to.front; taken = tt; few = tt }
 no-read (Some bytes) now number broken judged took =
     let done = took.took.done in

@@ -1,33 +1,28 @@
 -- How an audit ends.
-use Rattle.std.specs.Prelude.{◌≡◌, ℕ, false, List, Option, IfSome}
+use Rattle.std.specs.Prelude.{◌≡◌, ℕ, List, Option, IfSome}
 use Rattle.std.specs.Io.KnownBytes.{IsAtEnd}
 use Rattle.sg_outside.specs.Streams.{Seen}
 use Rattle.sg_outside.specs.TextLines.{lines_of}
 use Rattle.sg_outside.specs.declared.outcome.Outcome.{Outcome}
 use Rattle.sg_outside.specs.declared.outcome.Outcome.TheVariants as outcome
-use Rattle.sg_check.specs.Bounds.{IsSound}
-use Rattle.sg_check.specs.Verdict.{AreFine, IsVerdict}
 use Rattle.sg_check.specs.declared.judged.Judged.{Judged}
 use Rattle.sg_check.specs.declared.judged.Judged.TheVariants.{Yes, No}
 use Rattle.sg_check.specs.declared.judged.Kind.{Kind}
 use Rattle.sg_check.specs.declared.judged.Total.{Total}
 use Rattle.sg_driver.specs.Says.{Ends, Owing}
 use Rattle.sg_driver.specs.Taken.{TookLines, TookUnended, TookUpTo}
-use Rattle.sg_judge.specs.Pass.{is_behind_plan}
 use Rattle.sg_report.specs.Report.{report_of}
+use Rattle.sg_fronts.specs.ByRecords.{IsGoodFront, IsPlanFront, Says}
+use Rattle.sg_fronts.specs.Promised.{IsPromised}
 
--- where the source tells its bytes, this is the verdict on their lines
+-- where the source tells its bytes, the verdict says what holds of their lines
 abbrev pub Judges : Option (List ℕ) → Judged → Type 0
-Judges known judged = IfSome known (λ bytes. IsVerdict (lines_of bytes) judged)
+Judges known judged = IfSome known (λ bytes. Says judged (lines_of bytes))
 
 -- where the source tells its bytes, what a yes with these totals promises holds of their lines: the bound on altered rows,
 -- over every printing and every completion that opens no commitment twice
-abbrev pub AreSound : Option (List ℕ) → List Total → Type 0
-AreSound known totals = IfSome known (λ bytes. IsSound (lines_of bytes) totals)
-
--- fine lines, none of which stands behind the plan
-abbrev pub AreOfPlan : List (List ℕ) → Type 0
-AreOfPlan lines = AreFine lines × (is_behind_plan lines ≡ false)
+abbrev pub ArePromised : Option (List ℕ) → List Total → Type 0
+ArePromised known totals = IfSome known (λ bytes. IsPromised (lines_of bytes) totals)
 
 -- WHAT IS DUE
 
@@ -36,7 +31,7 @@ AreOfPlan lines = AreFine lines × (is_behind_plan lines ≡ false)
 pub record AnswersYes (text : List ℕ) (before now : Option (List ℕ)) : Type 0 where
   pub totals : List Total
   pub judged : Judges before (Yes totals)
-  pub sound : AreSound before totals
+  pub promised : ArePromised before totals
   pub read : IsAtEnd now
   pub text_is : text ≡ report_of (Yes totals)
 
@@ -53,7 +48,7 @@ AuditDue outcome.Done text before now = AnswersYes text before now
 AuditDue outcome.No text before now = AnswersNo text before now
 AuditDue _ text before now = ⊥
 
--- how an audit ended: what is due was written; a read failed, behind fine lines; a write failed; or memory was wanted, behind fine
--- lines of the plan; there is no other end
+-- how an audit ended: what is due was written; a read failed, behind lines with which a record begins, none of them bad; a write
+-- failed; or memory was wanted, behind such lines of its plan; there is no other end
 abbrev pub AuditSays : Outcome → Seen → Seen → Seen → Seen → Type 0
-AuditSays = Ends AuditDue (TookUnended AreFine) (TookLines AreOfPlan)
+AuditSays = Ends AuditDue (TookUnended IsGoodFront) (TookLines IsPlanFront)

@@ -1,24 +1,14 @@
 -- What the status of `audit` promises of the lines of the bytes that it read.
-use Rattle.std.specs.Prelude.{◌≡◌, ◌⊎◌, ℕ, true, false, List}
+use Rattle.std.specs.Prelude.{◌≡◌, ◌⊎◌, ℕ, List}
 use Rattle.std.specs.Io.KnownBytes.{Appends}
 use Rattle.sg_outside.specs.Faults.{Rose}
 use Rattle.sg_outside.specs.Streams.{Seen}
-use Rattle.sg_check.specs.Bounds.{IsSound}
-use Rattle.sg_check.specs.Verdict.{are_whole, breaks, totals_of}
+use Rattle.sg_record.specs.declared.record.Record.{Record}
 use Rattle.sg_check.specs.declared.judged.Judged.TheVariants.{Yes}
-use Rattle.sg_check.specs.declared.judged.Kind.{Kind}
-use Rattle.sg_check.specs.declared.judged.Kind.TheVariants as kind
 use Rattle.sg_check.specs.declared.judged.Total.{Total}
 use Rattle.sg_report.specs.Report.{report_of}
-
--- the lines are a whole record whose openings match their commitments and whose opened halves agree
-pub record IsWholeAndAgrees (lines : List (List ℕ)) : Type 0 where
-  -- a whole record
-  pub whole : are_whole lines ≡ true
-  -- whose openings match their commitments
-  pub openings : breaks kind.Opening lines ≡ false
-  -- and whose opened halves agree: no line is bad in any kind
-  pub agree : (k : Kind) → breaks k lines ≡ false
+use Rattle.sg_fronts.specs.ByRecords.{totals_on}
+use Rattle.sg_fronts.specs.Promised.{IsBound, IsWholeAndAgrees}
 
 -- The answer is yes (0) with these totals, and its report was written. Only these keep it back: a read failed (3), and the
 -- input's count of faults rose; a write failed (4), and the output's count rose; memory was wanted (9).
@@ -33,8 +23,8 @@ IsAnsweredYes totals status input input' out out' =
 pub record Promise (lines : List (List ℕ)) (status : ℕ) (input input' out out' : Seen) : Type 0 where
   -- `audit` answers yes exactly when the bytes read are a whole record whose openings match their commitments and whose
   -- opened halves agree;
-  pub yes : status ≡ 0 → IsWholeAndAgrees lines
-  pub exactly : IsWholeAndAgrees lines → IsAnsweredYes (totals_of lines) status input input' out out'
+  pub yes : status ≡ 0 → (posted : Record) × IsWholeAndAgrees lines posted
+  pub exactly : (posted : Record) → IsWholeAndAgrees lines posted → IsAnsweredYes (totals_on posted) status input input' out out'
   -- then, for every printing and every completion that opens no commitment twice, each R instance has at least as many rows
   -- altered in their unopened halves as any posted total of its race differs from the count of posted codes
-  pub bound : status ≡ 0 → IsSound lines (totals_of lines)
+  pub bound : status ≡ 0 → (posted : Record) → IsWholeAndAgrees lines posted → IsBound posted (totals_on posted)

@@ -1,4 +1,5 @@
 -- What the judges of the lines of an input answer, and how that ends the command.
+use Rattle.std.specs.Prelude.{◌≡◌, ℕ, false, List}
 use Rattle.sg_outside.specs.declared.outcome.Outcome.{Outcome}
 use Rattle.sg_outside.specs.declared.outcome.Outcome.TheVariants as outcome
 use Rattle.sg_check.specs.Verdict.{AreFine, IsNo, IsVerdict}
@@ -9,9 +10,13 @@ use Rattle.sg_county.specs.Tally.{IsRefusal, IsUnsettled}
 use Rattle.sg_county.specs.declared.verdict.CountyVerdict.{CountyVerdict}
 use Rattle.sg_county.specs.declared.verdict.CountyVerdict.TheVariants.{Yes, No, Differs, Repeats, Parts}
 use Rattle.sg_driver.specs.Judging.{Judging}
+use Rattle.sg_judge.specs.Pass.{is_behind_plan}
 use Rattle.sg_report.specs.Report.{report_of as verdict_report}
-use Rattle.sg_reports.specs.audit.Audit.{AreOfPlan}
 use Rattle.sg_reports.specs.county.Report.{report_of as county_report}
+
+-- fine lines, none of which stands behind the plan
+abbrev pub AreOfPlan : List (List ℕ) → Type 0
+AreOfPlan lines = AreFine lines × (is_behind_plan lines ≡ false)
 
 -- `audit`: the verdict on the lines. Some of them may settle a no, whatever follows, and fine lines settle nothing. Memory may be
 -- wanted behind fine lines of the plan.
