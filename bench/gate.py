@@ -4,10 +4,12 @@
     gate.py [WORD..]        (at the top of the repository; the words are handed to `rt ci`)
 
 What the gate prints goes to standard error. Every two seconds the processes of the checker are looked at, so what lives
-shorter is missed; what was kept from an earlier run costs nothing and has no line. Ends with the status of the gate.
+shorter is missed; what was kept from an earlier run costs nothing and has no line. Ends with the status of the gate. Where it
+is interrupted or ended by a signal, it ends the gate and prints what was seen so far.
 """
 import collections
 import os
+import signal
 import subprocess
 import sys
 import time
@@ -70,6 +72,8 @@ def table(seen):
 def main():
     begun, seen = time.time(), {}
     gate = subprocess.Popen(["rt", "ci", *sys.argv[1:]], stdout=sys.stderr)
+    for number in (signal.SIGINT, signal.SIGTERM):
+        signal.signal(number, lambda *_: gate.terminate())
     while gate.poll() is None:
         look(gate.pid, seen)
         time.sleep(2)
