@@ -20,7 +20,7 @@ import subprocess
 import sys
 import tempfile
 
-from parts import CRATE, bytes_of, input_of, put, told_of
+from parts import bytes_of, crate_of, input_of, put, told_of
 
 HERE = os.path.dirname(os.path.abspath(__file__))
 PART = "records"
@@ -135,7 +135,7 @@ def check():
 
 def make():
     stream, text = wanted()
-    with open(os.path.join(CRATE, "data", PART), "wb") as file:
+    with open(os.path.join(crate_of(PART), "data", PART), "wb") as file:
         file.write(stream)
     put(PART, text.encode("ascii"))
     return 0

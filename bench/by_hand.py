@@ -1,5 +1,5 @@
 #!/usr/bin/env python3
-"""Steps for the part `offices` of crates/cases whose inputs were written by hand, with what must come by the rules.
+"""Steps for the part `offices` of crates/office_cases whose inputs were written by hand, with what must come by the rules.
 
     by_hand.py STDIN STDOUT        (in this folder)
 

@@ -3,7 +3,7 @@
 
     county.py STDIN STDOUT        (in this folder)
 
-appends steps of the part `offices` of crates/cases to STDIN, and to STDOUT the lines that say what must come
+appends steps of the part `offices` of crates/office_cases to STDIN, and to STDOUT the lines that say what must come
 (parts.py writes and puts those of the crate). The parts are
 the smallest record of examples/first with other names, its seals made anew, and records of made-up elections.
 """

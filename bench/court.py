@@ -3,7 +3,7 @@
 
     court.py STDIN STDOUT        (in this folder)
 
-appends steps of the part `offices` of crates/cases to STDIN, and to STDOUT the lines that say what must come
+appends steps of the part `offices` of crates/office_cases to STDIN, and to STDOUT the lines that say what must come
 (parts.py writes and puts those of the crate). The records
 are those of office.py. What must come is counted here from the definitions: which rows are altered, how many posted
 codes a printing has beside a candidate, how far a candidate's total is from the marks that a completion leads to it. Of

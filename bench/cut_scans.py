@@ -1,5 +1,5 @@
 #!/usr/bin/env python3
-"""Steps for the part `offices` of crates/cases: a scanner's file that is cut at every 97th byte, and then comes again whole.
+"""Steps for the part `offices` of crates/office_cases: a scanner's file that is cut at every 97th byte, and then comes again whole.
 
     cut_scans.py NAME ELECTION.json FILE.csv STDIN STDOUT
 

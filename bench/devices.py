@@ -1,5 +1,5 @@
 #!/usr/bin/env python3
-"""Input of the part `devices` of crates/cases, and what must come of `scans`, `openings`, `recount`, `odds` and
+"""Input of the part `devices` of crates/office_cases, and what must come of `scans`, `openings`, `recount`, `odds` and
 `county` there.
 
     devices.py STDIN        (in this folder)

@@ -1,8 +1,8 @@
 #!/usr/bin/env python3
 """Inputs of `odds` about small offices whose posted totals are wrong, with the exponents that must come out.
 
-    exponents.py                  counts, says what it counted, and looks whether the steps stand in crates/cases
-    exponents.py STDIN STDOUT     counts, and appends steps of the part `offices` of crates/cases to STDIN, and to STDOUT
+    exponents.py                  counts, says what it counted, and looks whether the steps stand in crates/office_cases
+    exponents.py STDIN STDOUT     counts, and appends steps of the part `offices` of crates/office_cases to STDIN, and to STDOUT
                                   the lines that say what must come (parts.py writes and puts those of the crate)
 
 The exponents stand here with each election, and no line of the program is run. Each is borne out twice:
@@ -317,7 +317,7 @@ def main():
             with open(path, "ab") as file:
                 file.write(text)
     elif into not in input_of("offices") or told not in told_of("offices"):
-        sys.exit("other steps stand in crates/cases")
+        sys.exit("other steps stand in crates/office_cases")
 
 
 if __name__ == "__main__":

@@ -1,6 +1,7 @@
 #!/usr/bin/env bash
 # Tries what the program does with its file: changed bytes, folders and disks that are no good, a second program, an empty folder,
-# modes, and sqlite3 beside it. Each status and each cause must be as is said here.
+# modes, and sqlite3 beside it, which must find the file whole, with the rows that Python's sqlite3 writes. Each status and each
+# cause must be as is said here.
 #
 #   bench/file.sh [PROGRAM [TIMES [FOLDER]]]      (at the top of the repository; 1,000 changed bytes; the files lie in FOLDER, else
 #                                                  in /tmp. As root it also mounts a small disk, and works as nobody)
@@ -11,6 +12,7 @@ program=${1:-crates/sg_main/out/sg_main}
 program=$(realpath "$program")
 times=${2:-1000}
 changes="python3 $PWD/bench/file.py"
+asker="python3 $PWD/bench/do.py"
 club=$PWD/examples/club
 folder=$(mktemp -d -p "${3:-/tmp}") || exit 1
 server=
@@ -162,6 +164,20 @@ if [ -n "$(command -v sqlite3)" ]; then
     expect "the setup" "$(sed '/^ballots/q' "$club/club.record" | head -1)" "$(sqlite3 office.db 'SELECT body FROM setup' | head -1)"
     expect "the acts" "$(sqlite3 office.db 'SELECT count(*) FROM done')" "$(sed -n 's/.*"status":200}.*/x/p' "$club/club.replies" | wc -l | awk '{ print $1 }')"
     expect "the record behind it" "$(sha256sum < "$club/club.record")" "$("$program" record | sha256sum)"
+
+    rows() { # FOLDER: all rows of its office.db but the setup
+        for table in "ballot ORDER BY number" "done ORDER BY station, number" stage claim voided; do
+            sqlite3 "$1/office.db" "SELECT * FROM $table"
+        done
+    }
+    empty rows
+    $asker election 1000 > election.json
+    $asker asks 1000 > asks
+    "$program" init < election.json > /dev/null
+    "$program" do < asks > replies
+    mkdir python
+    (cd python && $asker do ../election.json < ../asks > replies)
+    expect "1,000 scans" "2000 rows, as Python's sqlite3 writes them" "$(rows . | wc -l) rows$(cmp -s <(rows .) <(rows python) && echo ", as Python's sqlite3 writes them")"
 fi
 echo "$wrong wrong"
 [ $wrong = 0 ]

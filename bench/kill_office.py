@@ -3,15 +3,19 @@ kills.
 
     kill_office.py PROGRAM TIMES FOLDER [SEED]
 
-`do` and `serve` are killed by SIGKILL, TIMES in all, and `init` beside them. Behind each kill the office is asked on from the first ask that
-was not answered, with some acts in front of it that were. Each reply must be that of the run without kills, and so must
-`record` and `sheet` when all is answered. FOLDER is where the files lie; it must be there, and be empty.
+`do` and `serve` are killed by SIGKILL, TIMES in all, and `init` beside them. Behind each kill Python's sqlite3 must find a copy of
+the file whole, with each act that was answered and none by half. The office is asked on from the first ask that was not
+answered, with some acts in front of it that were. Each reply must be that of the run without kills, and so must `record` and
+`sheet` when all is answered. FOLDER is where the files lie; it must be there, and be empty.
 """
+import contextlib
 import json
 import os
 import random
+import shutil
 import signal
 import socket
+import sqlite3
 import subprocess
 import sys
 import threading
@@ -165,6 +169,17 @@ class Office:
         self.unanswered += answered < len(self.lines)
         return answered
 
+    def look(self, answered):
+        """Looks into a copy of the file: each act has a row in `done`, and one in the table of its kind."""
+        for name in ("office.db", "office.db-wal"):
+            shutil.copy(name, "copy-" + name)
+        with contextlib.closing(sqlite3.connect("copy-office.db")) as file:
+            found = lambda asked: file.execute(asked).fetchone()[0]
+            said = found("PRAGMA integrity_check")
+            done, *rows = (found("SELECT count(*) FROM " + table) for table in ("done", "ballot", "stage", "claim", "voided"))
+        due = sum(at < answered for at in self.accepted)
+        self.expect("the file behind %d answered acts" % due, ("ok", done, True), (said, sum(rows), done >= due))
+
     def round(self, way, longest):
         """A whole day with kills."""
         self.anew()
@@ -172,6 +187,7 @@ class Office:
         answered = 0
         while answered < len(self.lines):
             answered = way(answered, longest)
+            self.look(answered)
         self.expect("the record", self.record, run(self.program, "record"))
         self.expect("the sheet", self.sheet, run(self.program, "sheet"))
 

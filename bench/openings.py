@@ -1,5 +1,5 @@
 #!/usr/bin/env python3
-"""Steps for the part `offices` of crates/cases: what a court is handed, `openings`, at each stage of offices that are made up.
+"""Steps for the part `offices` of crates/office_cases: what a court is handed, `openings`, at each stage of offices that are made up.
 
     openings.py STDIN STDOUT        (in this folder)
 

@@ -1,15 +1,16 @@
 #!/usr/bin/env python3
-"""What crates/cases must print of each of its parts: in its file `stdout`, after a line with two equals signs and the part's name.
+"""What the programs of cases, crates/cases and crates/office_cases, must print of each of their parts: in the file `stdout`, after a line
+with two equals signs and the part's name.
 
     parts.py PART            writes what must be printed of the part
     parts.py PART FILE       puts what FILE has in its place
 
-The input of the part is the file crates/cases/data/PART.
+The input of the part is the file data/PART of its crate.
 """
 import os
 import sys
 
-CRATE = os.path.join(os.path.dirname(os.path.abspath(__file__)), "..", "crates", "cases")
+CRATES = os.path.join(os.path.dirname(os.path.abspath(__file__)), "..", "crates")
 HEAD = b"== "
 
 
@@ -18,15 +19,23 @@ def bytes_of(*path):
         return file.read()
 
 
+def crate_of(part):
+    """The folder of the crate that plays a part."""
+    for name in ("cases", "office_cases"):
+        if os.path.exists(os.path.join(CRATES, name, "data", part)):
+            return os.path.join(CRATES, name)
+    sys.exit("no part has the name " + part)
+
+
 def input_of(part):
     """The input of a part."""
-    return bytes_of(CRATE, "data", part)
+    return bytes_of(crate_of(part), "data", part)
 
 
-def all_told():
-    """What must be printed of each part, in the order in which they are played."""
+def all_told(crate):
+    """What a crate must print of each part, in the order in which they are played."""
     told = {}
-    for line in bytes_of(CRATE, "stdout").splitlines(keepends=True):
+    for line in bytes_of(crate, "stdout").splitlines(keepends=True):
         if line.startswith(HEAD):
             part = line[len(HEAD) :].decode().strip()
             told[part] = b""
@@ -37,16 +46,15 @@ def all_told():
 
 def told_of(part):
     """What must be printed of a part."""
-    return all_told()[part]
+    return all_told(crate_of(part))[part]
 
 
 def put(part, text):
     """Puts this text in its place."""
-    told = all_told()
-    if part not in told:
-        sys.exit("no part has the name " + part)
+    crate = crate_of(part)
+    told = all_told(crate)
     told[part] = text
-    with open(os.path.join(CRATE, "stdout"), "wb") as file:
+    with open(os.path.join(crate, "stdout"), "wb") as file:
         for name, of_part in told.items():
             file.write(HEAD + name.encode() + b"\n" + of_part)
 

@@ -1,11 +1,8 @@
-"""The keeper's work by Python's sqlite3: the same statements, write-ahead log and full sync, in ./office.db.
+"""The keeper's statements, write-ahead log and full sync by Python's sqlite3, in ./office.db.
 
-    store.py make COUNT     makes the tables, begins, and commits COUNT scans
-    store.py load           loads all rows, ordered
-    store.py fill COUNT     as make, in one transaction
+    store.py        loads all rows, ordered
 """
 import sqlite3
-import sys
 
 TABLES = """
 CREATE TABLE IF NOT EXISTS setup (id INTEGER PRIMARY KEY CHECK (id = 1), body TEXT NOT NULL) STRICT;
@@ -35,33 +32,11 @@ def opened():
     return connection
 
 
-def commit(connection, ballot, is_whole):
-    if is_whole:
-        connection.execute("BEGIN")
-    connection.execute(
-        "INSERT INTO ballot (number, fate, detail) VALUES (?1, ?2, ?3)", (ballot, 1, "0:0 1:2")
-    )
-    connection.execute(
-        "INSERT INTO done (station, number, act) VALUES (?1, ?2, ?3)", (ballot % 4, ballot, "scan 1 0:0 1:2")
-    )
-    if is_whole:
-        connection.execute("COMMIT")
-
-
-def main(task, count):
+def main():
     connection = opened()
-    if task == "load":
-        lists = [connection.execute(selection).fetchall() for selection in SELECTIONS]
-        print(f"{len(lists[1])} ballots, {len(lists[4])} done")
-        return
-    connection.execute("INSERT INTO setup (id, body) VALUES (1, ?1)", ("setup",))
-    if task == "fill":
-        connection.execute("BEGIN")
-    for ballot in range(1, count + 1):
-        commit(connection, ballot, task == "make")
-    if task == "fill":
-        connection.execute("COMMIT")
+    lists = [connection.execute(selection).fetchall() for selection in SELECTIONS]
+    print(f"{len(lists[1])} ballots, {len(lists[4])} done")
 
 
 if __name__ == "__main__":
-    main(sys.argv[1], int(sys.argv[2]) if len(sys.argv) > 2 else 0)
+    main()

@@ -26,9 +26,3 @@ pub(crate) fn size_of(digits: &[u8]) -> Option<usize> {
     let text = std::str::from_utf8(digits).ok()?;
     text.parse::<usize>().ok()
 }
-
-/// The number that a word of a row spells.
-pub(crate) fn number_of(word: &[u8]) -> Option<i64> {
-    let text = std::str::from_utf8(word).ok()?;
-    text.parse::<i64>().ok()
-}

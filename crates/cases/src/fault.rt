@@ -1,18 +1,17 @@
 //! Why cases were not played to their end.
 ghost use Rattle.std.specs.Prelude.{◌≡◌};
 
-use sg_keeper::KeepFault;
 use std::alloc::{AllocError, AllocFailed};
-use std::{fmt, io};
+use std::io;
 
 /// Why cases were not played to their end.
 #[derive(Debug, Drop)]
 pub(crate) enum Fault {
     /// An input has not the form that its reader tells.
     Input,
-    /// What a case begins with cannot be made: a record with a text, a story that is posted, or a keeper of these rows.
+    /// What a case begins with cannot be made: a record with a text, or a story that is posted.
     Case,
-    /// A file was not read, the output or a load of rows failed, or memory was wanted.
+    /// A file was not read, the output failed, or memory was wanted.
     Outside,
 }
 
@@ -43,12 +42,6 @@ impl From<sg_outside::NoMemory> for Fault {
     }
 }
 
-impl From<KeepFault> for Fault {
-    fn from(_: KeepFault) -> Fault {
-        Fault::Outside
-    }
-}
-
 impl From<AllocError> for Fault {
     fn from(_: AllocError) -> Fault {
         Fault::Outside
@@ -57,12 +50,6 @@ impl From<AllocError> for Fault {
 
 impl<T: Drop> From<AllocFailed<T>> for Fault {
     fn from(_: AllocFailed<T>) -> Fault {
-        Fault::Outside
-    }
-}
-
-impl From<fmt::Error> for Fault {
-    fn from(_: fmt::Error) -> Fault {
         Fault::Outside
     }
 }

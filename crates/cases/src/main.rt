@@ -1,27 +1,18 @@
-//! Plays cases of which another implementation, or a reading of the rules, says what must come, and prints what comes.
+//! Plays cases of records, of what is posted and of samples, of which another implementation, or a reading of the rules, says
+//! what must come, and prints what comes. The cases of an office's commands, devices and rows are those of `office_cases`.
 //!
 //! Each part has its input in a file of its own, in the folder that the program runs in. Behind a line with the part's
 //! name stands what comes of it. Where something else must come, most parts say so in a line. A word after the program's
 //! name is that of the one part to play; without one, all are played.
 #![tactic(auto)]
 
-mod asks;
-mod commands;
-mod connections;
 mod cutting;
-mod devices;
 mod digest;
 mod fault;
-mod office;
-mod offices;
-mod opened;
 mod posted;
 mod posting;
 mod records;
-mod rows;
 mod samples;
-mod steps;
-mod stores;
 
 use crate::fault::Fault;
 use std::alloc::Global;
@@ -34,49 +25,21 @@ use std::{env, fs};
 enum Part {
     /// Records are audited.
     Records,
-    /// The commands take the steps of elections over keepers in memory.
-    Offices,
-    /// The same over databases in memory.
-    Stores,
     /// Records are posted again.
     Posted,
     /// Samples are run, and posted again.
     Samples,
-    /// Kept rows are opened.
-    Opened,
-    /// Each call of each device fails in turn.
-    Devices,
-    /// Offices are asked.
-    Asks,
-    /// Connections are served.
-    Connections,
 }
 
 /// All parts, in the order in which they are played.
-const PARTS: [Part; 9] = [
-    Part::Records,
-    Part::Offices,
-    Part::Stores,
-    Part::Posted,
-    Part::Samples,
-    Part::Opened,
-    Part::Devices,
-    Part::Asks,
-    Part::Connections,
-];
+const PARTS: [Part; 3] = [Part::Records, Part::Posted, Part::Samples];
 
 /// The name of a part, and of the file of its input.
 fn name_of(part: Part) -> &'static str {
     match part {
         Part::Records => "records",
-        Part::Offices => "offices",
-        Part::Stores => "stores",
         Part::Posted => "posted",
         Part::Samples => "samples",
-        Part::Opened => "opened",
-        Part::Devices => "devices",
-        Part::Asks => "asks",
-        Part::Connections => "connections",
     }
 }
 
@@ -84,14 +47,8 @@ fn name_of(part: Part) -> &'static str {
 fn tell<W: Write>(alloc: Global, part: Part, input: &[u8], out: &mut W) -> Result<(), Fault> {
     match part {
         Part::Records => records::tell(alloc, input, out),
-        Part::Offices => offices::tell(alloc, input, out),
-        Part::Stores => stores::tell(alloc, input, out),
         Part::Posted => posted::tell(alloc, input, out),
         Part::Samples => samples::tell(alloc, input, out),
-        Part::Opened => opened::tell(alloc, input, out),
-        Part::Devices => devices::tell(alloc, input, out),
-        Part::Asks => asks::tell(alloc, input, out),
-        Part::Connections => connections::tell(alloc, input, out),
     }
 }
 

@@ -1,14 +1,13 @@
-//! Works that scripts time, kill or starve. The first word names the kind of work, the second the work, and up to three
+//! Works that scripts time. The first word names the kind of work, the second the work, and up to three
 //! numbers follow.
 //!
-//! With the word `each` alone a small work of each kind is done, but of the keeper over a file, whose words are said.
+//! With the word `each` alone a small work of each kind is done.
 #![tactic(auto)]
 
 mod lines;
 mod office;
 mod post;
 mod stop;
-mod store;
 mod streams;
 mod tables;
 mod task;
@@ -26,8 +25,6 @@ enum Kind {
     Office,
     /// An election is posted.
     Post,
-    /// A keeper over a file commits and loads.
-    Store,
     /// Streams are drawn from a seed.
     Streams,
     /// An office's tables are made.
@@ -40,7 +37,6 @@ fn kind_of(word: &str) -> Option<Kind> {
         "lines" => Some(Kind::Lines),
         "office" => Some(Kind::Office),
         "post" => Some(Kind::Post),
-        "store" => Some(Kind::Store),
         "streams" => Some(Kind::Streams),
         "tables" => Some(Kind::Tables),
         _ => None,
@@ -53,14 +49,13 @@ fn measure(rt: &HostRuntime, kind: Kind, task: Task<'_>) -> Result<(), Stop> {
         Kind::Lines => lines::measure(rt, task),
         Kind::Office => office::measure(rt, task),
         Kind::Post => post::measure(rt, task),
-        Kind::Store => store::measure(rt, task),
         Kind::Streams => streams::measure(rt, task),
         Kind::Tables => tables::measure(rt, task),
     }
 }
 
-/// A small work of each kind: of the keeper over a file none.
-const EACH: [(Kind, Task<'static>); 6] = [
+/// A small work of each kind.
+const EACH: [(Kind, Task<'static>); 5] = [
     (
         Kind::Lines,
         Task {
@@ -80,13 +75,6 @@ const EACH: [(Kind, Task<'static>); 6] = [
         Task {
             word: "make",
             numbers: [2, 10, 0],
-        },
-    ),
-    (
-        Kind::Store,
-        Task {
-            word: "",
-            numbers: [0, 0, 0],
         },
     ),
     (
@@ -119,7 +107,7 @@ fn act(rt: &HostRuntime, first: &str, task: Task<'_>) -> Result<(), Stop> {
         Some(kind) => measure(rt, kind, task),
         None if first == "each" => measure_all(rt, &EACH),
         None => Ok(println!(rt;
-            "usage: measures lines|office|post|store|streams|tables WORK NUMBER.. | each"
+            "usage: measures lines|office|post|streams|tables WORK NUMBER.. | each"
         )?),
     }
 }

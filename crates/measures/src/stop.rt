@@ -1,8 +1,6 @@
 //! What stops a work.
-use sg_keeper::KeepFault;
 use sg_office::OpenFault;
 use sg_plan::NoMemory;
-use sqlite::Error;
 use std::alloc::AllocError;
 use std::{fmt, io};
 
@@ -15,10 +13,6 @@ pub(crate) enum Stop {
     Rows,
     /// A line of the record may not stand where it does, or was written as other bytes.
     Line,
-    /// The file was not opened.
-    Open,
-    /// The keeper refused a call.
-    Refused(KeepFault),
     /// There is no memory.
     NoMemory,
     /// The input, the output or the clock failed.
@@ -49,24 +43,12 @@ impl From<fmt::Error> for Stop {
     }
 }
 
-impl From<KeepFault> for Stop {
-    fn from(fault: KeepFault) -> Stop {
-        Stop::Refused(fault)
-    }
-}
-
 impl From<OpenFault> for Stop {
     fn from(fault: OpenFault) -> Stop {
         match fault {
             OpenFault::NoMemory => Stop::NoMemory,
             _ => Stop::Rows,
         }
-    }
-}
-
-impl From<Error> for Stop {
-    fn from(_: Error) -> Stop {
-        Stop::Open
     }
 }
 

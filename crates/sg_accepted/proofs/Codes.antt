@@ -7,6 +7,10 @@ use Rattle.std.proofs.lemmas.List.Sums.{sum_by-append, sum_by-cons}
 use Rattle.std.proofs.lemmas.Nat.{div-add-mod', div-mul-add, mod_below}
 use Rattle.std.specs.List.{flat_map, list_all, list_any}
 use Rattle.std.specs.Prelude.{sum_by}
+use Rattle.sg_lists.proofs.Any.{any-count, any-filter, any-flat, any-map}
+use Rattle.sg_lists.proofs.Bools.{one_if}
+use Rattle.sg_lists.proofs.Each.{EachOf, of-all, of-into, of-none}
+use Rattle.sg_lists.proofs.Sums.{sum-filter, sum-flat, sum-map, sum-of, sum-same, sum-zero}
 use Rattle.sg_plan.proofs.PlanLaws.{bounds}
 use Rattle.sg_plan.specs.Ballots.{ballot_has, ballot_row, candidates_of, entry_at, is_over, races_of_ballot}
 use Rattle.sg_plan.specs.Fates.{fate_fits, has_mark, mark_fits, marks_differ}
@@ -37,11 +41,10 @@ use Rattle.sg_post.specs.Marks.{is_entry_of, is_entry_marked, told_marks}
 use Rattle.sg_post.specs.Posted.{audited_codes, audited_race_codes, cast_codes, code_in_row, code_line_of, fate_blocks, marked_codes, posted_record, race_codes_of, told_blocks}
 use Rattle.sg_post.specs.declared.story.Claimed.{Claimed}
 use Rattle.sg_post.specs.declared.story.Told.{Told}
-use Rattle.sg_facts.proofs.Each.{EachOf, of-all, of-into, of-none}
 use Rattle.sg_facts.proofs.Rising.{IsPart, all-behind, ballots-rise, behind_ballots, behind_commits, blocks, commits_are, head, head_is, part_of}
 use Rattle.sg_facts.proofs.Sections.{papers-of}
-use Rattle.sg_accepted.proofs.Any.{any-count, any-filter, any-flat, any-map, any-number, none-below}
-use Rattle.sg_accepted.proofs.Sums.{sum-at, sum-filter, sum-flat, sum-map, sum-number, sum-of, sum-same, sum-zero, tally}
+use Rattle.sg_accepted.proofs.Any.{any-number, none-below}
+use Rattle.sg_accepted.proofs.Sums.{sum-at, sum-number}
 use Rattle.sg_accepted.specs.Unaltered.{told_fate}
 
 -- THE CODES OF A BALLOT
@@ -219,7 +222,7 @@ pub any-codes : (plan : Plan) (seed : List ℕ) (fates : List Told) (draw : Draw
     → list_any test (places_in (posted_record plan seed fates draw claims)) ≡ list_any (λ told. list_any test (told_codes plan seed race told.ballot told.fate)) fates
 any-codes plan seed fates draw claims race test within only =
     any-count test (places_in (posted_record plan seed fates draw claims))
-    ∙ (ap (nat_lt 0) (sum-codes plan seed race within (λ line. tally (test line)) (λ line is. ap tally (only line is)) fates draw claims)
+    ∙ (ap (nat_lt 0) (sum-codes plan seed race within (λ line. one_if (test line)) (λ line is. ap one_if (only line is)) fates draw claims)
     ∙ (sym (any-count test (fates_codes plan seed race fates)) ∙ any-flat test (λ (told : Told). told_codes plan seed race told.ballot told.fate) fates))
 
 -- WHAT ONLY ONE BALLOT COUNTS FOR
@@ -259,9 +262,9 @@ pub any-told : (plan : Plan) (test : ℕ → Fate → Bool) (ballot : ℕ) → (
     → (fates : List Told) → fates_fit plan 0 fates ≡ true → list_any (λ told. test told.ballot told.fate) fates ≡ test ballot (told_fate fates ballot)
 any-told plan test ballot never unused fates fit =
     any-count (λ (told : Told). test told.ballot told.fate) fates
-    ∙ (ap (nat_lt 0) (sum-told plan (λ b what. tally (test b what)) ballot (λ other what differ. ap tally (never other what differ)) (ap tally unused) 0 fates fit) ∙ some (test ballot (told_fate fates ballot)))
+    ∙ (ap (nat_lt 0) (sum-told plan (λ b what. one_if (test b what)) ballot (λ other what differ. ap one_if (never other what differ)) (ap one_if unused) 0 fates fit) ∙ some (test ballot (told_fate fates ballot)))
   where
-    some : (b : Bool) → nat_lt 0 (tally b) ≡ b
+    some : (b : Bool) → nat_lt 0 (one_if b) ≡ b
     some true = refl
     some false = refl
 

@@ -6,7 +6,9 @@ use Rattle.std.proofs.lemmas.Bool.{and_left, and_parts, and_right, cases_Bool, c
 use Rattle.std.proofs.lemmas.List.Sums.{sum_by-append, sum_by-cons}
 use Rattle.std.proofs.lemmas.Nat.{div-mul-add, div_below}
 use Rattle.std.proofs.lemmas.List.Sorted.{sum_by-IsPermutation}
-use Rattle.sg_plan.proofs.Counting.{count_by-append}
+use Rattle.sg_lists.proofs.Bools.{one_if}
+use Rattle.sg_lists.proofs.Counting.{count_by-append}
+use Rattle.sg_lists.proofs.Sums.{sum-map, sum-nothing, sum-ones, sum-range}
 use Rattle.sg_plan.proofs.PlanLaws.{rows_are_one}
 use Rattle.sg_plan.specs.Ballots.{ballot_has, ballot_row, candidates_of, entries_of}
 use Rattle.sg_plan.specs.Fates.{fate_fits}
@@ -19,7 +21,6 @@ use Rattle.sg_check.specs.Printings.{count_below}
 use Rattle.sg_post.specs.Fits.{fates_fit}
 use Rattle.sg_post.specs.Marks.{is_entry_of}
 use Rattle.sg_post.specs.declared.story.Told.{Told}
-use Rattle.sg_accepted.proofs.Sums.{sum-map, sum-nothing, sum-ones, sum-range, tally}
 
 -- two tests of which at most one is passed
 pub count-either : (p q : ℕ → Bool) (xs : List ℕ) → ((x : ℕ) → (p x && q x) ≡ false) → count_by (λ x. p x || q x) xs ≡ count_by p xs + count_by q xs
@@ -39,10 +40,10 @@ count-either p q (x ∷ xs) apart =
 
 -- numbers that all pass, or all fail
 count-all : (p : ℕ → Bool) (at count : ℕ) → ((k : ℕ) → at ≤ k → k < at + count → p k ≡ true) → count_by p (range_with_len at count) ≡ count
-count-all p at count all = sum-range (λ k. tally (p k)) (λ k. 1) at count (λ k a b. ap tally (all k a b)) ∙ sum-ones at count
+count-all p at count all = sum-range (λ k. one_if (p k)) (λ k. 1) at count (λ k a b. ap one_if (all k a b)) ∙ sum-ones at count
 
 count-none : (p : ℕ → Bool) (at count : ℕ) → ((k : ℕ) → at ≤ k → k < at + count → p k ≡ false) → count_by p (range_with_len at count) ≡ 0
-count-none p at count none = sum-range (λ k. tally (p k)) (λ k. 0) at count (λ k a b. ap tally (none k a b)) ∙ sum-nothing (range_with_len at count)
+count-none p at count none = sum-range (λ k. one_if (p k)) (λ k. 0) at count (λ k a b. ap one_if (none k a b)) ∙ sum-nothing (range_with_len at count)
 
 -- the numbers of one row of width k
 row-of : (k row at : ℕ) → row * k ≤ at → at < row * k + k → at / k ≡ row
@@ -79,8 +80,8 @@ count-row k (suc rows) row positive within =
 pub count-lefts : (plan : Plan) (seed : List ℕ) (race instance : ℕ) (p : ℕ → Bool)
     → count_by (λ row. p (left_of plan seed race instance row)) (numbers_below (entries_of plan race)) ≡ count_by p (numbers_below (entries_of plan race))
 count-lefts plan seed race instance p =
-    sym (sum-map (λ e. tally (p e)) (left_of plan seed race instance) (numbers_below (entries_of plan race)))
-    ∙ sum_by-IsPermutation (λ e. tally (p e)) (numbers_below (entries_of plan race)) (map (left_of plan seed race instance) (numbers_below (entries_of plan race))) (pointer_laws.lefts plan seed race instance).listed
+    sym (sum-map (λ e. one_if (p e)) (left_of plan seed race instance) (numbers_below (entries_of plan race)))
+    ∙ sum_by-IsPermutation (λ e. one_if (p e)) (numbers_below (entries_of plan race)) (map (left_of plan seed race instance) (numbers_below (entries_of plan race))) (pointer_laws.lefts plan seed race instance).listed
 
 -- WHAT BALLOTS COUNT OF THEIR ENTRIES: no entry is of two ballots
 

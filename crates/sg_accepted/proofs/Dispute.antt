@@ -6,6 +6,10 @@ use Rattle.std.proofs.lemmas.List.Folds.{list_any-append}
 use Rattle.std.proofs.lemmas.Map.Keys.{any_passes_from_place}
 use Rattle.std.specs.List.{flat_map, list_any}
 use Rattle.std.specs.Option.{option_map_or}
+use Rattle.sg_lists.proofs.Any.{any-before, any-map, any-place, any-same}
+use Rattle.sg_lists.proofs.Bools.{same_tests}
+use Rattle.sg_lists.proofs.Each.{EachOf, of-all, of-append, of-into, of-none}
+use Rattle.sg_lists.proofs.Lists.{map-map}
 use Rattle.sg_plan.proofs.PlanLaws.{entry_tells, rows_are_one}
 use Rattle.sg_plan.specs.Ballots.{ballot_has, ballot_row, candidates_of, entry_at}
 use Rattle.sg_plan.specs.Limits.{fault_of}
@@ -27,19 +31,17 @@ use Rattle.sg_grammar.specs.Placed.Placed.{CodeAt, Disputed}
 use Rattle.sg_grammar.specs.declared.state.Block.TheVariants as block
 use Rattle.sg_record.specs.Places.{code_place, commit_places, dispute_places, draw_place, opening_places, places_in, result_places}
 use Rattle.sg_record.specs.declared.record.Record.{Record}
-use Rattle.sg_check.proofs.Fronts.{any-before}
 use Rattle.sg_check.specs.Facts.{DisputedCode, last_claim, marks_code, shows_disputed}
-use Rattle.sg_check.specs.Kinds.{is_right, wrong_answer}
-use Rattle.sg_check.specs.inside.ByKind.{bad_dispute}
-use Rattle.sg_post.proofs.FormedCodes.{has-within}
+use Rattle.sg_check.specs.Kinds.{bad_placed, is_right, wrong_answer}
+use Rattle.sg_check.specs.declared.judged.Kind.TheVariants as kind
+use Rattle.sg_post.proofs.Claims.{has-within}
 use Rattle.sg_post.proofs.MarkedCodes.{marked-counted, posts_code, right-same}
 use Rattle.sg_post.specs.Posted.{code_in_row, code_line_of, dispute_of, posted_record}
 use Rattle.sg_post.specs.declared.story.Claimed.{Claimed}
 use Rattle.sg_post.specs.declared.story.Told.{Told}
-use Rattle.sg_facts.proofs.Each.{EachOf, of-all, of-append, of-into, of-none}
 use Rattle.sg_facts.proofs.Rising.{IsPart, blocks, blocks_are, claims as claim_places, commits_are, head, head_is, part_of, results_are, rows_are}
 use Rattle.sg_facts.proofs.Sections.{disputes-of}
-use Rattle.sg_accepted.proofs.Any.{any-map, any-number_found, any-place, any-same, number-any, same_tests}
+use Rattle.sg_accepted.proofs.Any.{any-number_found, number-any}
 use Rattle.sg_accepted.proofs.Codes.{any-codes, any-told, audited-each, cast_code, codes-each, shows_in, told_codes}
 use Rattle.sg_accepted.proofs.Late.{Good, good-append, good-never, good-numbers, good-one}
 use Rattle.sg_accepted.proofs.Rule.{code-value}
@@ -99,18 +101,14 @@ codes-claim_nothing : (ballot : ℕ) (codes : List CodeLine) → last_claim (map
 codes-claim_nothing ballot [] = refl
 codes-claim_nothing ballot (code ∷ codes) = codes-claim_nothing ballot codes
 
-map_twice : {A B C : Type 0} (f : B → C) (g : A → B) (xs : List A) → map f (map g xs) ≡ map (λ x. f (g x)) xs
-map_twice f g [] = refl
-map_twice f g (x ∷ xs) = ap (λ l. f (g x) ∷ l) (map_twice f g xs)
-
 -- no other line is judged
-never-bad : (plan : Plan) (line : Placed) → part_of line ≢ 7 → (front : List Placed) → bad_dispute plan front line ≡ false
+never-bad : (plan : Plan) (line : Placed) → part_of line ≢ 7 → (front : List Placed) → bad_placed kind.Dispute plan front line ≡ false
 never-bad plan (CodeAt block.Cast ballot race column code) other front = refl
 never-bad plan (CodeAt block.Audited ballot race column code) other front = refl
 never-bad plan (CodeAt block.Dispute ballot race column code) other front = absurd (other refl)
 never-bad plan line other front = refl
 
-draw-never : (plan : Plan) (draw : Draw) (front : List Placed) → bad_dispute plan front (draw_place draw) ≡ false
+draw-never : (plan : Plan) (draw : Draw) (front : List Placed) → bad_placed kind.Dispute plan front (draw_place draw) ≡ false
 draw-never plan drawn.Full front = refl
 draw-never plan (drawn.Public bytes) front = refl
 
@@ -160,7 +158,7 @@ module _ (plan : Plan) (seed : List ℕ) (fates : List Told) (draw : Draw) (clai
     abbrev code_at : ℕ → Placed
     code_at column = code_place block.Dispute claimed.ballot (code_line_of plan seed claimed.ballot claimed.race column)
 
-    code-good : (column : ℕ) → bad_dispute plan ((before ++ first ∷ []) ++ map code_at (numbers_below column)) (code_at column) ≡ false
+    code-good : (column : ℕ) → bad_placed kind.Dispute plan ((before ++ first ∷ []) ++ map code_at (numbers_below column)) (code_at column) ≡ false
     unfolding code_in_row
     code-good column =
         let b : ℕ = claimed.ballot in
@@ -171,7 +169,7 @@ module _ (plan : Plan) (seed : List ℕ) (fates : List Told) (draw : Draw) (clai
         elim (cases_eq (column + 1) (candidates_of plan r)) [
           | inr other ↦ and_left (column + 1 == candidates_of plan r) _ (ne_eqb (column + 1) (candidates_of plan r) other)
           | inl whole ↦
-              let none : last_claim earlier ≡ None = ap last_claim (sym (map_twice (code_place block.Dispute b) (code_line_of plan seed b r) (numbers_below column))) ∙ codes-claim_nothing b (map (code_line_of plan seed b r) (numbers_below column)) in
+              let none : last_claim earlier ≡ None = ap last_claim (sym (map-map (code_place block.Dispute b) (code_line_of plan seed b r) (numbers_below column))) ∙ codes-claim_nothing b (map (code_line_of plan seed b r) (numbers_below column)) in
               let claim : last_claim front ≡ Some (record { code = claimed.code; answer = claimed.word; behind = earlier }) =
               ap last_claim (append_assoc before (first ∷ []) earlier) ∙ last-behind before b r claimed.code claimed.word earlier none in
               let marked : list_any (marks_code b r claimed.code) front ≡ posts_code plan seed b r claimed.code (told_fate fates b) =
@@ -188,20 +186,20 @@ module _ (plan : Plan) (seed : List ℕ) (fates : List Told) (draw : Draw) (clai
               and_right (column + 1 == candidates_of plan r) _ (ap (λ (o : Option DisputedCode). option_map_or (wrong_answer front b r (code_line_of plan seed b r column).code) o false) claim ∙ ap not answered)
         ]
 
-    claim-good : Good (bad_dispute plan) before (dispute_places (dispute_of plan seed claimed))
+    claim-good : Good (bad_placed kind.Dispute plan) before (dispute_places (dispute_of plan seed claimed))
     claim-good =
         let columns : List ℕ = numbers_below (candidates_of plan claimed.race) in
-        good-append (bad_dispute plan) before (first ∷ []) (map (code_place block.Dispute claimed.ballot) (map (code_line_of plan seed claimed.ballot claimed.race) columns)) (good-one (bad_dispute plan) before first refl)
-        (subst (λ (l : List Placed). Good (bad_dispute plan) (before ++ first ∷ []) l) (sym (map_twice (code_place block.Dispute claimed.ballot) (code_line_of plan seed claimed.ballot claimed.race) columns))
-        (good-numbers (bad_dispute plan) (before ++ first ∷ []) code_at (candidates_of plan claimed.race) (λ column below. code-good column)))
+        good-append (bad_placed kind.Dispute plan) before (first ∷ []) (map (code_place block.Dispute claimed.ballot) (map (code_line_of plan seed claimed.ballot claimed.race) columns)) (good-one (bad_placed kind.Dispute plan) before first refl)
+        (subst (λ (l : List Placed). Good (bad_placed kind.Dispute plan) (before ++ first ∷ []) l) (sym (map-map (code_place block.Dispute claimed.ballot) (code_line_of plan seed claimed.ballot claimed.race) columns))
+        (good-numbers (bad_placed kind.Dispute plan) (before ++ first ∷ []) code_at (candidates_of plan claimed.race) (λ column below. code-good column)))
 
   -- all claims, behind the blocks
-  claims-good : (before : List Placed) (list : List Claimed) → MarksTold before → EachOf (ClaimRight plan seed fates) list → Good (bad_dispute plan) before (flat_map dispute_places (map (dispute_of plan seed) list))
+  claims-good : (before : List Placed) (list : List Claimed) → MarksTold before → EachOf (ClaimRight plan seed fates) list → Good (bad_placed kind.Dispute plan) before (flat_map dispute_places (map (dispute_of plan seed) list))
   claims-good before [] facts all = refl
   claims-good before (claimed ∷ list) facts all =
       let lines : List Placed = dispute_places (dispute_of plan seed claimed) in
       let part : EachOf (IsPart 7) lines = (refl, of-all (IsPart 7) (code_place block.Dispute claimed.ballot) (dispute_of plan seed claimed).codes (λ code. refl)) in
-      good-append (bad_dispute plan) before lines (flat_map dispute_places (map (dispute_of plan seed) list)) (claim-good before facts claimed all.0)
+      good-append (bad_placed kind.Dispute plan) before lines (flat_map dispute_places (map (dispute_of plan seed) list)) (claim-good before facts claimed all.0)
       (claims-good (before ++ lines) list (λ b r code within. without before lines part b r code ∙ facts b r code within) all.1)
 
   -- what stands before the disputes
@@ -220,9 +218,9 @@ module _ (plan : Plan) (seed : List ℕ) (fates : List Told) (draw : Draw) (clai
       sym (append_assoc h (c ++ (b ++ (r ++ o))) d
       ∙ ap (λ l. h ++ l) (append_assoc c (b ++ (r ++ o)) d ∙ ap (λ l. c ++ l) (append_assoc b (r ++ o) d ∙ ap (λ l. b ++ l) (append_assoc r o d))))
 
-  others-never : EachOf (λ (line : Placed). (front : List Placed) → bad_dispute plan front line ≡ false) others
+  others-never : EachOf (λ (line : Placed). (front : List Placed) → bad_placed kind.Dispute plan front line ≡ false) others
   others-never =
-      let P : Placed → Type 0 = λ line. (front : List Placed) → bad_dispute plan front line ≡ false in
+      let P : Placed → Type 0 = λ line. (front : List Placed) → bad_placed kind.Dispute plan front line ≡ false in
       let by : (part : ℕ) (xs : List Placed) → part < 7 → EachOf (IsPart part) xs → EachOf P xs = λ part xs less all. of-into (IsPart part) P xs (λ line is. never-bad plan line (λ e. omega (arith, less, is, e))) all in
       of-append P (head posted) _ (by 0 (head posted) (omega arith) (head_is posted))
       (of-append P (commit_places posted) _ (by 2 (commit_places posted) (omega arith) (commits_are posted))
@@ -230,9 +228,9 @@ module _ (plan : Plan) (seed : List ℕ) (fates : List Told) (draw : Draw) (clai
       (of-append P (result_places posted) (opening_places posted) (by 4 (result_places posted) (omega arith) (results_are posted))
       (draw-never plan draw, by 6 _ (omega arith) (rows_are posted)))))
 
-  pub disputes-whole : Good (bad_dispute plan) [] (places_in posted)
+  pub disputes-whole : Good (bad_placed kind.Dispute plan) [] (places_in posted)
   disputes-whole =
       let part : EachOf (IsPart 7) (claim_places posted) = disputes-of (IsPart 7) posted.disputes (λ b r c w. refl) (λ b r c code. refl) in
       let facts : MarksTold others = λ b r code within. sym (without others (claim_places posted) part b r code) ∙ (ap (list_any (marks_code b r code)) (sym whole) ∙ marks-told b r code within) in
-      subst (λ (l : List Placed). Good (bad_dispute plan) [] l) (sym whole)
-      (good-append (bad_dispute plan) [] others (claim_places posted) (good-never (bad_dispute plan) [] others others-never) (claims-good others claims facts told.claims_right))
+      subst (λ (l : List Placed). Good (bad_placed kind.Dispute plan) [] l) (sym whole)
+      (good-append (bad_placed kind.Dispute plan) [] others (claim_places posted) (good-never (bad_placed kind.Dispute plan) [] others others-never) (claims-good others claims facts told.claims_right))

@@ -16,8 +16,9 @@ use Rattle.sg_grammar.specs.Placed.Placed.{RowAt}
 use Rattle.sg_record.specs.Places.{places_in}
 use Rattle.sg_check.specs.Completions.{IsHalfOf}
 use Rattle.sg_check.specs.Facts.{is_flagged, is_marked as posted_marked, is_set as posted_set, opened_on}
-use Rattle.sg_check.specs.Kinds.{differ}
-use Rattle.sg_check.specs.inside.ByKind.{bad_flag, wrong_flag_on}
+use Rattle.sg_check.specs.Kinds.{bad_placed, differ}
+use Rattle.sg_check.specs.inside.BySide.{wrong_flag_on}
+use Rattle.sg_check.specs.declared.judged.Kind.TheVariants as kind
 use Rattle.sg_post.specs.Fits.{claim_fits, fates_fit}
 use Rattle.sg_post.specs.Marks.{flag_of, is_entry_marked, is_place_set}
 use Rattle.sg_post.specs.Posted.{posted_record}
@@ -85,9 +86,9 @@ module _ (plan : Plan) (seed : List ℕ) (fates : List Told) (draw : Draw) (clai
     row-fine (row.Right o) is = rw is right_fine
     row-fine (row.Both o p) is = rw (is.0, is.1) (or_from _ _ left_fine right_fine)
 
-  flag-good : (before : List Placed) (line : Placed) → IsFront lines before line → SaysRight plan seed fates draw line → bad_flag plan before line ≡ false
+  flag-good : (before : List Placed) (line : Placed) → IsFront lines before line → SaysRight plan seed fates draw line → bad_placed kind.Flag plan before line ≡ false
   flag-good before (RowAt race instance number opening) front right = row-fine before race instance number opening front right.0 opening (rw right.1 (opened-opens plan seed fates draw race instance number))
   flag-good before line front right = refl
 
-  pub flags-whole : list_all (claim_fits plan) claims ≡ true → Good (bad_flag plan) [] lines
-  flags-whole claimed = record-good (bad_flag plan) (SaysRight plan seed fates draw) (posted_record plan seed fates draw claims) flag-good (all-right plan seed fates draw claims fine fit claimed)
+  pub flags-whole : list_all (claim_fits plan) claims ≡ true → Good (bad_placed kind.Flag plan) [] lines
+  flags-whole claimed = record-good (bad_placed kind.Flag plan) (SaysRight plan seed fates draw) (posted_record plan seed fates draw claims) flag-good (all-right plan seed fates draw claims fine fit claimed)

@@ -2,8 +2,8 @@
 use Rattle.std.proofs.Common.{◌≡◌, Bool, true, false, ◌||◌, cond, List, [], ◌∷◌, Option, Some, None, refl, ap, ◌∙◌}
 use Rattle.std.specs.List.{list_any}
 use Rattle.std.specs.Option.{option_map_or}
+use Rattle.sg_lists.proofs.Each.{EachOf}
 use Rattle.sg_check.specs.Facts.{first_given}
-use Rattle.sg_post.proofs.Each.{EachOf}
 
 -- the item gives this value where it passes, and else none
 abbrev pub Gives : {A B : Type 0} → (A → Option B) → (A → Bool) → B → A → Type 0

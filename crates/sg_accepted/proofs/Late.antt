@@ -2,10 +2,10 @@
 use Rattle.std.proofs.Common.{◌≡◌, ℕ, zero, suc, ◌+◌, ◌<◌, Bool, false, List, [], ◌∷◌, ◌++◌, map, refl, sym, subst, ap, ◌∙◌, append_assoc, append-nil, arith}
 use Rattle.std.proofs.lemmas.Bool.{or_from, or_parts}
 use Rattle.std.proofs.lemmas.List.{map-append}
+use Rattle.sg_lists.proofs.Each.{EachOf}
 use Rattle.sg_streams.proofs.NumberLists.{numbers_below-none, numbers_below-push}
 use Rattle.sg_streams.specs.Numbers.{numbers_below}
 use Rattle.sg_check.specs.Verdict.{late}
-use Rattle.sg_facts.proofs.Each.{EachOf}
 
 -- no line is bad against those before it: the first list stands before all of them
 abbrev pub Good : {A : Type 0} → (List A → A → Bool) → List A → List A → Type 0

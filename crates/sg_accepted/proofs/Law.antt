@@ -1,5 +1,6 @@
 -- The verdict on what is posted of an unaltered run is yes.
 use Rattle.std.proofs.Common.{◌≡◌, ℕ, List, [], length, Some, refl, subst}
+use Rattle.sg_lists.proofs.Each.{EachOf}
 use Rattle.sg_plan.specs.declared.plan.Draw.{Draw}
 use Rattle.sg_plan.specs.declared.plan.Plan.{Plan}
 use Rattle.sg_outside.specs.TextLines.{lines_of}
@@ -9,19 +10,19 @@ use Rattle.sg_grammar.proofs.Wholes.{lines_stand_apart}
 use Rattle.sg_grammar.specs.Lines.{IsAmong, placed_of}
 use Rattle.sg_grammar.specs.Parting.{Apart, IsLineIn, clash}
 use Rattle.sg_grammar.specs.Placed.{Placed}
-use Rattle.sg_grammar.specs.Walk.{Posted, start, walk}
+use Rattle.sg_grammar.specs.Walk.{start, walk}
 use Rattle.sg_record.proofs.PlacesLaw.{posts-places}
 use Rattle.sg_record.specs.Lines.{lines_in}
 use Rattle.sg_record.specs.Places.{places_in, posts}
 use Rattle.sg_record.specs.Typed.{AreDrawn}
+use Rattle.sg_check.proofs.Late.{IsOfPlaces, form_never}
 use Rattle.sg_check.specs.Kinds.{bad_placed, is_bad}
 use Rattle.sg_check.specs.declared.judged.Kind.{Kind}
 use Rattle.sg_check.specs.declared.judged.Kind.TheVariants as kind
 use Rattle.sg_post.specs.Posted.{posted_record, posted_text}
 use Rattle.sg_post.specs.declared.story.Claimed.{Claimed}
 use Rattle.sg_post.specs.declared.story.Told.{Told}
-use Rattle.sg_facts.proofs.Each.{EachOf}
-use Rattle.sg_accepted.proofs.Accepting.{accepted, form-good, good-placed}
+use Rattle.sg_accepted.proofs.Accepting.{accepted, good-placed}
 use Rattle.sg_accepted.proofs.Dispute.{disputes-whole}
 use Rattle.sg_accepted.proofs.Flag.{flags-whole}
 use Rattle.sg_accepted.proofs.Late.{Good}
@@ -61,12 +62,12 @@ module _ (plan : Plan) (seed : List ℕ) (fates : List Told) (draw : Draw) (clai
       subst (λ (l : List Placed). (line : Placed) → IsAmong l line → IsLineIn plan line) placed-are
       (λ line among. lines_are_in_plan texts (walked_as plan seed fates draw claims) line walks among)
 
-  placed : (k : Kind) → ((before : List Posted) (line : Posted) → is_bad k plan before line ≡ bad_placed k plan (placed_of before) line.line) → Good (bad_placed k plan) [] places → Good (is_bad k plan) [] (posts plan.version lines places)
+  placed : (k : Kind) → IsOfPlaces k plan → Good (bad_placed k plan) [] places → Good (is_bad k plan) [] (posts plan.version lines places)
   placed k same good = good-placed k plan plan.version lines places same long good
 
   -- no line is bad in any kind
   pub kinds-good : (k : Kind) → Good (is_bad k plan) [] (posts plan.version lines places)
-  kinds-good kind.Form = form-good plan [] (posts plan.version lines places)
+  kinds-good kind.Form = form_never plan [] (posts plan.version lines places)
   kinds-good kind.Seal = seals-good plan seed fates draw claims
   kinds-good kind.Opening = placed kind.Opening (λ before line. refl) (openings-whole plan seed fates draw claims told.fine told.fit told.claimed)
   kinds-good kind.Side = placed kind.Side (λ before line. refl) (sides-whole plan seed fates draw claims bytes told.fine told.fit told.claimed)

@@ -27,8 +27,9 @@ use Rattle.sg_grammar.specs.declared.state.Block.{Block}
 use Rattle.sg_grammar.specs.declared.state.Block.TheVariants as block
 use Rattle.sg_record.specs.Places.{places_in}
 use Rattle.sg_check.specs.Facts.{code_commitment, opened_on, half_commitment}
-use Rattle.sg_check.specs.Kinds.{opens_digest}
-use Rattle.sg_check.specs.inside.ByKind.{bad_opening, bad_pointer_opening}
+use Rattle.sg_check.specs.Kinds.{bad_placed, opens_digest}
+use Rattle.sg_check.specs.inside.BySide.{bad_pointer_opening}
+use Rattle.sg_check.specs.declared.judged.Kind.TheVariants as kind
 use Rattle.sg_post.specs.Fits.{claim_fits, fates_fit}
 use Rattle.sg_post.specs.Marks.{is_entry_audited}
 use Rattle.sg_post.specs.Posted.{both_sides, code_commit_of, code_in_row, committed, one_side, opened_row, posted_record, row_commit_of}
@@ -87,7 +88,7 @@ module _ (plan : Plan) (seed : List ℕ) (fates : List Told) (draw : Draw) (clai
   abbrev lines : List Placed
   lines = places_in (posted_record plan seed fates draw claims)
 
-  opening-good : (before : List Placed) (line : Placed) → IsFront lines before line → SaysRight plan seed fates draw line → bad_opening plan before line ≡ false
+  opening-good : (before : List Placed) (line : Placed) → IsFront lines before line → SaysRight plan seed fates draw line → bad_placed kind.Opening plan before line ≡ false
   unfolding code_in_row code_commit_of
   opening-good before (CodeAt kind ballot race column code) front right =
       let entry = entry_at plan race ballot column in
@@ -102,6 +103,6 @@ module _ (plan : Plan) (seed : List ℕ) (fates : List Told) (draw : Draw) (clai
       (rw right.1 (opened-opens plan seed fates draw race instance number))
   opening-good before line front right = refl
 
-  pub openings-whole : fault_of plan ≡ None → fates_fit plan 0 fates ≡ true → list_all (claim_fits plan) claims ≡ true → Good (bad_opening plan) [] lines
+  pub openings-whole : fault_of plan ≡ None → fates_fit plan 0 fates ≡ true → list_all (claim_fits plan) claims ≡ true → Good (bad_placed kind.Opening plan) [] lines
   openings-whole fine fit claimed =
-      record-good (bad_opening plan) (SaysRight plan seed fates draw) (posted_record plan seed fates draw claims) opening-good (all-right plan seed fates draw claims fine fit claimed)
+      record-good (bad_placed kind.Opening plan) (SaysRight plan seed fates draw) (posted_record plan seed fates draw claims) opening-good (all-right plan seed fates draw claims fine fit claimed)

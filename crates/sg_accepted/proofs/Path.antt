@@ -2,6 +2,7 @@
 use Rattle.std.proofs.Common.{◌≡◌, ◌≢◌, ℕ, ◌/◌, ◌%◌, ◌<◌, ◌==◌, nat_lt, if◌then◌else◌, Bool, false, ◌&&◌, ◌||◌, not, inl, inr, List, [], ◌∷◌, refl, sym, subst, ap, ◌∙◌}
 use Rattle.std.proofs.lemmas.Bool.{and_left, and_right, cases_eq, eq-eqb, ne_eqb}
 use Rattle.std.specs.List.{list_any}
+use Rattle.sg_lists.proofs.Each.{EachOf, of-into, of-parts}
 use Rattle.sg_plan.specs.Ballots.{candidates_of, entries_of}
 use Rattle.sg_plan.specs.declared.plan.Draw.{Draw}
 use Rattle.sg_plan.specs.declared.plan.Plan.{Plan}
@@ -11,17 +12,16 @@ use Rattle.sg_tables.specs.Tables.{left_of as row_left, left_opening_of, path_of
 use Rattle.sg_forms.specs.declared.line.RowOpening.TheVariants as row
 use Rattle.sg_grammar.specs.Placed.{Placed}
 use Rattle.sg_grammar.specs.Placed.Placed.{RowAt}
-use Rattle.sg_check.specs.Kinds.{clashes_with}
-use Rattle.sg_check.specs.inside.ByKind.{bad_path}
+use Rattle.sg_check.specs.Kinds.{bad_placed, clashes_with}
+use Rattle.sg_check.specs.declared.judged.Kind.TheVariants as kind
 use Rattle.sg_accepted.proofs.Late.{Good}
 use Rattle.sg_record.specs.Places.{places_in}
 use Rattle.sg_post.specs.Posted.{posted_record}
 use Rattle.sg_post.specs.declared.story.Claimed.{Claimed}
 use Rattle.sg_post.specs.declared.story.Told.{Told}
-use Rattle.sg_facts.proofs.Each.{EachOf, of-into}
 use Rattle.sg_facts.proofs.Rising.{record-good}
 use Rattle.sg_accepted.proofs.Opening.{OpensRow, opened-opens}
-use Rattle.sg_accepted.proofs.Posted.{SaysRight, of-parts}
+use Rattle.sg_accepted.proofs.Posted.{SaysRight}
 
 -- a row opens what its tables say
 abbrev RowsRight : Plan → List ℕ → Placed → Type 0
@@ -87,7 +87,7 @@ clashes-none plan seed race entry place (line ∷ before) within path all =
     ∙ clashes-none plan seed race entry place before within path all.1
 
 -- a row that is right is not bad in kind path, behind rows that are right
-path-good : (plan : Plan) (seed : List ℕ) (before : List Placed) (line : Placed) → EachOf (RowsRight plan seed) before → RowsRight plan seed line → bad_path plan before line ≡ false
+path-good : (plan : Plan) (seed : List ℕ) (before : List Placed) (line : Placed) → EachOf (RowsRight plan seed) before → RowsRight plan seed line → bad_placed kind.Path plan before line ≡ false
 path-good plan seed before (RowAt race instance number (row.Both left right)) all is =
     let here = leads plan seed race instance number left right is.0 is.1.0 is.1.1 in
     and_right (nat_lt left.value (entries_of plan race) && nat_lt right.value (entries_of plan race)) _
@@ -101,9 +101,9 @@ says-rows plan seed fates draw (RowAt race instance number opening) right = (rig
 says-rows plan seed fates draw line right = tt
 
 pub paths-whole : (plan : Plan) (seed : List ℕ) (fates : List Told) (draw : Draw) (claims : List Claimed) → EachOf (SaysRight plan seed fates draw) (places_in (posted_record plan seed fates draw claims))
-    → Good (bad_path plan) [] (places_in (posted_record plan seed fates draw claims))
+    → Good (bad_placed kind.Path plan) [] (places_in (posted_record plan seed fates draw claims))
 paths-whole plan seed fates draw claims right =
     let posted = posted_record plan seed fates draw claims in
     let P : Placed → Type 0 = RowsRight plan seed in
     let all : EachOf P (places_in posted) = of-into (SaysRight plan seed fates draw) P (places_in posted) (says-rows plan seed fates draw) right in
-    record-good (bad_path plan) P posted (λ before line front is. path-good plan seed before line (of-parts P before (line ∷ front.rest) (subst (λ (l : List Placed). EachOf P l) front.is all)).0 is) all
+    record-good (bad_placed kind.Path plan) P posted (λ before line front is. path-good plan seed before line (of-parts P before (line ∷ front.rest) (subst (λ (l : List Placed). EachOf P l) front.is all)).0 is) all

@@ -1,7 +1,8 @@
 -- Kind pointer: posted pointers are below n, and no two rows of an instance open the same one on a side.
 use Rattle.std.proofs.Common.{◌≡◌, ◌≢◌, ℕ, ◌==◌, nat_le, false, ◌&&◌, List, [], Some, refl, sym, ◌∙◌, arith}
-use Rattle.std.proofs.lemmas.Bool.{and_left, and_right, ne_eqb, or_from}
+use Rattle.std.proofs.lemmas.Bool.{and_left, and_right, ne_eqb, or_from, lt-leb}
 use Rattle.std.specs.List.{list_any}
+use Rattle.sg_lists.proofs.Each.{EachOf}
 use Rattle.sg_plan.specs.declared.plan.Side.TheVariants as side
 use Rattle.sg_plan.specs.Ballots.{entries_of}
 use Rattle.sg_plan.specs.declared.plan.Draw.{Draw}
@@ -14,14 +15,14 @@ use Rattle.sg_grammar.specs.Placed.{Placed}
 use Rattle.sg_grammar.specs.Placed.Placed.{RowAt}
 use Rattle.sg_record.specs.Places.{places_in}
 use Rattle.sg_record.specs.declared.record.Record.{Record}
-use Rattle.sg_check.proofs.BitsFound.{not_le}
 use Rattle.sg_check.specs.Completions.{IsHalfOf}
 use Rattle.sg_check.specs.Facts.{opened_on, opens_pointer, points_to}
-use Rattle.sg_check.specs.inside.ByKind.{bad_pointer, bad_pointer_on}
+use Rattle.sg_check.specs.inside.BySide.{bad_pointer_on}
+use Rattle.sg_check.specs.Kinds.{bad_placed}
+use Rattle.sg_check.specs.declared.judged.Kind.TheVariants as kind
 use Rattle.sg_post.specs.Posted.{opened_row, posted_record}
 use Rattle.sg_post.specs.declared.story.Claimed.{Claimed}
 use Rattle.sg_post.specs.declared.story.Told.{Told}
-use Rattle.sg_facts.proofs.Each.{EachOf}
 use Rattle.sg_facts.proofs.Rising.{IsFront, record-good}
 use Rattle.sg_accepted.proofs.Any.{none-below}
 use Rattle.sg_accepted.proofs.Late.{Good}
@@ -76,24 +77,24 @@ module _ (plan : Plan) (seed : List ℕ) (fates : List Told) (draw : Draw) (clai
     left-fine : bad_pointer_on side.Left plan before race instance (Some (left_opening_of plan seed race instance number)) ≡ false
     left-fine =
         rw (opening_laws.left plan seed race instance number)
-        (or_from (nat_le (entries_of plan race) (row_left plan seed race instance number)) _ (not_le (entries_of plan race) (row_left plan seed race instance number) ((pointer_laws.lefts plan seed race instance).below number within.2)) left-none)
+        (or_from (nat_le (entries_of plan race) (row_left plan seed race instance number)) _ (lt-leb (entries_of plan race) (row_left plan seed race instance number) ((pointer_laws.lefts plan seed race instance).below number within.2)) left-none)
 
     right-fine : bad_pointer_on side.Right plan before race instance (Some (right_opening_of plan seed race instance number)) ≡ false
     right-fine =
         rw (opening_laws.right plan seed race instance number)
-        (or_from (nat_le (entries_of plan race) (row_right plan seed race instance number)) _ (not_le (entries_of plan race) (row_right plan seed race instance number) ((pointer_laws.rights plan seed race instance).below number within.2)) right-none)
+        (or_from (nat_le (entries_of plan race) (row_right plan seed race instance number)) _ (lt-leb (entries_of plan race) (row_right plan seed race instance number) ((pointer_laws.rights plan seed race instance).below number within.2)) right-none)
 
-    row-fine : OpensRow plan seed race instance number opening → bad_pointer plan before (RowAt race instance number opening) ≡ false
+    row-fine : OpensRow plan seed race instance number opening → bad_placed kind.Pointer plan before (RowAt race instance number opening) ≡ false
     row-fine is = at_opening opening is
       where
-        at_opening : (o : RowOpening) → OpensRow plan seed race instance number o → bad_pointer plan before (RowAt race instance number o) ≡ false
+        at_opening : (o : RowOpening) → OpensRow plan seed race instance number o → bad_placed kind.Pointer plan before (RowAt race instance number o) ≡ false
         at_opening (row.Left o) is = rw is (or_from _ false left-fine refl)
         at_opening (row.Right o) is = rw is right-fine
         at_opening (row.Both o p) is = rw (is.0, is.1) (or_from _ _ left-fine right-fine)
 
-  pointer-good : (before : List Placed) (line : Placed) → IsFront lines before line → SaysRight plan seed fates draw line → bad_pointer plan before line ≡ false
+  pointer-good : (before : List Placed) (line : Placed) → IsFront lines before line → SaysRight plan seed fates draw line → bad_placed kind.Pointer plan before line ≡ false
   pointer-good before (RowAt race instance number opening) front is = row-fine before race instance number opening front is.0 (rw is.1 (opened-opens plan seed fates draw race instance number))
   pointer-good before line front is = refl
 
-  pub pointers-whole : Good (bad_pointer plan) [] lines
-  pointers-whole = record-good (bad_pointer plan) (SaysRight plan seed fates draw) posted pointer-good right
+  pub pointers-whole : Good (bad_placed kind.Pointer plan) [] lines
+  pointers-whole = record-good (bad_placed kind.Pointer plan) (SaysRight plan seed fates draw) posted pointer-good right

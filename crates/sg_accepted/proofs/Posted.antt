@@ -1,10 +1,12 @@
 -- What a posted record says at each coordinate, and on each line: what the tables and the fates of the ballots say.
-use Rattle.std.proofs.Common.{◌≡◌, ℕ, ◌<◌, ◌==◌, nat_lt, Bool, true, false, ◌&&◌, cond, List, [], ◌∷◌, ◌++◌, length, map, Some, None, refl, sym, ap, ◌∙◌, arith}
+use Rattle.std.proofs.Common.{◌≡◌, ℕ, ◌<◌, ◌==◌, nat_lt, Bool, true, false, ◌&&◌, cond, List, [], ◌∷◌, length, map, Some, None, refl, sym, ap, ◌∙◌, arith}
 use Rattle.std.specs.List.{flat_map, list_all}
 use Rattle.std.specs.Option.{option_and_then, option_map}
 use Rattle.std.specs.Prelude.{slice_get, slice_index_or}
 use Rattle.std.proofs.lemmas.Bool.{and_parts}
 use Rattle.std.proofs.lemmas.Option.{same_Some, slice_get_within}
+use Rattle.sg_lists.proofs.Each.{EachOf, of-append, of-every, of-flat, of-map}
+use Rattle.sg_lists.proofs.Options.{option_and_then-some}
 use Rattle.sg_plan.specs.Ballots.{ballot_has, candidates_of, entries_of, races_of_ballot}
 use Rattle.sg_plan.specs.Codes.{is_code}
 use Rattle.sg_plan.specs.Fates.{fate_fits, mark_fits, marks_differ}
@@ -19,7 +21,6 @@ use Rattle.sg_plan.specs.declared.plan.Side.{Side}
 use Rattle.sg_streams.specs.Numbers.{numbers_below}
 use Rattle.sg_tables.proofs.Lists.{get_or-map_below, length-map_below, slice_get-map_below}
 use Rattle.sg_forms.specs.declared.line.CodeLine.{CodeLine}
-use Rattle.sg_grammar.proofs.Claims.{option_and_then-some}
 use Rattle.sg_grammar.specs.Placed.{Placed}
 use Rattle.sg_grammar.specs.Placed.Placed.{CodeAt, Disputed, OverAt, RowAt, TotalAt}
 use Rattle.sg_grammar.specs.declared.state.Block.{Block}
@@ -31,7 +32,6 @@ use Rattle.sg_record.specs.declared.record.BlockFate.TheVariants as blocked
 use Rattle.sg_record.specs.declared.record.Record.{Record}
 use Rattle.sg_check.specs.Completions.{IsHalfOf}
 use Rattle.sg_check.specs.Facts.{code_commitment, is_flagged, is_marked as posted_marked, is_set as posted_set, half_commitment}
-use Rattle.sg_post.proofs.Each.{of-flat}
 use Rattle.sg_post.proofs.MarkedCodes.{cast_overs}
 use Rattle.sg_post.proofs.OwnCodes.{HoldsOfOwn, audited_codes-of, cast_codes-of, race_codes-of}
 use Rattle.sg_post.proofs.StoryFits.{fits-later, fits_ballot}
@@ -40,7 +40,6 @@ use Rattle.sg_post.specs.Marks.{flag_of, is_entry_marked, is_place_set, total_of
 use Rattle.sg_post.specs.Posted.{by_row, code_commit_of, code_in_row, code_line_of, dispute_of, fate_blocks, opened_row, posted_record, race_codes_of, row_commit_of, told_blocks}
 use Rattle.sg_post.specs.declared.story.Claimed.{Claimed}
 use Rattle.sg_post.specs.declared.story.Told.{Told}
-use Rattle.sg_facts.proofs.Each.{EachOf, of-append, of-every, of-map}
 use Rattle.sg_facts.proofs.Facts.{are_listed, code_commitment_is}
 use Rattle.sg_facts.proofs.Rising.{is_plain, lines-of}
 use Rattle.sg_facts.proofs.Sections.{HasLines, blocks-of, papers-of}
@@ -88,10 +87,6 @@ row_is {A} plan v race instance number x there =
 pub of-both : {A : Type 0} (P Q : A → Type 0) (xs : List A) → EachOf P xs → EachOf Q xs → EachOf (λ (x : A). P x × Q x) xs
 of-both P Q [] here there = tt
 of-both P Q (x ∷ xs) here there = ((here.0, there.0), of-both P Q xs here.1 there.1)
-
-pub of-parts : {A : Type 0} (P : A → Type 0) (xs ys : List A) → EachOf P (xs ++ ys) → EachOf P xs × EachOf P ys
-of-parts P [] ys all = (tt, all)
-of-parts P (x ∷ xs) ys all = let parts = of-parts P xs ys all.1 in ((all.0, parts.0), parts.1)
 
 -- each ballot's fate fits it
 pub fits-each : (plan : Plan) (last : ℕ) (fates : List Told) → fates_fit plan last fates ≡ true → EachOf (λ (told : Told). fits_ballot plan told.ballot told.fate) fates

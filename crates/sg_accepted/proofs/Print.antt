@@ -8,6 +8,11 @@ use Rattle.std.proofs.lemmas.List.Sums.{sum_by-append, sum_by_push}
 use Rattle.std.specs.List.{flat_map, list_any}
 use Rattle.std.specs.Option.{is_some, option_map, option_map_or}
 use Rattle.std.specs.Prelude.{count_by, sum_by}
+use Rattle.sg_lists.proofs.Any.{any-map, any-same}
+use Rattle.sg_lists.proofs.Bools.{one_if, same_tests}
+use Rattle.sg_lists.proofs.Each.{EachOf, of-all, of-into, of-none}
+use Rattle.sg_lists.proofs.Options.{is_some-cond}
+use Rattle.sg_lists.proofs.Sums.{sum-flat, sum-map, sum-nothing, sum-of, sum-ones, sum-same, sum-zero}
 use Rattle.sg_plan.proofs.PlanLaws.{bounds, rows_are_one}
 use Rattle.sg_plan.specs.Ballots.{ballot_has, ballot_row, candidates_of, entries_of, entry_at, races_of_ballot, rows_of}
 use Rattle.sg_plan.specs.Limits.{fault_of}
@@ -38,16 +43,14 @@ use Rattle.sg_record.specs.declared.record.BlockFate.{BlockFate}
 use Rattle.sg_record.specs.declared.record.Record.{Record}
 use Rattle.sg_check.specs.Completions.{IsHalfOf}
 use Rattle.sg_check.specs.Facts.{audited_code, audited_entries, audits_entry, audits_race, both_rows, draws_digits, first_given, is_audited as posted_audited, is_both, opens_both, paper_code, public_bytes, shows_paper}
-use Rattle.sg_check.specs.Kinds.{is_there, wrong_audit, wrong_number, wrong_paper}
-use Rattle.sg_check.specs.inside.ByKind.{bad_print}
+use Rattle.sg_check.specs.Kinds.{bad_placed, is_there, wrong_audit, wrong_number, wrong_paper}
+use Rattle.sg_check.specs.declared.judged.Kind.TheVariants as kind
 use Rattle.sg_post.specs.Marks.{is_audit_fate, is_entry_audited, is_entry_of, told_audits}
 use Rattle.sg_post.specs.Posted.{audited_codes, both_sides, code_in_row, code_line_of, fate_blocks, one_side, opened_row, posted_record, told_blocks}
 use Rattle.sg_post.specs.declared.story.Claimed.{Claimed}
 use Rattle.sg_post.specs.declared.story.Told.{Told}
-use Rattle.sg_facts.proofs.Each.{EachOf, of-all, of-into, of-none}
 use Rattle.sg_facts.proofs.Facts.{digits_are}
 use Rattle.sg_facts.proofs.Rising.{IsFront, behind_ballots, behind_commits, blocks, digits-kept, given-kept, head, part_of, record-good}
-use Rattle.sg_accepted.proofs.Any.{any-map, any-same, same_tests}
 use Rattle.sg_accepted.proofs.Codes.{any-codes, audited_code_at, cast_code, row-columns, shows_in, sum-codes, told_codes}
 use Rattle.sg_accepted.proofs.Counted.{count-lefts, count-row, count-told}
 use Rattle.sg_accepted.proofs.Given.{Gives, given-value}
@@ -55,7 +58,6 @@ use Rattle.sg_accepted.proofs.Late.{Good}
 use Rattle.sg_accepted.proofs.Posted.{SaysRight, all-right}
 use Rattle.sg_accepted.proofs.Rows.{in_instance, sum-earlier}
 use Rattle.sg_accepted.proofs.Rule.{BlockRight, blocks-right}
-use Rattle.sg_accepted.proofs.Sums.{sum-flat, sum-map, sum-nothing, sum-of, sum-ones, sum-same, sum-zero, tally}
 use Rattle.sg_accepted.proofs.Unaltered.{IsTold}
 use Rattle.sg_accepted.specs.Unaltered.{IsTrueFate}
 
@@ -127,7 +129,7 @@ module _ (plan : Plan) (seed : List ℕ) (race : ℕ) (some : 0 < candidates_of 
   eq-sides a b = same_tests (a == b) (b == a) (λ e. eq-eqb b a (sym (eqb-true a b e))) (λ e. eq-eqb a b (sym (eqb-true b a e)))
 
   none-audited : (ballot : ℕ) → count_by (λ entry. is_entry_of plan race entry ballot && false) (numbers_below (entries_of plan race)) ≡ 0
-  none-audited ballot = sum-zero (λ entry. tally (is_entry_of plan race entry ballot && false)) (numbers_below (entries_of plan race)) (λ entry. ap tally (and-false (is_entry_of plan race entry ballot)))
+  none-audited ballot = sum-zero (λ entry. one_if (is_entry_of plan race entry ballot && false)) (numbers_below (entries_of plan race)) (λ entry. ap one_if (and-false (is_entry_of plan race entry ballot)))
 
   -- and as many as it has
   told-count : (ballot : ℕ) (what : Fate) → count_by (audits_race race) (told_codes plan seed race ballot what) ≡ count_by (λ entry. is_entry_of plan race entry ballot && is_audit_fate what) (numbers_below (entries_of plan race))
@@ -142,15 +144,15 @@ module _ (plan : Plan) (seed : List ℕ) (race : ℕ) (some : 0 < candidates_of 
 
       at_has : (b : Bool) → ballot_has plan ballot race ≡ b → count_by (audits_race race) (cond b (map (audited_code_at plan seed race ballot) (numbers_below k)) []) ≡ count_by (λ entry. (b && ballot_row plan race ballot == entry / k) && true) entries
       at_has true has =
-          sum-map (λ line. tally (audits_race race line)) (audited_code_at plan seed race ballot) (numbers_below k)
-          ∙ (sum-same (λ (c : ℕ). tally (race == race)) (λ (c : ℕ). 1) (numbers_below k) (λ c. ap tally (eq-eqb race race refl)) ∙ sum-ones 0 k)
-          ∙ sym (sum-same (λ entry. tally ((ballot_row plan race ballot == entry / k) && true)) (λ entry. tally (entry / k == ballot_row plan race ballot)) entries
-          (λ entry. ap tally (and-true (ballot_row plan race ballot == entry / k) ∙ eq-sides (ballot_row plan race ballot) (entry / k)))
+          sum-map (λ line. one_if (audits_race race line)) (audited_code_at plan seed race ballot) (numbers_below k)
+          ∙ (sum-same (λ (c : ℕ). one_if (race == race)) (λ (c : ℕ). 1) (numbers_below k) (λ c. ap one_if (eq-eqb race race refl)) ∙ sum-ones 0 k)
+          ∙ sym (sum-same (λ entry. one_if ((ballot_row plan race ballot == entry / k) && true)) (λ entry. one_if (entry / k == ballot_row plan race ballot)) entries
+          (λ entry. ap one_if (and-true (ballot_row plan race ballot == entry / k) ∙ eq-sides (ballot_row plan race ballot) (entry / k)))
           ∙ count-row k (rows_of plan race) (ballot_row plan race ballot) some ((rows_are_one plan race).below ballot has))
       at_has false has = sym (sum-nothing entries)
   told-count ballot (fate.Cast marks) =
-      sum-of (λ line. tally (audits_race race line)) (told_codes plan seed race ballot (fate.Cast marks))
-      (of-all (λ (line : Placed). tally (audits_race race line) ≡ 0) (cast_code plan seed race ballot) (marked_columns plan seed race (ballot_row plan race ballot) (fate.Cast marks)) (λ c. refl)) ∙ sym (none-audited ballot)
+      sum-of (λ line. one_if (audits_race race line)) (told_codes plan seed race ballot (fate.Cast marks))
+      (of-all (λ (line : Placed). one_if (audits_race race line) ≡ 0) (cast_code plan seed race ballot) (marked_columns plan seed race (ballot_row plan race ballot) (fate.Cast marks)) (λ c. refl)) ∙ sym (none-audited ballot)
   told-count ballot fate.Unused = sym (none-audited ballot)
   told-count ballot fate.Spoiled = sym (none-audited ballot)
   told-count ballot fate.Voided = sym (none-audited ballot)
@@ -210,7 +212,7 @@ no-paper : (plan : Plan) (race row candidate : ℕ) (line : Placed) → 6 ≤ pa
 no-paper plan race row candidate (PaperAt ballot of list) late = absurd (omega (arith, late))
 no-paper plan race row candidate line late = refl
 
-no-audit : (race : ℕ) (line : Placed) → 6 ≤ part_of line → tally (audits_race race line) ≡ 0
+no-audit : (race : ℕ) (line : Placed) → 6 ≤ part_of line → one_if (audits_race race line) ≡ 0
 no-audit race (CodeAt block.Cast ballot of column code) late = refl
 no-audit race (CodeAt block.Audited ballot of column code) late = absurd (omega (arith, late))
 no-audit race (CodeAt block.Dispute ballot of column code) late = refl
@@ -226,10 +228,6 @@ both-audited plan seed fates bytes race instance n = at_audit (is_entry_audited 
     at_audit true s = refl
     at_audit false side.Left = refl
     at_audit false side.Right = refl
-
-is_some-cond : (b : Bool) (v : ℕ) → is_some (cond b (Some v) None) ≡ b
-is_some-cond true v = refl
-is_some-cond false v = refl
 
 module _ (plan : Plan) (seed : List ℕ) (fates : List Told) (draw : Draw) (claims : List Claimed) (told : IsTold plan seed fates claims) where
   abbrev posted : Record
@@ -283,7 +281,7 @@ module _ (plan : Plan) (seed : List ℕ) (fates : List Told) (draw : Draw) (clai
   number-is : (race : ℕ) → race < length plan.races → audited_entries race lines ≡ count_by (is_entry_audited plan fates race) (numbers_below (entries_of plan race))
   unfolding is_entry_audited
   number-is race within =
-      let g : Placed → ℕ = λ line. tally (audits_race race line) in
+      let g : Placed → ℕ = λ line. one_if (audits_race race line) in
       let entries : List ℕ = numbers_below (entries_of plan race) in
       sum-codes plan seed race within g only fates draw claims
       ∙ (sum-flat g (λ (one : Told). told_codes plan seed race one.ballot one.fate) fates
@@ -291,9 +289,9 @@ module _ (plan : Plan) (seed : List ℕ) (fates : List Told) (draw : Draw) (clai
       (λ one. told-count plan seed race (some_candidate race within) one.ballot one.fate)
       ∙ sym (count-told plan race (told_audits plan race) (λ entry one e. (and_parts (is_entry_of plan race entry one.ballot) (is_audit_fate one.fate) e).0) 0 fates told.fit)))
     where
-      only : (line : Placed) → shows_in race line ≡ false → tally (audits_race race line) ≡ 0
+      only : (line : Placed) → shows_in race line ≡ false → one_if (audits_race race line) ≡ 0
       only (CodeAt block.Cast ballot of column code) is = refl
-      only (CodeAt block.Audited ballot of column code) is = ap tally is
+      only (CodeAt block.Audited ballot of column code) is = ap one_if is
       only (CodeAt block.Dispute ballot of column code) is = refl
       only line is = refl
 
@@ -349,17 +347,17 @@ module _ (plan : Plan) (seed : List ℕ) (fates : List Told) (draw : Draw) (clai
     number-fine o own both =
         let n : ℕ = entries_of plan race in
         let is_opened : ℕ → Bool = λ k. is_both (opened_row plan seed fates draw race instance k) in
-        let audits : Placed → ℕ = λ l. tally (audits_race race l) in
+        let audits : Placed → ℕ = λ l. one_if (audits_race race l) in
         elim (cases_eq (number + 1) n) [
           | inr other ↦ and_left (number + 1 == n) _ (ne_eqb (number + 1) n other)
           | inl last ↦
-              let earlier : both_rows race instance before ≡ count_by is_opened (numbers_below number) = sum-earlier plan seed fates draw claims race instance before number opening front within (λ l. tally (opens_both race instance l)) only
-              ∙ sum-same (λ k. tally ((race == race && instance == instance) && is_opened k)) (λ k. tally (is_opened k)) (numbers_below number) (λ k. rw (eq-eqb race race refl, eq-eqb instance instance refl) refl) in
-              let all : count_by is_opened (numbers_below (number + 1)) ≡ count_by is_opened (numbers_below number) + tally (is_both o) = ap (count_by is_opened) (numbers_below-push number)
-              ∙ (sum_by_push (λ k. tally (is_opened k)) (numbers_below number) number ∙ ap (λ (x : RowOpening). count_by is_opened (numbers_below number) + tally (is_both x)) (sym own)) in
-              let audited = sum-same (λ k. tally (is_opened k)) (λ k. tally (is_entry_audited plan fates race (row_left plan seed race instance k))) (numbers_below n) (λ k. ap tally (both k)) in
+              let earlier : both_rows race instance before ≡ count_by is_opened (numbers_below number) = sum-earlier plan seed fates draw claims race instance before number opening front within (λ l. one_if (opens_both race instance l)) only
+              ∙ sum-same (λ k. one_if ((race == race && instance == instance) && is_opened k)) (λ k. one_if (is_opened k)) (numbers_below number) (λ k. rw (eq-eqb race race refl, eq-eqb instance instance refl) refl) in
+              let all : count_by is_opened (numbers_below (number + 1)) ≡ count_by is_opened (numbers_below number) + one_if (is_both o) = ap (count_by is_opened) (numbers_below-push number)
+              ∙ (sum_by_push (λ k. one_if (is_opened k)) (numbers_below number) number ∙ ap (λ (x : RowOpening). count_by is_opened (numbers_below number) + one_if (is_both x)) (sym own)) in
+              let audited = sum-same (λ k. one_if (is_opened k)) (λ k. one_if (is_entry_audited plan fates race (row_left plan seed race instance k))) (numbers_below n) (λ k. ap one_if (both k)) in
               and_right (number + 1 == n) _
-              (ap not (eq-eqb (both_rows race instance before + tally (is_both o)) (audited_entries race before)
+              (ap not (eq-eqb (both_rows race instance before + one_if (is_both o)) (audited_entries race before)
               (omega (
                 arith,
                 earlier,
@@ -374,11 +372,11 @@ module _ (plan : Plan) (seed : List ℕ) (fates : List Told) (draw : Draw) (clai
               ))))
         ]
       where
-        only : (l : Placed) → in_instance race instance l ≡ false → tally (opens_both race instance l) ≡ 0
-        only (RowAt of i k x) none = ap tally (and_left (of == race && i == instance) (is_both x) none)
+        only : (l : Placed) → in_instance race instance l ≡ false → one_if (opens_both race instance l) ≡ 0
+        only (RowAt of i k x) none = ap one_if (and_left (of == race && i == instance) (is_both x) none)
         only l none = refl
 
-    row-fine : (d : Draw) → draw ≡ d → bad_print plan before (RowAt race instance number (opened_row plan seed fates d race instance number)) ≡ false
+    row-fine : (d : Draw) → draw ≡ d → bad_placed kind.Print plan before (RowAt race instance number (opened_row plan seed fates d race instance number)) ≡ false
     unfolding opened_row
     row-fine drawn.Full is =
         let none : first_given draws_digits before ≡ None = digits-kept lines before line front (omega arith) ∙ (digits_are posted ∙ ap (λ (d : Draw). draws_digits (draw_place d)) is) in
@@ -390,10 +388,10 @@ module _ (plan : Plan) (seed : List ℕ) (fates : List Told) (draw : Draw) (clai
         (and_right (is_some (public_bytes before)) _ (or_from (wrong_audit plan before race row) _ fine.0
         (number-fine row (ap (λ (d : Draw). opened_row plan seed fates d race instance number) (sym is)) (λ n. ap (λ (d : Draw). is_both (opened_row plan seed fates d race instance n)) is ∙ both-audited plan seed fates bytes race instance n)))) fine.1
 
-  print-good : (before : List Placed) (line : Placed) → IsFront lines before line → SaysRight plan seed fates draw line → bad_print plan before line ≡ false
+  print-good : (before : List Placed) (line : Placed) → IsFront lines before line → SaysRight plan seed fates draw line → bad_placed kind.Print plan before line ≡ false
   print-good before (RowAt race instance number opening) front is =
-      ap (λ (o : RowOpening). bad_print plan before (RowAt race instance number o)) is.1 ∙ row-fine before race instance number opening front is.0 draw refl
+      ap (λ (o : RowOpening). bad_placed kind.Print plan before (RowAt race instance number o)) is.1 ∙ row-fine before race instance number opening front is.0 draw refl
   print-good before other front is = refl
 
-  pub prints-whole : Good (bad_print plan) [] lines
-  prints-whole = record-good (bad_print plan) (SaysRight plan seed fates draw) posted print-good right
+  pub prints-whole : Good (bad_placed kind.Print plan) [] lines
+  prints-whole = record-good (bad_placed kind.Print plan) (SaysRight plan seed fates draw) posted print-good right

@@ -3,6 +3,7 @@ use Rattle.std.proofs.Common.{◌≡◌, ◌≢◌, ℕ, zero, suc, ◌+◌, ◌
 use Rattle.std.proofs.lemmas.List.Concat.{flat_map-append}
 use Rattle.std.specs.List.{flat_map}
 use Rattle.std.specs.Option.{option_map_or}
+use Rattle.sg_lists.proofs.Each.{EachOf, of-into}
 use Rattle.sg_plan.specs.Ballots.{candidates_of}
 use Rattle.sg_plan.specs.declared.plan.Draw.{Draw}
 use Rattle.sg_plan.specs.declared.plan.Plan.{Plan}
@@ -26,7 +27,6 @@ use Rattle.sg_post.specs.Marks.{total_of}
 use Rattle.sg_post.specs.Posted.{posted_record, posted_text}
 use Rattle.sg_post.specs.declared.story.Claimed.{Claimed}
 use Rattle.sg_post.specs.declared.story.Told.{Told}
-use Rattle.sg_facts.proofs.Each.{EachOf, of-into}
 use Rattle.sg_facts.proofs.Rising.{IsPart, all-behind, behind_ballots, behind_commits, behind_results, blocks, blocks_are, commits_are, head, head_is, part_of, results-rise}
 use Rattle.sg_facts.proofs.Sections.{race_flags-of, race_sets-of, seals-of}
 use Rattle.sg_accepted.proofs.Law.{unaltered_is_accepted}

@@ -4,6 +4,10 @@ use Rattle.std.proofs.lemmas.Bool.{and_left, and_right, cases_lt, eq-eqb, ne_eqb
 use Rattle.std.proofs.lemmas.List.Elements.{filter-append}
 use Rattle.std.specs.List.{list_any, range_with_len}
 use Rattle.std.specs.Prelude.{sum_by}
+use Rattle.sg_lists.proofs.Any.{any-filter, any-map, any-same}
+use Rattle.sg_lists.proofs.Each.{EachOf, of-into}
+use Rattle.sg_lists.proofs.Sums.{sum-filter, sum-map, sum-same}
+use Rattle.sg_grammar.proofs.Lists.{of-numbered}
 use Rattle.sg_plan.specs.Ballots.{entries_of}
 use Rattle.sg_plan.specs.declared.plan.Draw.{Draw}
 use Rattle.sg_plan.specs.declared.plan.Draw.TheVariants as drawn
@@ -21,12 +25,9 @@ use Rattle.sg_post.proofs.Numbered.{indexed-numbers}
 use Rattle.sg_post.specs.Posted.{opened_row, posted_record}
 use Rattle.sg_post.specs.declared.story.Claimed.{Claimed}
 use Rattle.sg_post.specs.declared.story.Told.{Told}
-use Rattle.sg_facts.proofs.Each.{EachOf, of-into, of-numbered}
 use Rattle.sg_facts.proofs.Finding.{of-entries, of-items}
 use Rattle.sg_facts.proofs.Rising.{IsFront, IsPart, blocks, blocks_are, claims, commits_are, head, head_is, part_of, results_are}
 use Rattle.sg_facts.proofs.Sections.{disputes-of, seals-of}
-use Rattle.sg_accepted.proofs.Any.{any-filter, any-map, any-same}
-use Rattle.sg_accepted.proofs.Sums.{sum-filter, sum-map, sum-same}
 
 -- FILTERS
 

@@ -7,6 +7,10 @@ use Rattle.std.proofs.lemmas.Option.{same_Some, slice_get_within}
 use Rattle.std.specs.List.{flat_map, list_all, list_any, range_with_len}
 use Rattle.std.specs.Option.{option_map_or}
 use Rattle.std.specs.Prelude.{count_by, sum_by}
+use Rattle.sg_lists.proofs.Any.{any-count, any-place}
+use Rattle.sg_lists.proofs.Bools.{one_if}
+use Rattle.sg_lists.proofs.Each.{EachOf, of-flat, of-into, of-none, of-parts, of-passing}
+use Rattle.sg_lists.proofs.Sums.{count-one, sum-filter, sum-flat, sum-map, sum-of, sum-same, sum-zero}
 use Rattle.sg_plan.proofs.LimitLaws.{keeps_limits, passes_tests}
 use Rattle.sg_plan.proofs.PlanLaws.{entry_tells}
 use Rattle.sg_plan.specs.Ballots.{ballot_has, ballot_row, candidates_of, entry_at, is_over, marks_in, races_of_ballot, races_of_style, style_of_ballot, votes_of}
@@ -30,9 +34,8 @@ use Rattle.sg_grammar.specs.declared.state.Block.TheVariants as block
 use Rattle.sg_record.specs.Places.{code_place, paper_places, places_in}
 use Rattle.sg_record.specs.declared.record.Record.{Record}
 use Rattle.sg_check.specs.Facts.{marks_ballot}
-use Rattle.sg_check.specs.Kinds.{has_repeat, shows_against}
-use Rattle.sg_check.specs.inside.ByKind.{bad_rule}
-use Rattle.sg_post.proofs.Each.{of-flat, of-passing}
+use Rattle.sg_check.specs.Kinds.{bad_placed, has_repeat, shows_against}
+use Rattle.sg_check.specs.declared.judged.Kind.TheVariants as kind
 use Rattle.sg_post.proofs.MarkedCodes.{cast_overs, shows_mark}
 use Rattle.sg_post.proofs.OwnCodes.{HoldsOfOwn, marks-have}
 use Rattle.sg_post.proofs.StoryFits.{fits-later, fits_ballot}
@@ -40,14 +43,11 @@ use Rattle.sg_post.specs.Fits.{fates_fit}
 use Rattle.sg_post.specs.Posted.{code_in_row, code_line_of, posted_record, told_blocks}
 use Rattle.sg_post.specs.declared.story.Claimed.{Claimed}
 use Rattle.sg_post.specs.declared.story.Told.{Told}
-use Rattle.sg_facts.proofs.Each.{EachOf, of-into, of-none}
 use Rattle.sg_facts.proofs.Rising.{IsFront, is_plain, lines-of, record-good}
 use Rattle.sg_facts.proofs.Sections.{blocks-of}
-use Rattle.sg_accepted.proofs.Any.{any-count, any-place}
 use Rattle.sg_accepted.proofs.Codes.{audited-each, cast_code, codes-each, shows_in, sum-codes, sum-told, told_codes}
 use Rattle.sg_accepted.proofs.Late.{Good}
-use Rattle.sg_accepted.proofs.Posted.{HasBlock, SaysRight, all-right, claims-of, fits-each, of-both, of-parts, told-lines}
-use Rattle.sg_accepted.proofs.Sums.{count-one, sum-filter, sum-flat, sum-map, sum-of, sum-same, sum-zero, tally}
+use Rattle.sg_accepted.proofs.Posted.{HasBlock, SaysRight, all-right, claims-of, fits-each, of-both, told-lines}
 use Rattle.sg_accepted.proofs.Unaltered.{IsTold, holds-all}
 use Rattle.sg_accepted.specs.Unaltered.{IsTrueFate, told_fate}
 
@@ -161,12 +161,12 @@ marks-enough plan seed ballot race (mark ∷ marks) has =
         let e = either p q xs in
         omega (arith, a, b, c, d, e)
       where
-        at_first : (s t : Bool) → tally (s || t) ≤ tally s + tally t
+        at_first : (s t : Bool) → one_if (s || t) ≤ one_if s + one_if t
         at_first true t = omega arith
         at_first false t = omega arith
 
     at_race : (b : Bool) → mark.race == race ≡ b
-        → count_by (λ column. b && mark.candidate == shown_by plan seed race (entry_at plan race ballot column)) (range_with_len 0 (candidates_of plan race)) ≤ tally b
+        → count_by (λ column. b && mark.candidate == shown_by plan seed race (entry_at plan race ballot column)) (range_with_len 0 (candidates_of plan race)) ≤ one_if b
     at_race true e =
         count-one (λ column. mark.candidate == shown_by plan seed race (entry_at plan race ballot column)) 0 (candidates_of plan race)
         (λ j k a b p q. shown-one plan seed ballot race j k has (omega (arith, a)) (omega (arith, b))
@@ -180,18 +180,18 @@ marks_posted plan seed ballot race what = count_by (marks_ballot ballot race) (t
 cast-count : (plan : Plan) (seed : List ℕ) (ballot race : ℕ) (marks : List Mark)
     → marks_posted plan seed ballot race (fate.Cast marks) ≡ count_by (λ column. shows_mark plan seed marks ballot race column && not (is_over plan marks race)) (numbers_below (candidates_of plan race))
 cast-count plan seed ballot race marks =
-    let g : Placed → ℕ = λ line. tally (marks_ballot ballot race line) in
+    let g : Placed → ℕ = λ line. one_if (marks_ballot ballot race line) in
     let p : ℕ → Bool = λ column. shows_mark plan seed marks ballot race column && not (is_over plan marks race) in
     let columns : List ℕ = numbers_below (candidates_of plan race) in
     sum-map g (cast_code plan seed race ballot) (marked_columns plan seed race (ballot_row plan race ballot) (fate.Cast marks))
     ∙ (sum-filter (λ c. g (cast_code plan seed race ballot c)) p columns
-    ∙ sum-same (λ c. cond (p c) (g (cast_code plan seed race ballot c)) 0) (λ c. tally (p c)) columns (λ c. rw (eq-eqb ballot ballot refl, eq-eqb race race refl) refl))
+    ∙ sum-same (λ c. cond (p c) (g (cast_code plan seed race ballot c)) 0) (λ c. one_if (p c)) columns (λ c. rw (eq-eqb ballot ballot refl, eq-eqb race race refl) refl))
 
 over-none : (plan : Plan) (seed : List ℕ) (ballot race : ℕ) (marks : List Mark) → is_over plan marks race ≡ true → marks_posted plan seed ballot race (fate.Cast marks) ≡ 0
 over-none plan seed ballot race marks over =
     cast-count plan seed ballot race marks
-    ∙ sum-zero (λ column. tally (shows_mark plan seed marks ballot race column && not (is_over plan marks race))) (numbers_below (candidates_of plan race))
-    (λ column. rw over (ap tally (and-false (shows_mark plan seed marks ballot race column))))
+    ∙ sum-zero (λ column. one_if (shows_mark plan seed marks ballot race column && not (is_over plan marks race))) (numbers_below (candidates_of plan race))
+    (λ column. rw over (ap one_if (and-false (shows_mark plan seed marks ballot race column))))
 
 -- what is posted of a ballot is within its votes
 marks-within : (plan : Plan) (seed : List ℕ) (ballot race : ℕ) (what : Fate) → fits_ballot plan ballot what → marks_posted plan seed ballot race what ≤ votes_of plan race
@@ -201,7 +201,7 @@ marks-within plan seed ballot race (fate.Cast marks) fit =
     omega (arith, counted, few)
   where
     none : (p : ℕ → Bool) → ((column : ℕ) → p column ≡ false) → count_by p (numbers_below (candidates_of plan race)) ≤ votes_of plan race
-    none p fails = let zero = sum-zero (λ column. tally (p column)) (numbers_below (candidates_of plan race)) (λ column. ap tally (fails column)) in omega (arith, zero)
+    none p fails = let zero = sum-zero (λ column. one_if (p column)) (numbers_below (candidates_of plan race)) (λ column. ap one_if (fails column)) in omega (arith, zero)
 
     at_over : (b : Bool) → is_over plan marks race ≡ b → count_by (λ column. shows_mark plan seed marks ballot race column && not b) (numbers_below (candidates_of plan race)) ≤ votes_of plan race
     at_over true over = none (λ column. shows_mark plan seed marks ballot race column && false) (λ column. and-false (shows_mark plan seed marks ballot race column))
@@ -210,8 +210,8 @@ marks-within plan seed ballot race (fate.Cast marks) fit =
         elim (cases_Bool (ballot_has plan ballot race)) [
           | inl has ↦
               let enough = marks-enough plan seed ballot race marks has in
-              let same = sum-same (λ column. tally (shows_mark plan seed marks ballot race column && true)) (λ column. tally (shows_mark plan seed marks ballot race column)) (numbers_below (candidates_of plan race))
-              (λ column. ap tally (and-true (shows_mark plan seed marks ballot race column))) in
+              let same = sum-same (λ column. one_if (shows_mark plan seed marks ballot race column && true)) (λ column. one_if (shows_mark plan seed marks ballot race column)) (numbers_below (candidates_of plan race))
+              (λ column. ap one_if (and-true (shows_mark plan seed marks ballot race column))) in
               omega (arith, few, enough, same)
           | inr lacks ↦
               let fits = and_parts (list_all (mark_fits plan (races_of_ballot plan ballot)) marks) _ fit in
@@ -221,7 +221,7 @@ marks-within plan seed ballot race (fate.Cast marks) fit =
               (λ shows. true≢false (sym (marks-have plan ballot race (shown_by plan seed race (entry_at plan race ballot column)) marks fits.0 shows) ∙ lacks))))
         ]
 marks-within plan seed ballot race (fate.Audited paper) fit =
-    let none = sum-of (λ line. tally (marks_ballot ballot race line)) (told_codes plan seed race ballot (fate.Audited paper)) (audited-each (λ line. tally (marks_ballot ballot race line) ≡ 0) plan seed race ballot (λ column. refl) paper) in
+    let none = sum-of (λ line. one_if (marks_ballot ballot race line)) (told_codes plan seed race ballot (fate.Audited paper)) (audited-each (λ line. one_if (marks_ballot ballot race line) ≡ 0) plan seed race ballot (λ column. refl) paper) in
     omega (arith, none)
 marks-within plan seed ballot race fate.Unused fit = omega arith
 marks-within plan seed ballot race fate.Spoiled fit = omega arith
@@ -319,24 +319,24 @@ module _ (plan : Plan) (seed : List ℕ) (fates : List Told) (draw : Draw) (clai
   -- in each race a ballot's marks are those of its fate
   marks-are : (ballot race : ℕ) → race < length plan.races → count_by (marks_ballot ballot race) lines ≡ marks_posted plan seed ballot race (told_fate fates ballot)
   marks-are ballot race within =
-      let g : Placed → ℕ = λ line. tally (marks_ballot ballot race line) in
+      let g : Placed → ℕ = λ line. one_if (marks_ballot ballot race line) in
       sum-codes plan seed race within g only fates draw claims
       ∙ (sum-flat g (λ (one : Told). told_codes plan seed race one.ballot one.fate) fates
       ∙ sum-told plan (λ of what. sum_by g (told_codes plan seed race of what)) ballot
       (λ other what differ. sum-of g (told_codes plan seed race other what)
-      (codes-each (λ line. g line ≡ 0) plan seed race other (λ column. refl) (λ column. ap (λ (b : Bool). tally (b && race == race)) (ne_eqb other ballot differ)) what)) refl 0 fates told.fit)
+      (codes-each (λ line. g line ≡ 0) plan seed race other (λ column. refl) (λ column. ap (λ (b : Bool). one_if (b && race == race)) (ne_eqb other ballot differ)) what)) refl 0 fates told.fit)
     where
-      only : (line : Placed) → shows_in race line ≡ false → tally (marks_ballot ballot race line) ≡ 0
-      only (CodeAt block.Cast of in_race column code) is = ap tally (and_right (of == ballot) (in_race == race) is)
+      only : (line : Placed) → shows_in race line ≡ false → one_if (marks_ballot ballot race line) ≡ 0
+      only (CodeAt block.Cast of in_race column code) is = ap one_if (and_right (of == ballot) (in_race == race) is)
       only (CodeAt block.Audited of in_race column code) is = refl
       only (CodeAt block.Dispute of in_race column code) is = refl
       only line is = refl
 
   -- what is marked before a line is no more
   marks-split : (before : List Placed) (line : Placed) → IsFront lines before line → (ballot race : ℕ) → race < length plan.races
-      → count_by (marks_ballot ballot race) before + tally (marks_ballot ballot race line) ≤ marks_posted plan seed ballot race (told_fate fates ballot)
+      → count_by (marks_ballot ballot race) before + one_if (marks_ballot ballot race line) ≤ marks_posted plan seed ballot race (told_fate fates ballot)
   marks-split before line front ballot race within =
-      let g : Placed → ℕ = λ l. tally (marks_ballot ballot race l) in
+      let g : Placed → ℕ = λ l. one_if (marks_ballot ballot race l) in
       omega (arith, marks-are ballot race within, ap (sum_by g) front.is, sum_by-append g before (line ∷ front.rest), sum_by-cons g line front.rest)
 
   abbrev IsRight : Placed → Type 0
@@ -353,11 +353,11 @@ module _ (plan : Plan) (seed : List ℕ) (fates : List Told) (draw : Draw) (clai
       (of-into IsRight (λ (line : Placed). shows_against ballot race column (code_line_of plan seed ballot race column).code line ≡ false) before
       (λ line is. against-not plan seed fates draw ballot race column line told.fine right.0.0 right.0.1 right.0.2 is.0) all))
 
-  rule-good : (before : List Placed) (line : Placed) → IsFront lines before line → IsRight line → bad_rule plan before line ≡ false
+  rule-good : (before : List Placed) (line : Placed) → IsFront lines before line → IsRight line → bad_placed kind.Rule plan before line ≡ false
   rule-good before (CodeAt block.Cast ballot race column code) front right =
       let split = marks-split before (CodeAt block.Cast ballot race column code) front ballot race right.0.0 in
       let limit = marks-within plan seed ballot race (told_fate fates ballot) (told-fits plan 0 fates ballot told.fit) in
-      let marked : tally (marks_ballot ballot race (CodeAt block.Cast ballot race column code)) ≡ tally true = ap tally (and_from (ballot == ballot) (race == race) (eq-eqb ballot ballot refl) (eq-eqb race race refl)) in
+      let marked : one_if (marks_ballot ballot race (CodeAt block.Cast ballot race column code)) ≡ one_if true = ap one_if (and_from (ballot == ballot) (race == race) (eq-eqb ballot ballot refl) (eq-eqb race race refl)) in
       or_from (nat_le (votes_of plan race) (count_by (marks_ballot ballot race) before)) _ (lt-leb (votes_of plan race) (count_by (marks_ballot ballot race) before) (omega (arith, split, limit, marked)))
       (code-good before block.Cast ballot race column code front right)
   rule-good before (CodeAt block.Audited ballot race column code) front right = code-good before block.Audited ballot race column code front right
@@ -369,5 +369,5 @@ module _ (plan : Plan) (seed : List ℕ) (fates : List Told) (draw : Draw) (clai
   rule-good before (PaperAt ballot race list) front right = rw right.1.1 (paper-good plan seed race (ballot_row plan race ballot) told.fine right.1.0)
   rule-good before line front right = refl
 
-  pub rules-whole : Good (bad_rule plan) [] lines
-  rules-whole = record-good (bad_rule plan) IsRight posted rule-good all-both
+  pub rules-whole : Good (bad_placed kind.Rule plan) [] lines
+  rules-whole = record-good (bad_placed kind.Rule plan) IsRight posted rule-good all-both

@@ -3,6 +3,7 @@ use Rattle.std.proofs.Common.{◌≡◌, ℕ, Bool, true, false, not, List, [], 
 use Rattle.std.proofs.lemmas.List.{length-append}
 use Rattle.std.proofs.lemmas.Slice.Eq.{bytes_eq-Decides}
 use Rattle.sha2.specs.Sha256.{sha256}
+use Rattle.sg_lists.proofs.Each.{EachOf, of-into}
 use Rattle.sg_commit.specs.declared.Digest.{Digest}
 use Rattle.sg_plan.specs.declared.plan.Plan.{Plan}
 use Rattle.sg_forms.specs.Said.{Said}
@@ -15,7 +16,6 @@ use Rattle.sg_record.specs.Writing.{text_in}
 use Rattle.sg_check.specs.Kinds.{bad_seal, posted_bytes, is_bad}
 use Rattle.sg_check.specs.declared.judged.Kind.TheVariants as kind
 use Rattle.sg_post.specs.Posted.{seal_over}
-use Rattle.sg_facts.proofs.Each.{EachOf, of-into}
 use Rattle.sg_accepted.proofs.Late.{Good, good-append, good-never, good-one}
 use Rattle.sg_record.specs.Places.{posts}
 

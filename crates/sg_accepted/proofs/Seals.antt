@@ -2,6 +2,7 @@
 use Rattle.std.proofs.Common.{◌≡◌, ℕ, zero, suc, ◌+◌, ◌-◌, Bool, true, not, List, [], ◌∷◌, ◌++◌, length, map, slice_index_or, refl, sym, subst, ap, ◌∙◌, append_assoc, append-nil, arith}
 use Rattle.std.proofs.lemmas.List.{length-append, length-map}
 use Rattle.std.specs.List.{flat_map}
+use Rattle.sg_lists.proofs.Each.{EachOf, of-append}
 use Rattle.sg_plan.specs.declared.plan.Draw.{Draw}
 use Rattle.sg_plan.specs.declared.plan.Draw.TheVariants as drawn
 use Rattle.sg_plan.specs.declared.plan.Plan.{Plan}
@@ -23,7 +24,6 @@ use Rattle.sg_check.specs.declared.judged.Kind.TheVariants as kind
 use Rattle.sg_post.specs.Posted.{by_entry, by_row, code_commit_of, dispute_of, opened_row, posted_record, row_commit_of, seal_1, seal_2, seal_3, seal_over, told_blocks}
 use Rattle.sg_post.specs.declared.story.Claimed.{Claimed}
 use Rattle.sg_post.specs.declared.story.Told.{Told}
-use Rattle.sg_facts.proofs.Each.{EachOf, of-append}
 use Rattle.sg_facts.proofs.Finding.{of-each}
 use Rattle.sg_facts.proofs.Sections.{ballots-of, codes-of, disputes-of, plan-of, race_results-of, row_commits-of, rows-of}
 use Rattle.sg_accepted.proofs.Late.{Good, good-append}

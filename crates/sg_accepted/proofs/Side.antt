@@ -19,8 +19,8 @@ use Rattle.sg_forms.specs.declared.line.RowOpening.{RowOpening}
 use Rattle.sg_grammar.specs.Placed.{Placed}
 use Rattle.sg_grammar.specs.Placed.Placed.{RowAt}
 use Rattle.sg_check.specs.Facts.{draws_digits, draws_full, first_given, is_both, is_full_draw, public_bytes}
-use Rattle.sg_check.specs.Kinds.{is_on_side}
-use Rattle.sg_check.specs.inside.ByKind.{bad_side}
+use Rattle.sg_check.specs.Kinds.{bad_placed, is_on_side}
+use Rattle.sg_check.specs.declared.judged.Kind.TheVariants as kind
 use Rattle.sg_record.specs.Typed.{AreDrawn}
 use Rattle.sg_post.specs.Fits.{claim_fits, fates_fit}
 use Rattle.sg_post.specs.Marks.{is_entry_audited}
@@ -42,7 +42,7 @@ on_side plan seed race instance number side.Right false = refl
 
 row-sided : (plan : Plan) (seed : List ℕ) (fates : List Told) (draw : Draw) (before : List Placed) (race instance number : ℕ) → AreDrawn draw
     → is_full_draw before ≡ draws_full (draw_place draw) → first_given draws_digits before ≡ draws_digits (draw_place draw)
-    → bad_side plan before (RowAt race instance number (opened_row plan seed fates draw race instance number)) ≡ false
+    → bad_placed kind.Side plan before (RowAt race instance number (opened_row plan seed fates draw race instance number)) ≡ false
 unfolding opened_row
 row-sided plan seed fates drawn.Full before race instance number are full digits =
     let none : public_bytes before ≡ None = ap (option_map bytes_of_digits) digits in
@@ -59,12 +59,12 @@ module _ (plan : Plan) (seed : List ℕ) (fates : List Told) (draw : Draw) (clai
   abbrev lines : List Placed
   lines = places_in (posted_record plan seed fates draw claims)
 
-  side-good : (before : List Placed) (line : Placed) → IsFront lines before line → SaysRight plan seed fates draw line → bad_side plan before line ≡ false
+  side-good : (before : List Placed) (line : Placed) → IsFront lines before line → SaysRight plan seed fates draw line → bad_placed kind.Side plan before line ≡ false
   side-good before (RowAt race instance number opening) front right =
-      ap (λ (o : RowOpening). bad_side plan before (RowAt race instance number o)) right.1
+      ap (λ (o : RowOpening). bad_placed kind.Side plan before (RowAt race instance number o)) right.1
       ∙ row-sided plan seed fates draw before race instance number are (full_draw-kept lines before (RowAt race instance number opening) front (omega arith) ∙ full_draw_is (posted_record plan seed fates draw claims))
       (digits-kept lines before (RowAt race instance number opening) front (omega arith) ∙ digits_are (posted_record plan seed fates draw claims))
   side-good before line front right = refl
 
-  pub sides-whole : fault_of plan ≡ None → fates_fit plan 0 fates ≡ true → list_all (claim_fits plan) claims ≡ true → Good (bad_side plan) [] lines
-  sides-whole fine fit claimed = record-good (bad_side plan) (SaysRight plan seed fates draw) (posted_record plan seed fates draw claims) side-good (all-right plan seed fates draw claims fine fit claimed)
+  pub sides-whole : fault_of plan ≡ None → fates_fit plan 0 fates ≡ true → list_all (claim_fits plan) claims ≡ true → Good (bad_placed kind.Side plan) [] lines
+  sides-whole fine fit claimed = record-good (bad_placed kind.Side plan) (SaysRight plan seed fates draw) (posted_record plan seed fates draw claims) side-good (all-right plan seed fates draw claims fine fit claimed)

@@ -15,7 +15,8 @@ use Rattle.sg_record.specs.Places.{places_in}
 use Rattle.sg_check.proofs.Counting.{count-same}
 use Rattle.sg_check.proofs.Votes.{is_vote, places_in as in_plan, votes-count, votes_before}
 use Rattle.sg_check.specs.Facts.{votes_for}
-use Rattle.sg_check.specs.inside.ByKind.{bad_total}
+use Rattle.sg_check.specs.Kinds.{bad_placed}
+use Rattle.sg_check.specs.declared.judged.Kind.TheVariants as kind
 use Rattle.sg_post.specs.Fits.{claim_fits, fates_fit}
 use Rattle.sg_post.specs.Marks.{is_place_set, total_of}
 use Rattle.sg_post.specs.Posted.{posted_record}
@@ -43,7 +44,7 @@ module _ (plan : Plan) (seed : List ℕ) (fates : List Told) (draw : Draw) (clai
         ∙ sym (below_counts test (entries_of plan race)))
 
     -- no places of its race stand behind a total
-    total-good : (before : List Placed) (line : Placed) → IsFront lines before line → SaysRight plan seed fates draw line → bad_total plan before line ≡ false
+    total-good : (before : List Placed) (line : Placed) → IsFront lines before line → SaysRight plan seed fates draw line → bad_placed kind.Total plan before line ≡ false
     total-good before (TotalAt race candidate count) front right =
         let counted : count ≡ votes_for plan race candidate before
         = right.2
@@ -52,5 +53,5 @@ module _ (plan : Plan) (seed : List ℕ) (fates : List Told) (draw : Draw) (clai
         ap not (eq-eqb count (votes_for plan race candidate before) counted)
     total-good before line front right = refl
 
-    pub totals-whole : fault_of plan ≡ None → fates_fit plan 0 fates ≡ true → list_all (claim_fits plan) claims ≡ true → Good (bad_total plan) [] lines
-    totals-whole fine fit claimed = record-good (bad_total plan) (SaysRight plan seed fates draw) (posted_record plan seed fates draw claims) total-good (all-right plan seed fates draw claims fine fit claimed)
+    pub totals-whole : fault_of plan ≡ None → fates_fit plan 0 fates ≡ true → list_all (claim_fits plan) claims ≡ true → Good (bad_placed kind.Total plan) [] lines
+    totals-whole fine fit claimed = record-good (bad_placed kind.Total plan) (SaysRight plan seed fates draw) (posted_record plan seed fates draw claims) total-good (all-right plan seed fates draw claims fine fit claimed)

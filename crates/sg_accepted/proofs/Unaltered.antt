@@ -3,6 +3,7 @@ use Rattle.std.proofs.Common.{◌≡◌, ℕ, true, ◌&&◌, List, [], ◌∷�
 use Rattle.std.proofs.lemmas.Bool.{and_parts}
 use Rattle.std.proofs.lemmas.List.Elements.{All-head, All-tail}
 use Rattle.std.specs.List.{list_all}
+use Rattle.sg_lists.proofs.Each.{EachOf}
 use Rattle.sg_plan.specs.Ballots.{ballot_has}
 use Rattle.sg_plan.specs.Codes.{is_code}
 use Rattle.sg_plan.specs.Limits.{fault_of}
@@ -11,7 +12,6 @@ use Rattle.sg_post.specs.Fits.{claim_fits, fates_fit, stage_fits}
 use Rattle.sg_post.specs.declared.story.Claimed.{Claimed}
 use Rattle.sg_post.specs.declared.story.Story.{Story}
 use Rattle.sg_post.specs.declared.story.Told.{Told}
-use Rattle.sg_facts.proofs.Each.{EachOf}
 use Rattle.sg_accepted.specs.Unaltered.{IsRightClaim, IsTrueFate, IsUnaltered}
 
 pub holds-all : {A : Type 0} (P : A → Type 0) (xs : List A) → All P xs → EachOf P xs

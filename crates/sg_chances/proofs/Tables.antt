@@ -1,12 +1,11 @@
 -- The tables as a completion: it has all pointers once.
 use Rattle.std.proofs.Common.{◌≡◌, ℕ, zero, suc, ◌<◌, nat_le, Bool, false, List, refl, arith}
-use Rattle.std.proofs.lemmas.Bool.{ne_eqb, or_from}
+use Rattle.std.proofs.lemmas.Bool.{ne_eqb, or_from, lt-leb}
 use Rattle.sg_plan.specs.Ballots.{entries_of}
 use Rattle.sg_plan.specs.declared.plan.Plan.{Plan}
 use Rattle.sg_plan.specs.declared.plan.Side.{Side}
 use Rattle.sg_plan.specs.declared.plan.Side.TheVariants as side
 use Rattle.sg_tables.proofs.TableLaws.{opening_laws, pointer_laws}
-use Rattle.sg_check.proofs.BitsFound.{not_le}
 use Rattle.sg_check.specs.Completions.{any_below}
 use Rattle.sg_check.specs.Facts.{points_to}
 use Rattle.sg_odds.specs.Odds.{IsInstanceFull, is_half_lacking}
@@ -31,7 +30,7 @@ module _ (plan : Plan) (seed : List ℕ) (race instance : ℕ) where
   none_lacking : (on : Side) (row : ℕ) → row < entries_of plan race → is_half_lacking plan (tables_of plan seed) on race instance row ≡ false
   none_lacking on row less =
       let value : ℕ = (table_half plan seed on race instance row).value in
-      or_from (nat_le (entries_of plan race) value) (any_below (λ earlier. points_to value (tables_of plan seed on race instance earlier)) row) (not_le (entries_of plan race) value (pointer_below on row less))
+      or_from (nat_le (entries_of plan race) value) (any_below (λ earlier. points_to value (tables_of plan seed on race instance earlier)) row) (lt-leb (entries_of plan race) value (pointer_below on row less))
       (none_below (λ earlier. points_to value (tables_of plan seed on race instance earlier)) row
       (λ k before. ne_eqb (table_half plan seed on race instance k).value value (λ e. let one = pointer_one on k row (omega (arith, before, less)) less e in omega (arith, one, before))))
 

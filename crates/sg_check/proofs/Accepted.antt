@@ -3,11 +3,12 @@ use Rattle.std.proofs.Common.{◌≡◌, ℕ, true, false, List, length, Option,
 use Rattle.std.specs.Option.{option_map_or}
 use Rattle.std.specs.Prelude.{IfOk, IfSome, Result, Ok, Err}
 use Rattle.std.proofs.lemmas.List.{take_all}
+use Rattle.sg_lists.proofs.Finding.{fails-each}
 use Rattle.sg_outside.specs.TextLines.{lines_of}
 use Rattle.sg_grammar.specs.Lines.{placed_of}
 use Rattle.sg_grammar.specs.Walk.{Walked, is_whole, start, walk}
+use Rattle.sg_check.proofs.AllKinds.{each_kind}
 use Rattle.sg_check.proofs.BoundLaws.{are_in_plan, fine, full_draw_equals, sizes, totals_bound, totals_stand, version_is, whole_is}
-use Rattle.sg_check.proofs.Finding.{Fails, find-fails}
 use Rattle.sg_check.proofs.FineLines.{codes_are_known, do_paths_agree}
 use Rattle.sg_check.proofs.Posting.{completion_exists}
 use Rattle.sg_check.proofs.PrintingLaw.{has_printing, version_room}
@@ -29,23 +30,8 @@ printing_exists lines totals walked accepted =
 
 -- fine lines break no kind
 none_broken : (lines : List (List ℕ)) → AreFine lines → (k : Kind) → breaks k lines ≡ false
-none_broken lines fine k = at_kind k
-  where
-    fails : Fails (λ j. breaks j lines) kinds
-    fails = find-fails (λ j. breaks j lines) kinds (subst (λ (l : List (List ℕ)). least_broken l ≡ None) (take_all (length lines) lines (omega arith)) (fine (length lines)))
-
-    at_kind : (j : Kind) → breaks j lines ≡ false
-    at_kind kind.Form = fails.0
-    at_kind kind.Seal = fails.1.0
-    at_kind kind.Opening = fails.1.1.0
-    at_kind kind.Side = fails.1.1.1.0
-    at_kind kind.Pointer = fails.1.1.1.1.0
-    at_kind kind.Flag = fails.1.1.1.1.1.0
-    at_kind kind.Path = fails.1.1.1.1.1.1.0
-    at_kind kind.Total = fails.1.1.1.1.1.1.1.0
-    at_kind kind.Print = fails.1.1.1.1.1.1.1.1.0
-    at_kind kind.Rule = fails.1.1.1.1.1.1.1.1.1.0
-    at_kind kind.Dispute = fails.1.1.1.1.1.1.1.1.1.1.0
+none_broken lines fine k =
+    fails-each (λ j. breaks j lines) kinds k (subst (λ (l : List (List ℕ)). least_broken l ≡ None) (take_all (length lines) lines (omega arith)) (fine (length lines))) (each_kind k)
 
 -- lines that are good have a walk
 has_walk : (lines : List (List ℕ)) (totals : List Total) → IsGood lines totals → (w : Walked) × (walk start lines ≡ Some w)

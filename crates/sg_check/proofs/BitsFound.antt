@@ -1,9 +1,11 @@
 -- Bits on lines of 64: what the look-up at a number finds.
-use Rattle.std.proofs.Common.{◌≡◌, ◌≢◌, ℕ, zero, suc, ◌+◌, ◌-◌, ◌*◌, ◌/◌, ◌<◌, ◌≤◌, ◌==◌, nat_le, Bool, true, false, ◌&&◌, ◌||◌, inl, inr, List, [], ◌∷◌, length, map, get_or, refl, ap, ◌∙◌, arith}
-use Rattle.std.proofs.lemmas.Bool.{cases_Bool, cases_lt, le-leb, leb-true}
+use Rattle.std.proofs.Common.{◌≡◌, ◌≢◌, ℕ, zero, suc, ◌+◌, ◌-◌, ◌*◌, ◌/◌, ◌<◌, ◌≤◌, ◌==◌, nat_le, Bool, false, ◌&&◌, inl, inr, List, [], ◌∷◌, length, map, get_or, refl, ap, ◌∙◌, arith}
+use Rattle.std.proofs.lemmas.Bool.{cases_lt, le-leb, lt-leb}
 use Rattle.std.proofs.lemmas.List.{get_or-drop, get_or-take}
 use Rattle.std.specs.Prelude.{drop, take}
 use Rattle.std.specs.List.{list_any}
+use Rattle.std.proofs.Math.Bool.{and-false, or-false}
+use Rattle.sg_lists.proofs.Lists.{length-take_le}
 use Rattle.sg_grammar.specs.Due.{each, lines_for}
 use Rattle.sg_check.specs.Facts.{bit_at}
 use Rattle.sg_check.proofs.Fronts.{any-at}
@@ -14,25 +16,9 @@ get_or-past [] at past = refl
 get_or-past (bit ∷ bits) zero past = absurd (omega (arith, past))
 get_or-past (bit ∷ bits) (suc at) past = get_or-past bits at (omega (arith, past))
 
-take-short : (count : ℕ) (bits : List Bool) → length (take count bits) ≤ count
-take-short zero bits = omega arith
-take-short (suc count) [] = omega arith
-take-short (suc count) (bit ∷ bits) = omega (arith, take-short count bits)
-
 -- the bit of a number is among those of a line that begins at `from`
 abbrev pub hits : ℕ → ℕ → List ℕ → Bool
 hits number from signs = nat_le from number && bit_at signs (number - from)
-
-pub not_le : (a b : ℕ) → b < a → nat_le a b ≡ false
-not_le a b below = elim (cases_Bool (nat_le a b)) [ inl yes_le ↦ absurd (omega (arith, leb-true a b yes_le, below)) | inr none ↦ none ]
-
-either_false : (b : Bool) → (b && false) ≡ false
-either_false true = refl
-either_false false = refl
-
-or_false : (b : Bool) → (b || false) ≡ b
-or_false true = refl
-or_false false = refl
 
 -- where this is the sign of a bit, and a 1 is that of true alone
 module _ (sign : Bool → ℕ) (is_sign : (b : Bool) → (sign b == 0x31) ≡ b) where
@@ -50,13 +36,13 @@ module _ (sign : Bool → ℕ) (is_sign : (b : Bool) → (sign b == 0x31) ≡ b)
   hits-other : (bits : List Bool) (number line : ℕ) → line ≢ number / 64 → hits number (64 * line) (signs_on bits line) ≡ false
   hits-other bits number line other =
       elim (cases_lt number (64 * line)) [
-        | inl before ↦ ap (λ (b : Bool). b && bit_at (signs_on bits line) (number - 64 * line)) (not_le (64 * line) number before)
+        | inl before ↦ ap (λ (b : Bool). b && bit_at (signs_on bits line) (number - 64 * line)) (lt-leb (64 * line) number before)
         | inr behind ↦
             let far : 64 ≤ number - 64 * line = omega (arith, behind, other) in
-            let short : length (take 64 (drop (64 * line) bits)) ≤ 64 = take-short 64 (drop (64 * line) bits) in
+            let short : length (take 64 (drop (64 * line) bits)) ≤ 64 = length-take_le 64 (drop (64 * line) bits) in
             ap (λ (b : Bool). nat_le (64 * line) number && b)
             (bit_at-sign (take 64 (drop (64 * line) bits)) (number - 64 * line) ∙ get_or-past (take 64 (drop (64 * line) bits)) (number - 64 * line) (omega (arith, far, short)))
-            ∙ either_false (nat_le (64 * line) number)
+            ∙ and-false (nat_le (64 * line) number)
       ]
 
   hits-here : (bits : List Bool) (number : ℕ) → hits number (64 * (number / 64)) (signs_on bits (number / 64)) ≡ get_or bits number false
@@ -75,5 +61,5 @@ module _ (sign : Bool → ℕ) (is_sign : (b : Bool) → (sign b == 0x31) ≡ b)
       → list_any test (each (λ line. place line ∷ []) 0 (lines_for (length bits))) ≡ get_or bits number false
   bits-found test place bits number looks within =
       any-at test (λ line. place line ∷ []) 0 (lines_for (length bits) - 0) (number / 64) (omega arith) (omega (arith, within))
-      (λ line after before other. or_false (test (place line)) ∙ (looks line ∙ hits-other bits number line other))
-      ∙ (or_false (test (place (number / 64))) ∙ (looks (number / 64) ∙ hits-here bits number))
+      (λ line after before other. or-false (test (place line)) ∙ (looks line ∙ hits-other bits number line other))
+      ∙ (or-false (test (place (number / 64))) ∙ (looks (number / 64) ∙ hits-here bits number))

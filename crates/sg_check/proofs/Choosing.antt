@@ -4,7 +4,8 @@ use Rattle.std.specs.List.{list_any}
 use Rattle.std.proofs.lemmas.Bool.{both_ways, cases_Bool, cases_eq, cases_lt, cases_order, eq-eqb, ne_eqb}
 use Rattle.std.proofs.lemmas.Option.{same_Some}
 use Rattle.std.proofs.lemmas.List.{length-append}
-use Rattle.sg_check.proofs.Counting.{count-none, one_if}
+use Rattle.sg_lists.proofs.Bools.{one_if}
+use Rattle.sg_check.proofs.Counting.{count-none}
 use Rattle.sg_check.specs.Printings.{count_below}
 
 abbrev is_in : List ℕ → ℕ → Bool

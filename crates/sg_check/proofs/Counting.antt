@@ -1,10 +1,8 @@
 -- Counting by two one-to-one maps.
-use Rattle.std.proofs.Common.{◌≡◌, ℕ, zero, suc, ◌+◌, ◌<◌, ◌≤◌, ◌==◌, Bool, true, false, ◌&&◌, ◌||◌, cond, inl, inr, not, refl, ap, arith}
+use Rattle.std.proofs.Common.{◌≡◌, ℕ, zero, suc, ◌+◌, ◌<◌, ◌≤◌, ◌==◌, Bool, true, false, ◌&&◌, ◌||◌, inl, inr, not, refl, ap, arith}
 use Rattle.std.proofs.lemmas.Bool.{and_parts, cases_Bool, cases_eq, eq-eqb, ne_eqb}
+use Rattle.sg_lists.proofs.Bools.{one_if}
 use Rattle.sg_check.specs.Printings.{count_below}
-
-abbrev pub one_if : Bool → ℕ
-one_if b = cond b 1 0
 
 -- tests that agree below n count the same
 pub count-same : (p q : ℕ → Bool) (n : ℕ) → ((k : ℕ) → k < n → p k ≡ q k) → count_below p n ≡ count_below q n

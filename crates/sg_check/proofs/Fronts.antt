@@ -1,9 +1,10 @@
 -- What is found among lines that are put together from parts.
 use Rattle.std.proofs.Common.{◌≡◌, ◌≢◌, ℕ, zero, suc, ◌+◌, ◌<◌, ◌≤◌, Bool, true, false, ◌||◌, inl, inr, List, [], ◌∷◌, ◌++◌, Option, Some, None, refl, subst, ap, ◌∙◌, arith}
 use Rattle.std.proofs.lemmas.Bool.{and_from, and_parts, cases_lt}
-use Rattle.std.proofs.lemmas.List.Folds.{list_all-append, list_any-append}
+use Rattle.std.proofs.lemmas.List.Folds.{list_all-append}
 use Rattle.std.specs.List.{list_all, list_any}
 use Rattle.std.specs.Option.{option_map_or}
+use Rattle.sg_lists.proofs.Any.{any-before, any-behind}
 use Rattle.sg_grammar.specs.Due.{numbered}
 use Rattle.sg_check.specs.Facts.{first_given}
 
@@ -70,16 +71,6 @@ given-others {A} {B} given is_other never (x ∷ xs) all =
     ap (λ (p : Option B). option_map_or Some p (first_given given xs)) (never x parts.0) ∙ given-others given is_other never xs parts.1
 
 -- ONE OF THE LINES PASSES A TEST
-
-pub any-behind : {A : Type 0} (test : A → Bool) (xs ys : List A) → list_any test xs ≡ false → list_any test (xs ++ ys) ≡ list_any test ys
-any-behind test xs ys none = list_any-append test xs ys ∙ ap (λ (b : Bool). b || list_any test ys) none
-
-pub any-before : {A : Type 0} (test : A → Bool) (xs ys : List A) → list_any test ys ≡ false → list_any test (xs ++ ys) ≡ list_any test xs
-any-before test xs ys none = list_any-append test xs ys ∙ (ap (λ (b : Bool). list_any test xs || b) none ∙ or_false (list_any test xs))
-  where
-    or_false : (b : Bool) → (b || false) ≡ b
-    or_false true = refl
-    or_false false = refl
 
 pub any-none : {A : Type 0} (test : A → Bool) (f : ℕ → List A) (at count : ℕ)
     → ((k : ℕ) → at ≤ k → k < at + count → list_any test (f k) ≡ false) → list_any test (numbered f at count) ≡ false

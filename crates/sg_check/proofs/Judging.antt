@@ -2,10 +2,10 @@
 use Rattle.std.proofs.Common.{◌≡◌, ℕ, Bool, true, false, ◌||◌, cond, List, [], ◌∷◌, ◌++◌, Option, Some, None, refl, ap, ◌∙◌}
 use Rattle.std.specs.Prelude.{find, is_none}
 use Rattle.std.specs.Option.{option_map_or}
+use Rattle.sg_lists.proofs.Finding.{find-or, find-same}
 use Rattle.sg_plan.specs.declared.plan.Plan.{Plan}
 use Rattle.sg_grammar.specs.Lines.{placed_of}
 use Rattle.sg_grammar.specs.Walk.{Posted, Walked, start, walk}
-use Rattle.sg_check.proofs.Finding.{find-or, find-same}
 use Rattle.sg_check.proofs.Late.{late-push}
 use Rattle.sg_check.specs.Judging.{bad_in, first_late, later_kinds}
 use Rattle.sg_check.specs.Kinds.{bad_seal, posted_bytes, first_bad, is_bad, kinds}

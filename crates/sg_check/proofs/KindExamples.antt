@@ -60,19 +60,7 @@ side_shown key digits = record { full = refl; left = λ e. rw e refl; right = λ
 
 others_shown : (key : Key) → AreOthersShown key
 others_shown key = record {
-  pointer = refl;
-  flag = refl;
-  place = refl;
-  path = refl;
-  total = refl;
-  print = refl;
-  print_number = refl;
-  print_full = refl;
-  rule = refl;
-  rule_over = refl;
-  posted = refl;
-  unposted = refl;
-  absent = refl;
+  each = refl;
   several = refl;
   several_late = refl;
   one = refl;

@@ -6,14 +6,12 @@ pub mod Bounding
 pub mod Choosing
 pub mod Counting
 pub mod Examples
-pub mod Finding
 pub mod Fine
 pub mod FineLines
 pub mod Fronts
 pub mod Judging
 pub mod KindExamples
 pub mod Late
-pub mod Noting
 pub mod OfPlan
 pub mod OneMore
 pub mod Posting

@@ -1,12 +1,12 @@
 -- The lines of the plan are bad in no kind, by whatever plan they are judged.
 use Rattle.std.proofs.Common.{◌≡◌, ℕ, Bool, false, ◌||◌, List, [], ◌∷◌, ◌++◌, None, refl, ap, ◌∙◌}
+use Rattle.sg_lists.proofs.Finding.{find-none}
 use Rattle.sg_grammar.specs.Lines.{placed_of}
 use Rattle.sg_forms.specs.Said.{Said}
 use Rattle.sg_plan.specs.declared.plan.Plan.{Plan}
 use Rattle.sg_grammar.specs.Placed.{Placed}
 use Rattle.sg_grammar.specs.Placed.Placed.{OfPlan}
 use Rattle.sg_grammar.specs.Walk.{Posted}
-use Rattle.sg_check.proofs.Finding.{find-none}
 use Rattle.sg_check.specs.Kinds.{is_bad}
 use Rattle.sg_check.specs.Verdict.{late, total_on, totals_in}
 use Rattle.sg_check.specs.Judging.{AreOfPlan, IsOfPlan, first_late, later_kinds}

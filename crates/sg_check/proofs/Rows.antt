@@ -148,9 +148,6 @@ same_bits true false e = cc
 same_bits false true e = cc
 same_bits false false e = refl
 
-not_below : (n v : ℕ) → nat_le n v ≡ false → v < n
-not_below n v e = leb-false n v e
-
 module _ (plan : Plan) (lines : List Placed) (apart : Apart clash lines) (once : ArePointersOnce plan lines) (flags : DoFlagsAgree plan lines)
     (completion : Completion) (none_twice : OpensNoneTwice lines completion) where
   below_of : (on : Side) (race instance row : ℕ) (opening : RowOpening) (o : Opening) → IsAmong lines (RowAt race instance row opening) → opened_on on opening ≡ Some o → o.value < entries_of plan race
@@ -217,7 +214,7 @@ module _ (plan : Plan) (lines : List Placed) (apart : Apart clash lines) (once :
           let right = unposted_right on race instance row o none good there in
           let parts = or_parts (nat_le (entries_of plan race) o.value) _ right in
           let others = or_parts (is_repeated plan completion on race instance row o.value) _ parts.1 in
-          record { opening = o; is = there; below = not_below (entries_of plan race) o.value parts.0; flag = same_bits _ _ others.1 }
+          record { opening = o; is = there; below = leb-false (entries_of plan race) o.value parts.0; flag = same_bits _ _ others.1 }
 
       by_post : (x : Option Opening) → posted_half lines on race instance row ≡ x → GoodHalf on race instance row
       by_post (Some o) e = posted_good on race instance row o e

@@ -3,6 +3,7 @@ use Rattle.std.proofs.Common.{◌≡◌, ℕ, zero, suc, ◌+◌, ◌-◌, ◌%�
 use Rattle.std.proofs.lemmas.Bool.{and_left, and_parts, and_right, cases_eq, cases_lt, eq-eqb, le-leb, le-ltb, leb-true, lt-leb, ltb-false, ne_eqb, or_from, or_parts}
 use Rattle.std.proofs.lemmas.List.Sums.{sum_by-append, sum_by-cons}
 use Rattle.std.specs.List.{list_any}
+use Rattle.sg_lists.proofs.Bools.{one_if}
 use Rattle.sg_plan.specs.Ballots.{candidates_of, entries_of}
 use Rattle.sg_plan.specs.declared.plan.Plan.{Plan}
 use Rattle.sg_grammar.specs.Lines.{IsAmong}
@@ -10,7 +11,7 @@ use Rattle.sg_grammar.specs.Parting.{Apart, IsLineIn, None_of, are_places, are_p
 use Rattle.sg_grammar.specs.Placed.{Placed}
 use Rattle.sg_grammar.specs.Placed.Placed.{PlacesAt, TotalAt}
 use Rattle.sg_check.specs.Facts.{bit_at, is_set, sets_place, votes_for, votes_in, votes_on}
-use Rattle.sg_check.proofs.Counting.{count-none, count-one_more, count-or, count-same, one_if}
+use Rattle.sg_check.proofs.Counting.{count-none, count-one_more, count-or, count-same}
 use Rattle.sg_grammar.proofs.Lists.{apart-behind, none-weaken}
 use Rattle.sg_check.specs.Printings.{count_below}
 

@@ -156,41 +156,37 @@ claimed key code word = voted key ++ Disputed 1 0 code word ∷ code_in key bloc
 abbrev pub is_answer_bad : Key → ℕ → ClaimWord → Bool
 is_answer_bad key code word = bad_placed kind.Dispute small (claimed key code word) (code_in key block.Dispute 1 1 200)
 
+-- each time, what is judged of some lines in a kind, and what it must be: true where the line is bad
+abbrev pub examples : Key → List (List Bool × List Bool)
+examples key =
+    -- pointer 4 is n; pointer 2 stands once more on the left side of the instance, but not on its right, nor in the other
+    (bad_among kind.Pointer (left_row key 0 0 2 ∷ []) (left_row key 0 1 3 ∷ left_row key 0 1 4 ∷ right_row key 0 1 4 ∷ left_row key 0 1 2 ∷ right_row key 0 1 2 ∷ left_row key 1 1 2 ∷ []), false ∷ true ∷ true ∷ true ∷ false ∷ false ∷ [])
+    -- entry 0 alone is marked, place 0 alone is set, and row 0 of instance 0 alone is flagged
+    ∷ (bad_among kind.Flag (voted key) (left_row key 0 0 0 ∷ left_row key 0 0 1 ∷ left_row key 0 1 0 ∷ left_row key 0 1 2 ∷ left_row key 1 0 0 ∷ []), false ∷ true ∷ true ∷ false ∷ true ∷ [])
+    ∷ (bad_among kind.Flag (voted key) (right_row key 0 0 0 ∷ right_row key 0 0 1 ∷ right_row key 0 1 0 ∷ right_row key 0 1 1 ∷ both_row key 0 0 0 0 ∷ both_row key 0 0 0 1 ∷ []), false ∷ true ∷ true ∷ false ∷ false ∷ true ∷ [])
+    -- entry 0 leads to place 0, so in the other instance too, and entry 1 of its ballot to a place of candidate 1
+    ∷ (bad_among kind.Path (both_row key 0 0 0 0 ∷ []) (both_row key 1 0 0 0 ∷ both_row key 1 0 0 2 ∷ both_row key 0 1 1 1 ∷ both_row key 0 1 1 2 ∷ both_row key 0 1 2 2 ∷ left_row key 1 0 0 ∷ []), false ∷ true ∷ false ∷ true ∷ false ∷ false ∷ [])
+    -- candidate 0 has one set place, and candidate 1 none
+    ∷ (bad_among kind.Total (voted key) (TotalAt 0 0 1 ∷ TotalAt 0 0 0 ∷ TotalAt 0 0 2 ∷ TotalAt 0 1 0 ∷ TotalAt 0 1 1 ∷ []), false ∷ true ∷ true ∷ false ∷ true ∷ [])
+    -- entry 2 is audited and its code stands beside candidate 1, entry 0 is not audited
+    ∷ (bad_among kind.Print (drawn key) (both_row key 0 0 2 3 ∷ both_row key 0 0 2 2 ∷ left_row key 0 0 2 ∷ both_row key 0 0 0 0 ∷ left_row key 0 0 0 ∷ right_row key 0 0 0 ∷ []), false ∷ true ∷ true ∷ true ∷ false ∷ false ∷ [])
+    -- row 3 is the last, and two entries are audited: two rows are opened on both sides
+    ∷ (bad_among kind.Print (drawn key ++ both_row key 0 1 2 3 ∷ []) (both_row key 0 3 3 2 ∷ right_row key 0 3 1 ∷ right_row key 0 2 1 ∷ []), false ∷ true ∷ false ∷ [])
+    -- where all is drawn, each row is opened on both sides, and the papers alone are compared
+    ∷ (bad_among kind.Print (voted key ++ DrawnFull ∷ []) (both_row key 0 0 0 0 ∷ both_row key 0 3 2 3 ∷ both_row key 0 3 2 2 ∷ []), false ∷ false ∷ true ∷ [])
+    -- ballot 1 has its one mark already; in a dispute it shows its codes again, different ones; a paper's are different too
+    ∷ (bad_among kind.Rule (voted key) (code_in key block.Cast 1 1 200 ∷ code_in key block.Dispute 1 0 100 ∷ code_in key block.Dispute 1 0 101 ∷ code_in key block.Dispute 1 1 200 ∷ code_in key block.Dispute 1 1 100 ∷ []), true ∷ false ∷ true ∷ false ∷ true ∷ [])
+    ∷ (bad_among kind.Rule (voted key) (OverAt 1 0 ∷ OverAt 2 0 ∷ PaperAt 2 0 (300 ∷ 300 ∷ []) ∷ PaperAt 2 0 (300 ∷ 400 ∷ []) ∷ []), true ∷ false ∷ true ∷ false ∷ [])
+    -- code 100 is that of the mark
+    ∷ (is_answer_bad key 100 answer.Posted ∷ is_answer_bad key 100 answer.Unposted ∷ is_answer_bad key 100 answer.Absent ∷ [], false ∷ true ∷ true ∷ [])
+    -- code 200 is another one of the ballot
+    ∷ (is_answer_bad key 200 answer.Posted ∷ is_answer_bad key 200 answer.Unposted ∷ is_answer_bad key 200 answer.Absent ∷ [], true ∷ false ∷ true ∷ [])
+    -- code 300 is none of them
+    ∷ (is_answer_bad key 300 answer.Posted ∷ is_answer_bad key 300 answer.Unposted ∷ is_answer_bad key 300 answer.Absent ∷ [], true ∷ true ∷ false ∷ [])
+    ∷ []
+
 pub record AreOthersShown (key : Key) : Type 0 where
-  -- pointer 4 is n; pointer 2 stands once more on the left side of the instance, but not on its right, nor in the other
-  pub pointer : bad_among kind.Pointer (left_row key 0 0 2 ∷ []) (left_row key 0 1 3 ∷ left_row key 0 1 4 ∷ right_row key 0 1 4 ∷ left_row key 0 1 2 ∷ right_row key 0 1 2 ∷ left_row key 1 1 2 ∷ [])
-      ≡ false ∷ true ∷ true ∷ true ∷ false ∷ false ∷ []
-  -- entry 0 alone is marked, place 0 alone is set, and row 0 of instance 0 alone is flagged
-  pub flag : bad_among kind.Flag (voted key) (left_row key 0 0 0 ∷ left_row key 0 0 1 ∷ left_row key 0 1 0 ∷ left_row key 0 1 2 ∷ left_row key 1 0 0 ∷ [])
-      ≡ false ∷ true ∷ true ∷ false ∷ true ∷ []
-  pub place : bad_among kind.Flag (voted key) (right_row key 0 0 0 ∷ right_row key 0 0 1 ∷ right_row key 0 1 0 ∷ right_row key 0 1 1 ∷ both_row key 0 0 0 0 ∷ both_row key 0 0 0 1 ∷ [])
-      ≡ false ∷ true ∷ true ∷ false ∷ false ∷ true ∷ []
-  -- entry 0 leads to place 0, so in the other instance too, and entry 1 of its ballot to a place of candidate 1
-  pub path : bad_among kind.Path (both_row key 0 0 0 0 ∷ []) (both_row key 1 0 0 0 ∷ both_row key 1 0 0 2 ∷ both_row key 0 1 1 1 ∷ both_row key 0 1 1 2 ∷ both_row key 0 1 2 2 ∷ left_row key 1 0 0 ∷ [])
-      ≡ false ∷ true ∷ false ∷ true ∷ false ∷ false ∷ []
-  -- candidate 0 has one set place, and candidate 1 none
-  pub total : bad_among kind.Total (voted key) (TotalAt 0 0 1 ∷ TotalAt 0 0 0 ∷ TotalAt 0 0 2 ∷ TotalAt 0 1 0 ∷ TotalAt 0 1 1 ∷ [])
-      ≡ false ∷ true ∷ true ∷ false ∷ true ∷ []
-  -- entry 2 is audited and its code stands beside candidate 1, entry 0 is not audited
-  pub print : bad_among kind.Print (drawn key) (both_row key 0 0 2 3 ∷ both_row key 0 0 2 2 ∷ left_row key 0 0 2 ∷ both_row key 0 0 0 0 ∷ left_row key 0 0 0 ∷ right_row key 0 0 0 ∷ [])
-      ≡ false ∷ true ∷ true ∷ true ∷ false ∷ false ∷ []
-  -- row 3 is the last, and two entries are audited: two rows are opened on both sides
-  pub print_number : bad_among kind.Print (drawn key ++ both_row key 0 1 2 3 ∷ []) (both_row key 0 3 3 2 ∷ right_row key 0 3 1 ∷ right_row key 0 2 1 ∷ [])
-      ≡ false ∷ true ∷ false ∷ []
-  -- where all is drawn, each row is opened on both sides, and the papers alone are compared
-  pub print_full : bad_among kind.Print (voted key ++ DrawnFull ∷ []) (both_row key 0 0 0 0 ∷ both_row key 0 3 2 3 ∷ both_row key 0 3 2 2 ∷ [])
-      ≡ false ∷ false ∷ true ∷ []
-  -- ballot 1 has its one mark already; in a dispute it shows its codes again, different ones; a paper's are different too
-  pub rule : bad_among kind.Rule (voted key) (code_in key block.Cast 1 1 200 ∷ code_in key block.Dispute 1 0 100 ∷ code_in key block.Dispute 1 0 101 ∷ code_in key block.Dispute 1 1 200 ∷ code_in key block.Dispute 1 1 100 ∷ [])
-      ≡ true ∷ false ∷ true ∷ false ∷ true ∷ []
-  pub rule_over : bad_among kind.Rule (voted key) (OverAt 1 0 ∷ OverAt 2 0 ∷ PaperAt 2 0 (300 ∷ 300 ∷ []) ∷ PaperAt 2 0 (300 ∷ 400 ∷ []) ∷ [])
-      ≡ true ∷ false ∷ true ∷ false ∷ []
-  -- code 100 is that of the mark
-  pub posted : is_answer_bad key 100 answer.Posted ∷ is_answer_bad key 100 answer.Unposted ∷ is_answer_bad key 100 answer.Absent ∷ [] ≡ false ∷ true ∷ true ∷ []
-  -- code 200 is another one of the ballot
-  pub unposted : is_answer_bad key 200 answer.Posted ∷ is_answer_bad key 200 answer.Unposted ∷ is_answer_bad key 200 answer.Absent ∷ [] ≡ true ∷ false ∷ true ∷ []
-  -- code 300 is none of them
-  pub absent : is_answer_bad key 300 answer.Posted ∷ is_answer_bad key 300 answer.Unposted ∷ is_answer_bad key 300 answer.Absent ∷ [] ≡ true ∷ true ∷ false ∷ []
+  pub each : map (λ e. e.0) (examples key) ≡ map (λ e. e.1) (examples key)
   -- a line that is bad in several kinds is named by the first of them
   pub several : first_bad small (drawn key) (both_row key 0 1 4 0) ≡ Some kind.Opening
   pub several_late : map (λ k. bad_placed k small (drawn key) (both_row key 0 1 4 0)) (kind.Pointer ∷ kind.Flag ∷ []) ≡ true ∷ true ∷ []

@@ -1,5 +1,5 @@
 -- What one more line is judged in, behind lines that are fine.
-use Rattle.std.specs.Prelude.{List, [], ◌∷◌, find, Option}
+use Rattle.std.specs.Prelude.{List, [], ◌∷◌, drop, find, Option}
 use Rattle.sg_plan.specs.declared.plan.Plan.{Plan}
 use Rattle.sg_grammar.specs.Placed.{Placed}
 use Rattle.sg_grammar.specs.Placed.Placed.{OfPlan}
@@ -7,7 +7,6 @@ use Rattle.sg_grammar.specs.Walk.{Posted}
 use Rattle.sg_check.specs.Kinds.{is_bad, kinds}
 use Rattle.sg_check.specs.Verdict.{late}
 use Rattle.sg_check.specs.declared.judged.Kind.{Kind}
-use Rattle.sg_check.specs.declared.judged.Kind.TheVariants as kind
 
 -- the line is one of the plan
 abbrev pub IsOfPlan : Placed → Type 0
@@ -19,9 +18,9 @@ abbrev pub AreOfPlan : List Placed → Type 0
 AreOfPlan [] = Unit {0}
 AreOfPlan (line ∷ lines) = IsOfPlan line × AreOfPlan lines
 
--- the kinds that lines are bad in which may stand where they do, in their order
+-- the kinds that lines are bad in which may stand where they do, in their order: all but form
 abbrev pub later_kinds : List Kind
-later_kinds = kind.Seal ∷ kind.Opening ∷ kind.Side ∷ kind.Pointer ∷ kind.Flag ∷ kind.Path ∷ kind.Total ∷ kind.Print ∷ kind.Rule ∷ kind.Dispute ∷ []
+later_kinds = drop 1 kinds
 
 -- the first kind in which one of the lines is bad against those before it
 abbrev pub first_late : Plan → List Posted → Option Kind

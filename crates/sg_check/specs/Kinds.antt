@@ -1,6 +1,6 @@
 -- What is judged at each line, kind by kind, against the lines before it (this project's rules for the record).
 -- Each test is true where the line is bad. What is judged of pairs of lines is judged at the later one.
-use Rattle.std.specs.Prelude.{ℕ, ◌+◌, ◌/◌, ◌%◌, ◌==◌, nat_le, nat_lt, if◌then◌else◌, Bool, true, false, ◌&&◌, ◌||◌, not, List, [], ◌∷◌, ◌++◌, find, Option, is_some, count_by, bytes_eq}
+use Rattle.std.specs.Prelude.{ℕ, ◌+◌, ◌/◌, ◌%◌, ◌==◌, nat_le, nat_lt, if◌then◌else◌, Bool, true, false, ◌&&◌, ◌||◌, not, List, [], ◌∷◌, ◌++◌, find, Option, is_some, count_by, bytes_eq, codes}
 use Rattle.std.specs.List.{list_any}
 use Rattle.std.specs.Option.{option_map_or}
 use Rattle.sha2.specs.Sha256.{sha256}
@@ -166,6 +166,20 @@ bad_placed other plan before line = false
 abbrev pub is_bad : Kind → Plan → List Posted → Posted → Bool
 is_bad kind.Seal plan before line = bad_seal (posted_bytes before) line.line
 is_bad k plan before line = bad_placed k plan (placed_of before) line.line
+
+-- the kind's word in a report
+abbrev pub kind_word : Kind → List ℕ
+kind_word kind.Form = codes "form"
+kind_word kind.Seal = codes "seal"
+kind_word kind.Opening = codes "opening"
+kind_word kind.Side = codes "side"
+kind_word kind.Pointer = codes "pointer"
+kind_word kind.Flag = codes "flag"
+kind_word kind.Path = codes "path"
+kind_word kind.Total = codes "total"
+kind_word kind.Print = codes "print"
+kind_word kind.Rule = codes "rule"
+kind_word kind.Dispute = codes "dispute"
 
 -- all kinds, in their order
 abbrev pub kinds : List Kind

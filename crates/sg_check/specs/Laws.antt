@@ -187,8 +187,7 @@ PrintsAgree = (lines : List (List ℕ)) (walked : Walked) → IsFineWalk lines w
 abbrev pub NoneBadAreFine : Type 0
 NoneBadAreFine = (lines : List (List ℕ)) → least_broken lines ≡ None → AreFine lines
 
--- each kind is among the kinds, and the later ones are all of them but the first: a kind that is left out of either list
--- would never be found
+-- each kind is among the kinds, and the later ones are all of them but form: a kind that is left out would never be found
 pub record AreAllKinds : Type 0 where
   pub each : (k : Kind) → Contains kinds k
   pub later : kinds ≡ kind.Form ∷ later_kinds

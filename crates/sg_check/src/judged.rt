@@ -27,6 +27,31 @@ pub enum Kind {
     Dispute,
 }
 
+impl Kind {
+    ghost use Rattle.std.specs.Prelude.{◌≡◌, ◌≤◌, length};
+    ghost use Rattle.sg_check.specs.Kinds.{kind_word};
+
+    /// The kind's word in a report: a lower-case word of at most seven letters.
+    pub fn word(self) -> &'static [u8]
+        ensures word { result.now ≡ kind_word self }
+        ensures bound { length result.now ≤ 7 }
+    {
+        match self {
+            Kind::Form => b"form",
+            Kind::Seal => b"seal",
+            Kind::Opening => b"opening",
+            Kind::Side => b"side",
+            Kind::Pointer => b"pointer",
+            Kind::Flag => b"flag",
+            Kind::Path => b"path",
+            Kind::Total => b"total",
+            Kind::Print => b"print",
+            Kind::Rule => b"rule",
+            Kind::Dispute => b"dispute",
+        }
+    }
+}
+
 /// The votes that a record posts for a candidate.
 #[derive(Clone, Copy, Debug, PartialEq, Eq)]
 pub struct Total {

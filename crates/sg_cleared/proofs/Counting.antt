@@ -5,6 +5,8 @@ use Rattle.std.specs.List.{list_all}
 use Rattle.std.specs.Option.{option_map_or}
 use Rattle.std.proofs.lemmas.Bool.{cases_eq, eq-eqb, ne_eqb}
 use Rattle.std.proofs.lemmas.List.Sorted.{sum_by-IsPermutation}
+use Rattle.sg_lists.proofs.Bools.{one_if}
+use Rattle.sg_lists.proofs.Sums.{sum-map}
 use Rattle.sg_plan.specs.Ballots.{candidates_of, entries_of}
 use Rattle.sg_plan.specs.Limits.{fault_of}
 use Rattle.sg_plan.specs.declared.plan.Draw.{Draw}
@@ -26,7 +28,6 @@ use Rattle.sg_post.specs.declared.story.Told.{Told}
 use Rattle.sg_accepted.proofs.Counted.{below_counts}
 use Rattle.sg_accepted.proofs.Votes.{totals_count_marks}
 use Rattle.sg_accepted.proofs.Posted.{marked_is}
-use Rattle.sg_accepted.proofs.Sums.{sum-map, tally}
 use Rattle.sg_cleared.proofs.Posted.{mark_is}
 use Rattle.sg_cleared.proofs.Unaltered.{PrintsTables, entry_row}
 
@@ -36,8 +37,8 @@ use Rattle.sg_cleared.proofs.Unaltered.{PrintsTables, entry_row}
 pub moved_counts : (test : ℕ → Bool) (f : ℕ → ℕ) (count : ℕ) → Permutes count f → count_below (λ k. test (f k)) count ≡ count_below test count
 moved_counts test f count moves =
     sym (below_counts (λ k. test (f k)) count)
-    ∙ (sym (sum-map (λ (k : ℕ). tally (test k)) f (numbers_below count))
-    ∙ (sum_by-IsPermutation (λ (k : ℕ). tally (test k)) (numbers_below count) (map f (numbers_below count)) moves.listed ∙ below_counts test count))
+    ∙ (sym (sum-map (λ (k : ℕ). one_if (test k)) f (numbers_below count))
+    ∙ (sum_by-IsPermutation (λ (k : ℕ). one_if (test k)) (numbers_below count) (map f (numbers_below count)) moves.listed ∙ below_counts test count))
 
 -- TOTALS
 

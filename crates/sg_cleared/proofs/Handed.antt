@@ -5,7 +5,9 @@ use Rattle.std.specs.Option.{option_and_then, option_map_or}
 use Rattle.std.specs.Prelude.{slice_get}
 use Rattle.std.proofs.lemmas.Bool.{and_from, eq-eqb}
 use Rattle.std.proofs.lemmas.List.Elements.{All-cons, All-nil}
-use Rattle.std.proofs.lemmas.Option.{none-some}
+use Rattle.std.proofs.lemmas.Option.{none-some, slice_get_within, same_Some}
+use Rattle.sg_lists.proofs.Each.{EachOf, of-map, of-range}
+use Rattle.sg_lists.proofs.Tests.{list_all-range}
 use Rattle.sg_outside.proofs.LineLemmas.{lines_of-concat, lines_of-line, lines_of-lines}
 use Rattle.sg_outside.specs.TextLines.{AreLines, lines_of}
 use Rattle.sg_plan.proofs.PlanLaws.{bounds}
@@ -31,7 +33,6 @@ use Rattle.sg_record.specs.Lines.{lines_in, text_of, texts_in}
 use Rattle.sg_record.specs.declared.record.Record.{Record}
 use Rattle.sg_check.specs.Completions.{IsHalfOf}
 use Rattle.sg_post.proofs.Bytes.{key-bytes}
-use Rattle.sg_post.proofs.Each.{EachOf, of-map, of-range}
 use Rattle.sg_post.specs.Posted.{both_sides, by_row, posted_record}
 use Rattle.sg_post.specs.declared.story.Claimed.{Claimed}
 use Rattle.sg_post.specs.declared.story.Told.{Told}
@@ -68,17 +69,6 @@ office_given plan seed fates draw claims = record { posted = posted_record plan 
 
 -- LISTS
 
-within_list : {A : Type 0} (xs : List A) (k : ℕ) (x : A) → slice_get xs k ≡ Some x → k < length xs
-within_list {A} [] k x is = absurd (no is)
-  where
-    no : None ≡ Some x → ⊥
-    no e = cc
-within_list (y ∷ xs) zero x is = omega arith
-within_list (y ∷ xs) (suc k) x is = let rest = within_list xs k x is in omega (arith, rest)
-
-some_same : {A : Type 0} {x y : A} → Some x ≡ Some y → x ≡ y
-some_same e = cc
-
 -- what stands at a number was made of it
 record MadeAt {A : Type 0} (f : ℕ → A) (count k : ℕ) (x : A) : Type 0 where
   below : k < count
@@ -87,9 +77,9 @@ record MadeAt {A : Type 0} (f : ℕ → A) (count k : ℕ) (x : A) : Type 0 wher
 made_at : {A : Type 0} (f : ℕ → A) (count k : ℕ) (x : A) → slice_get (map f (numbers_below count)) k ≡ Some x → MadeAt f count k x
 made_at f count k x is =
     let long = length-map_below f count in
-    let short = within_list (map f (numbers_below count)) k x is in
+    let short = slice_get_within (map f (numbers_below count)) k x is in
     let below : k < count = omega (arith, long, short) in
-    record { below = below; is = some_same (sym (slice_get-map_below f count k below) ∙ is) }
+    record { below = below; is = same_Some _ _ (sym (slice_get-map_below f count k below) ∙ is) }
 
 all_listed : (P : ℕ → Type 0) (list : List ℕ) → ((k v : ℕ) → slice_get list k ≡ Some v → P v) → All P list
 all_listed P [] each = All-nil P
@@ -97,7 +87,7 @@ all_listed P (x ∷ list) each = All-cons P x list (each 0 x refl) (all_listed P
 
 each_made : {A : Type 0} (P : A → Type 0) (f : ℕ → A) (count : ℕ) → ((k : ℕ) → k < count → P (f k)) → EachOf P (map f (numbers_below count))
 unfolding numbers_below
-each_made P f count all = of-map P (λ k. k < count) f (range_with_len 0 count) all (of-range (λ k. k < count) 0 count (λ k below. omega (arith, below)))
+each_made P f count all = of-map P f (range_with_len 0 count) (of-range (λ k. P (f k)) 0 count (λ k below. all k (omega (arith, below))))
 
 -- THE ROWS ARE OF THE PLAN
 
@@ -109,13 +99,9 @@ passes_below : {A : Type 0} (test : ℕ → A → Bool) (f : ℕ → A) (count :
 unfolding numbers_below
 passes_below test f count all = passes_range test f 0 count all
 
-all_range : {A : Type 0} (test : A → Bool) (f : ℕ → A) (at count : ℕ) → ((k : ℕ) → test (f k) ≡ true) → list_all test (map f (range_with_len at count)) ≡ true
-all_range test f at zero all = refl
-all_range test f at (suc count) all = and_from (test (f at)) (list_all test (map f (range_with_len (at + 1) count))) (all at) (all_range test f (at + 1) count all)
-
 all_below : {A : Type 0} (test : A → Bool) (f : ℕ → A) (count : ℕ) → ((k : ℕ) → test (f k) ≡ true) → list_all test (map f (numbers_below count)) ≡ true
 unfolding numbers_below
-all_below test f count all = all_range test f 0 count all
+all_below test f count all = list_all-range test f 0 count all
 
 so_many : {A : Type 0} (f : ℕ → A) (count : ℕ) → (length (map f (numbers_below count)) == count) ≡ true
 so_many f count = eq-eqb (length (map f (numbers_below count))) count (length-map_below f count)
@@ -137,10 +123,10 @@ module _ (plan : Plan) (seed : List ℕ) (fine : fault_of plan ≡ None) where
   code_at : (race row k v : ℕ) → race < length plan.races → slice_get (codes_of_row plan seed race row) k ≡ Some v → MadeAt (code_beside plan seed race row) (candidates_of plan race) k v
   code_at race row k v in_race is =
       let differ = code_laws.differ plan seed race row fine in_race in
-      let short = within_list (codes_of_row plan seed race row) k v is in
+      let short = slice_get_within (codes_of_row plan seed race row) k v is in
       let many = differ.many in
       let below : k < candidates_of plan race = omega (arith, short, many) in
-      record { below = below; is = some_same (sym (differ.listed k below) ∙ is) }
+      record { below = below; is = same_Some _ _ (sym (differ.listed k below) ∙ is) }
 
   pub codes_are : (race row : ℕ) → race < length plan.races → AreCodes plan race (codes_of_row plan seed race row)
   codes_are race row in_race =
@@ -250,7 +236,7 @@ module _ (plan : Plan) (seed : List ℕ) (fine : fault_of plan ≡ None) where
           let of = made_at (rows race) plan.instances instance items (ap (λ (l : List (List RowGiven)). slice_get l instance) at.is ∙ d) in
           let here = made_at (both_given plan seed race instance) (entries_of plan race) number one (ap (λ (l : List RowGiven). slice_get l number) of.is ∙ f) in
           let within : IsHalfOf plan race instance number = (at.below, of.below, here.below) in
-          subst IsOpening (some_same (sym (office_has on race instance number within) ∙ is)) (opening_in on race instance number within)
+          subst IsOpening (same_Some _ _ (sym (office_has on race instance number within) ∙ is)) (opening_in on race instance number within)
 
       by_instance : (instances : List (List RowGiven)) → slice_get (office_rows plan seed) race ≡ Some instances → (o : Option (List RowGiven)) → slice_get instances instance ≡ o → IsOpening opening
       by_instance instances e None d =

@@ -3,6 +3,7 @@ use Rattle.std.proofs.Common.{◌≡◌, ℕ, ◌<◌, true, List, [], ◌∷◌
 use Rattle.std.proofs.lemmas.Option.{none-some, same_Some}
 use Rattle.std.specs.List.{list_all}
 use Rattle.std.specs.Option.{option_and_then, option_map_or}
+use Rattle.sg_lists.proofs.Each.{EachOf}
 use Rattle.sg_plan.specs.Ballots.{candidates_of, entry_at}
 use Rattle.sg_plan.specs.Limits.{fault_of}
 use Rattle.sg_plan.specs.declared.plan.Draw.{Draw}
@@ -34,7 +35,6 @@ use Rattle.sg_post.specs.declared.story.Claimed.{Claimed}
 use Rattle.sg_post.specs.declared.story.Told.{Told}
 use Rattle.sg_accepted.proofs.Opening.{OpensRow, opened-opens, opens-committed}
 use Rattle.sg_accepted.proofs.Posted.{SaysRight, all-right, committed_half, item_get, row_get}
-use Rattle.sg_facts.proofs.Each.{EachOf}
 use Rattle.sg_facts.proofs.Facts.{are_listed}
 use Rattle.sg_facts.specs.Listed.{AreListed, digest_on}
 use Rattle.sg_facts.specs.Totals.{total_of as posted_total}

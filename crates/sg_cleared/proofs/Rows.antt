@@ -13,12 +13,6 @@ use Rattle.sg_parts.specs.declared.parts.RowGiven.{RowGiven}
 
 -- LISTS
 
-pub head_same : {A : Type 0} {x y : A} {xs ys : List A} → x ∷ xs ≡ y ∷ ys → x ≡ y
-head_same e = cc
-
-pub tail_same : {A : Type 0} {x y : A} {xs ys : List A} → x ∷ xs ≡ y ∷ ys → xs ≡ ys
-tail_same e = cc
-
 -- ROWS
 
 lists_long : {A : Type 0} (count : ℕ) (lists : List (List A)) → list_all (λ items. length items == count) lists ≡ true → length (joined lists) ≡ length lists * count

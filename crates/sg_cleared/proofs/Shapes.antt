@@ -1,26 +1,18 @@
 -- Lists of one shape: they are the same where their items are, one after another.
-use Rattle.std.proofs.Common.{◌≡◌, ℕ, suc, ◌+◌, ◌*◌, ◌==◌, ◌&&◌, Bool, true, List, [], ◌∷◌, ◌++◌, drop, length, map, take, Some, refl, sym, ap, ◌∙◌, arith}
-use Rattle.std.proofs.Math.Seq.{drop-append_seam, take-append_seam}
+use Rattle.std.proofs.Common.{◌≡◌, ℕ, suc, ◌+◌, ◌*◌, ◌==◌, ◌&&◌, Bool, true, List, [], ◌∷◌, ◌++◌, length, map, Some, refl, sym, ap, ◌∙◌, arith}
 use Rattle.std.specs.List.{flat_map, list_all}
 use Rattle.std.specs.Prelude.{slice_get}
 use Rattle.std.proofs.lemmas.Bool.{and_parts, eqb-true}
 use Rattle.std.proofs.lemmas.List.{map-append}
+use Rattle.sg_lists.proofs.Each.{EachOf, of-append}
+use Rattle.sg_lists.proofs.Lists.{append_parts, cons_parts}
 use Rattle.sg_plan.specs.Ballots.{entries_of}
 use Rattle.sg_plan.specs.declared.plan.Plan.{Plan}
 use Rattle.sg_record.specs.Formed.{each_passes, has_rows}
-use Rattle.sg_post.proofs.Each.{EachOf, of-append}
 use Rattle.sg_parts.proofs.Cuts.{all_long, joined_both}
 use Rattle.sg_parts.specs.Given.{joined}
-use Rattle.sg_cleared.proofs.Rows.{head_same, tail_same}
 
 -- ONE AFTER ANOTHER
-
--- fronts of one length at the front of a list are the same
-pub fronts_are_same : {A : Type 0} (xs ys us vs : List A) → length xs ≡ length ys → xs ++ us ≡ ys ++ vs → (xs ≡ ys) × (us ≡ vs)
-fronts_are_same {A} xs ys us vs long same = (
-  sym (take-append_seam xs us) ∙ (ap (take (length xs)) same ∙ (ap (λ (k : ℕ). take k (ys ++ vs)) long ∙ take-append_seam ys vs)),
-  sym (drop-append_seam xs us) ∙ (ap (drop (length xs)) same ∙ (ap (λ (k : ℕ). drop k (ys ++ vs)) long ∙ drop-append_seam ys vs)),
-)
 
 -- ITEMS OF ONE SHAPE
 
@@ -31,7 +23,7 @@ lists_same count (x ∷ xs) [] long all all' same = absurd (omega (arith, long))
 lists_same {A} count (x ∷ xs) (y ∷ ys) long all all' same =
     let parts = and_parts (length x == count) (list_all (λ (items : List A). length items == count) xs) all in
     let parts' = and_parts (length y == count) (list_all (λ (items : List A). length items == count) ys) all' in
-    let both = fronts_are_same x y (joined xs) (joined ys) (eqb-true (length x) count parts.0 ∙ sym (eqb-true (length y) count parts'.0)) same in
+    let both = append_parts x y (joined xs) (joined ys) (eqb-true (length x) count parts.0 ∙ sym (eqb-true (length y) count parts'.0)) same in
     ap (λ (l : List A). l ∷ xs) both.0 ∙ ap (λ (l : List (List A)). y ∷ l) (lists_same count xs ys (omega (arith, long)) parts.1 parts'.1 both.1)
 
 -- so many instances, and so many rows in each
@@ -50,7 +42,7 @@ races_same {A} plan at (x ∷ a) (y ∷ b) long all all' same =
     let here' = and_parts (length y == plan.instances) (list_all (λ (items : List A). length items == n) y) parts'.0 in
     let counts : length x ≡ length y = eqb-true (length x) plan.instances here.0 ∙ sym (eqb-true (length y) plan.instances here'.0) in
     let longs : length (joined x) ≡ length (joined y) = all_long n x here.1 ∙ (ap (λ k. k * n) counts ∙ sym (all_long n y here'.1)) in
-    let both = fronts_are_same (joined x) (joined y) (joined (joined a)) (joined (joined b)) longs (sym (joined_both x (joined a)) ∙ (same ∙ joined_both y (joined b))) in
+    let both = append_parts (joined x) (joined y) (joined (joined a)) (joined (joined b)) longs (sym (joined_both x (joined a)) ∙ (same ∙ joined_both y (joined b))) in
     ap (λ (l : List (List A)). l ∷ a) (lists_same n x y counts here.1 here'.1 both.0)
     ∙ ap (λ (l : List (List (List A))). y ∷ l) (races_same plan (at + 1) a b (omega (arith, long)) parts.1 parts'.1 both.1)
 
@@ -83,7 +75,7 @@ images_same f P Q one (x ∷ xs) [] p q same = absurd (no same)
     no : ◌≡◌ {A = List (List ℕ)} (f x ∷ map f xs) [] → ⊥
     no e = cc
 images_same {A} f P Q one (x ∷ xs) (y ∷ ys) p q same =
-    ap (λ (z : A). z ∷ xs) (one x y p.0 q.0 (head_same same)) ∙ ap (λ (l : List A). y ∷ l) (images_same f P Q one xs ys p.1 q.1 (tail_same same))
+    ap (λ (z : A). z ∷ xs) (one x y p.0 q.0 (cons_parts same).0) ∙ ap (λ (l : List A). y ∷ l) (images_same f P Q one xs ys p.1 q.1 (cons_parts same).1)
 
 -- TEXTS OF ITEMS THAT ARE MADE NUMBER BY NUMBER
 

@@ -7,6 +7,8 @@ use Rattle.std.proofs.lemmas.Bool.{agree_below_at, and_parts, eq-eqb, eqb-true, 
 use Rattle.std.proofs.lemmas.List.{append_cancel_left}
 use Rattle.std.proofs.lemmas.List.Elements.{All-head, All-tail}
 use Rattle.std.proofs.lemmas.Option.{same_Some, slice_get_within}
+use Rattle.sg_lists.proofs.Each.{EachOf, of-append, of-parts}
+use Rattle.sg_lists.proofs.Lists.{append_parts, cons_parts}
 use Rattle.sg_outside.proofs.LineLemmas.{HasNoFeed-append, IsLine-append}
 use Rattle.sg_outside.specs.TextLines.{AreLines, HasNoFeed, IsLine}
 use Rattle.sg_lines.proofs.Numbers.{decimal-digits_only}
@@ -26,9 +28,7 @@ use Rattle.sg_sheet.specs.Sheet.SheetLine.{Ballot, Codes}
 use Rattle.sg_sheet.specs.inside.Listed.{ballot_due, codes_due, due_from, line_due, sheet_due}
 use Rattle.sg_sheet.specs.declared.due.Due.{Due}
 use Rattle.sg_sheet.specs.declared.due.Due.TheVariants as line
-use Rattle.sg_post.proofs.Each.{EachOf, of-append}
-use Rattle.sg_cleared.proofs.Shapes.{fronts_are_same}
-use Rattle.sg_cleared.proofs.Rows.{AreBelow, head_same, styles_below, tail_same}
+use Rattle.sg_cleared.proofs.Rows.{AreBelow, styles_below}
 
 -- BYTES WITHOUT A LINE FEED
 
@@ -89,17 +89,17 @@ codes_is_line version race list a all =
 
 words_same : (version : ℕ) (a b : List ℕ) → All (λ code. code < codes_of version) a → All (λ code. code < codes_of version) b → code_words version a ++ 10 ∷ [] ≡ code_words version b ++ 10 ∷ [] → a ≡ b
 words_same version [] [] all all' same = refl
-words_same version [] (y ∷ b) all all' same = let no : 10 ≡ 32 = head_same same in absurd (omega (arith, no))
-words_same version (x ∷ a) [] all all' same = let no : 32 ≡ 10 = head_same same in absurd (omega (arith, no))
+words_same version [] (y ∷ b) all all' same = let no : 10 ≡ 32 = (cons_parts same).0 in absurd (omega (arith, no))
+words_same version (x ∷ a) [] all all' same = let no : 32 ≡ 10 = (cons_parts same).0 in absurd (omega (arith, no))
 words_same version (x ∷ a) (y ∷ b) all all' same =
     let P : ℕ → Type 0 = λ (c : ℕ). c < codes_of version in
     let below = All-head P x a all in
     let below' = All-head P y b all' in
     let parts =
-    fronts_are_same (32 ∷ code_word version x) (32 ∷ code_word version y) (code_words version a ++ 10 ∷ []) (code_words version b ++ 10 ∷ [])
+    append_parts (32 ∷ code_word version x) (32 ∷ code_word version y) (code_words version a ++ 10 ∷ []) (code_words version b ++ 10 ∷ [])
     (omega (arith, length-code_word version x below, length-code_word version y below'))
     (sym (append_assoc (32 ∷ code_word version x) (code_words version a) (10 ∷ [])) ∙ (same ∙ append_assoc (32 ∷ code_word version y) (code_words version b) (10 ∷ []))) in
-    let first : x ≡ y = codes_differ version x y below below' (tail_same parts.0) in
+    let first : x ≡ y = codes_differ version x y below below' (cons_parts parts.0).1 in
     let rest : a ≡ b = words_same version a b (All-tail P x a all) (All-tail P y b all') parts.1 in
     ap (λ (c : ℕ). c ∷ a) first ∙ ap (λ (l : List ℕ). y ∷ l) rest
 
@@ -115,10 +115,6 @@ codes_same version race a b all all' same =
 abbrev pub IsPlaced : Plan → Due → Type 0
 IsPlaced plan (line.Ballot ballot style) = (ballot < 2 ^ 32) × (style < 2 ^ 32)
 IsPlaced plan (line.Codes race row) = (race < length plan.races) × (row < rows_of plan race)
-
-split_each : {A : Type 0} (P : A → Type 0) (xs ys : List A) → EachOf P (xs ++ ys) → EachOf P xs × EachOf P ys
-split_each P [] ys all = (tt, all)
-split_each P (x ∷ xs) ys all = let rest = split_each P xs ys all.1 in ((all.0, rest.0), rest.1)
 
 module _ (plan : Plan) (fine : fault_of plan ≡ None) where
   has_ballot : (ballot style race : ℕ) → style_of_ballot plan ballot ≡ Some style → style_has plan race style ≡ true → ballot_has plan ballot race ≡ true
@@ -164,10 +160,10 @@ of_ballot P plan ballot [] k style is all = absurd (omega (arith, slice_get_with
 of_ballot P plan ballot (s ∷ styles) zero style is all =
     let here : ballot ≡ ballot + 0 = omega arith in
     let same = same_Some s style is in
-    subst (λ n. EachOf P (ballot_due plan n style)) here (subst (λ x. EachOf P (ballot_due plan ballot x)) same (split_each P (ballot_due plan ballot s) (due_from plan (ballot + 1) styles) all).0)
+    subst (λ n. EachOf P (ballot_due plan n style)) here (subst (λ x. EachOf P (ballot_due plan ballot x)) same (of-parts P (ballot_due plan ballot s) (due_from plan (ballot + 1) styles) all).0)
 of_ballot P plan ballot (s ∷ styles) (suc k) style is all =
     let next : (ballot + 1) + k ≡ ballot + suc k = omega arith in
-    subst (λ n. EachOf P (ballot_due plan n style)) next (of_ballot P plan (ballot + 1) styles k style is (split_each P (ballot_due plan ballot s) (due_from plan (ballot + 1) styles) all).1)
+    subst (λ n. EachOf P (ballot_due plan n style)) next (of_ballot P plan (ballot + 1) styles k style is (of-parts P (ballot_due plan ballot s) (due_from plan (ballot + 1) styles) all).1)
 
 pub of_row : (P : Due → Type 0) (plan : Plan) (race row : ℕ) → row < rows_of plan race → EachOf P (sheet_due plan) → P (line.Codes race row)
 of_row P plan race row below all = by_style (style_of_ballot plan found.ballot) refl
@@ -225,8 +221,8 @@ due_told : (plan : Plan) (p q : Printed) (due : List Due) (more other : List (Li
     → EachOf (SameText plan p q) due × (more ≡ other)
 due_told plan p q [] more other same = (tt, same)
 due_told plan p q (one ∷ due) more other same =
-    let rest = due_told plan p q due more other (tail_same same) in
-    ((head_same same, rest.0), rest.1)
+    let rest = due_told plan p q due more other (cons_parts same).1 in
+    (((cons_parts same).0, rest.0), rest.1)
 
 -- lines that begin with two sheets: what follows is the same, and the codes
 pub record SameSheets (plan : Plan) (p q : Printed) (more other : List (List ℕ)) : Type 0 where

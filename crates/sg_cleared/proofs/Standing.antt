@@ -18,7 +18,9 @@ use Rattle.sg_post.specs.Fits.{claim_fits, fates_fit}
 use Rattle.sg_post.specs.Posted.{posted_record}
 use Rattle.sg_post.specs.declared.story.Claimed.{Claimed}
 use Rattle.sg_post.specs.declared.story.Told.{Told}
+use Rattle.sg_parts.proofs.Accepting.{yes_accepts}
 use Rattle.sg_parts.proofs.Holding.{are_parts}
+use Rattle.sg_parts.proofs.Wholes.{record_read}
 use Rattle.sg_parts.specs.Given.{AreParts, Given, IsAccepted, completion_of, printing_of}
 use Rattle.sg_recount.proofs.Bounding.{sums_bound}
 use Rattle.sg_recount.specs.Findings.{AreFindings}
@@ -59,7 +61,7 @@ module _ (plan : Plan) (seed : List ℕ) (fates : List Told) (draw : Draw) (clai
   prints = prints_tables plan seed (office_codes plan seed) fine (printed_same plan seed fine)
 
   accepted : IsAccepted (posted_record plan seed fates draw claims)
-  accepted = record { words = words; formed = formed; totals = totals; yes = yes }
+  accepted = (record_read (texts_in ours) ours (record { words = words; formed = formed; text = refl }) (yes_accepts (texts_in ours) totals yes)).accepted
 
   parts : AreParts (office_given plan seed fates draw claims)
   parts =

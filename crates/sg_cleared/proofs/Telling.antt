@@ -5,6 +5,8 @@ use Rattle.std.specs.Option.{option_and_then, option_map_or}
 use Rattle.std.specs.Prelude.{slice_get}
 use Rattle.std.proofs.lemmas.List.{length-map}
 use Rattle.std.proofs.lemmas.List.Elements.{All-nil}
+use Rattle.sg_lists.proofs.Each.{EachOf}
+use Rattle.sg_lists.proofs.Lists.{cons_parts}
 use Rattle.sg_plan.specs.Ballots.{candidates_of, entry_at, r_rows}
 use Rattle.sg_plan.specs.Codes.{codes_of}
 use Rattle.sg_plan.specs.Limits.{fault_of}
@@ -41,18 +43,19 @@ use Rattle.sg_check.specs.declared.judged.Judged.{Judged}
 use Rattle.sg_check.specs.declared.judged.Judged.TheVariants as judged
 use Rattle.sg_check.specs.declared.judged.Kind.{Kind}
 use Rattle.sg_check.specs.declared.judged.Total.{Total}
-use Rattle.sg_post.proofs.Each.{EachOf}
 use Rattle.sg_post.specs.Fits.{claim_fits, fates_fit}
 use Rattle.sg_post.specs.Posted.{posted_record}
 use Rattle.sg_post.specs.declared.story.Claimed.{Claimed}
 use Rattle.sg_post.specs.declared.story.Told.{Told}
 use Rattle.sg_facts.specs.Items.{item_in, row_in}
+use Rattle.sg_fronts.proofs.ByRecords.{verdicts_say}
+use Rattle.sg_fronts.specs.ByRecords.{Says}
 use Rattle.sg_parts.specs.Faults.{AreRowsOff, HasFault, IsCompletionOff, IsPrintingOff, IsRecordOf, IsRowFault, IsRowRight, IsSheetOf, IsSheetOff, blank, lines_behind, record_lines}
 use Rattle.sg_parts.specs.Given.{AreOpenings, ArePrinted, Given, IsGiven, IsHalf, IsRowGiven, completion_line, completion_of, completion_texts, half_given, joined, printed_of, printing_line, printing_of, row_text, sheet_texts}
 use Rattle.sg_parts.specs.declared.parts.RecountFault.{RecountFault}
 use Rattle.sg_parts.specs.declared.parts.RecountFault.TheVariants as fault
 use Rattle.sg_parts.specs.declared.parts.RowGiven.{RowGiven}
-use Rattle.sg_cleared.proofs.Rows.{rows_few, tail_same}
+use Rattle.sg_cleared.proofs.Rows.{rows_few}
 use Rattle.sg_cleared.proofs.Handed.{IsOffice, both_given, codes_are, handed_lines, office_has, office_rows, office_rows_given, opening_in, rows_are, rows_office, sheet, tables_of_version}
 use Rattle.sg_cleared.proofs.Posted.{both_are, code_is, half_opens, half_posted}
 use Rattle.sg_cleared.proofs.Shapes.{each_at, each_joined, images_same, rows_same}
@@ -165,7 +168,7 @@ module _ (plan : Plan) (seed : List ℕ) (fates : List Told) (draw : Draw) (clai
   sheet_told posted lists after is printed same =
       let here : lines_behind all ≡ printing_line ∷ (sheet_texts plan lists ++ after) = subst (λ (p : Record). lines_behind all ≡ printing_line ∷ (sheet_texts p.plan lists ++ after)) is same in
       sheets_told plan (printed_of lists) (codes_of_row plan seed) after last fine (lists_of_version plan lists (subst (λ (p : Record). ArePrinted p.plan lists) is printed)) (tables_of_version plan seed fine)
-      (tail_same (sym here ∙ behind_is))
+      (cons_parts (sym here ∙ behind_is)).1
 
   row_told : (x y : RowGiven) → IsRowGiven x → IsOffice plan seed fine y → row_text x ≡ row_text y → x ≡ y
   row_told x y given (race, instance, number, within, is) same =
@@ -192,7 +195,7 @@ module _ (plan : Plan) (seed : List ℕ) (fates : List Told) (draw : Draw) (clai
       record {
         posted = posted;
         codes = told.agree;
-        rows = rows_told given.rows (subst (λ (p : Record). has_rows p.plan given.rows ≡ true) posted is.rows) is.openings (tail_same told.rest);
+        rows = rows_told given.rows (subst (λ (p : Record). has_rows p.plan given.rows ≡ true) posted is.rows) is.openings (cons_parts told.rest).1;
       }
 
   -- NO FAULT
@@ -217,9 +220,11 @@ module _ (plan : Plan) (seed : List ℕ) (fates : List Told) (draw : Draw) (clai
       some_same : {x y : Opening} → Some x ≡ Some y → x ≡ y
       some_same e = cc
 
-  no_verdict : (number : ℕ) (broken : Kind) → IsVerdict (record_lines all) (judged.No number broken) → ⊥
-  no_verdict number broken verdict =
-      no (one_verdict (texts_in ours) (judged.No number broken) (judged.Yes totals) (subst (λ (l : List (List ℕ)). IsVerdict l (judged.No number broken)) front_is verdict) yes)
+  no_verdict : (number : ℕ) (broken : Kind) → Says (judged.No number broken) (record_lines all) → ⊥
+  no_verdict number broken says =
+      no
+      (one_verdict (texts_in ours) (judged.No number broken) (judged.Yes totals)
+      ((verdicts_say (texts_in ours) (judged.No number broken)).1 (subst (Says (judged.No number broken)) front_is says)) yes)
     where
       no : ◌≡◌ {A = Judged} (judged.No number broken) (judged.Yes totals) → ⊥
       no e = cc
@@ -254,7 +259,7 @@ module _ (plan : Plan) (seed : List ℕ) (fates : List Told) (draw : Draw) (clai
 
   -- the lines have no fault
   pub no_fault : (wrong : RecountFault) → wrong ≢ fault.NoMemory → HasFault all wrong → ⊥
-  no_fault (fault.Record number broken) known verdict = no_verdict number broken verdict
+  no_fault (fault.Record number broken) known says = no_verdict number broken says
   no_fault (fault.Printing number) known (posted, at, of, off, is) =
       no_printing_off at
       (subst (λ (l : List (List ℕ)). IsPrintingOff plan l at) behind_is (subst (λ (p : Record). IsPrintingOff p.plan (lines_behind all) at) (posted_told posted of) off))

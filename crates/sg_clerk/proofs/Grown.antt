@@ -1,21 +1,19 @@
 -- What `record` writes of told rows only grows, with each command.
-use Rattle.std.proofs.Common.{◌≡◌, ℕ, List, [], ◌++◌, Option, Some, None, inl, inr, refl, ap, sym, subst, ◌∙◌, append-nil}
+use Rattle.std.proofs.Common.{◌≡◌, ℕ, List, [], ◌++◌, None, inl, inr, refl, ap, sym, subst, ◌∙◌, append-nil}
+use Rattle.std.proofs.lemmas.Option.{same_Some}
 use Rattle.sg_outside.specs.Streams.{Seen}
 use Rattle.sg_outside.specs.declared.outcome.Outcome.{Outcome}
 use Rattle.sg_outside.specs.declared.outcome.Outcome.TheVariants as outcome
-use Rattle.sg_keeper.specs.SetupReading.{setup_in}
+use Rattle.sg_keeper.specs.SetupText.{setup_text}
 use Rattle.sg_keeper.specs.declared.rows.Rows.{Rows}
 use Rattle.sg_keeper.specs.declared.setup.Setup.{Setup}
-use Rattle.sg_keeper.proofs.SetupLaw.{setups_are_spelled}
 use Rattle.sg_talk.specs.Talk.{stores_in}
-use Rattle.sg_desks.specs.ActReading.{act_in}
 use Rattle.sg_histories.specs.Histories.{Entry}
 use Rattle.sg_histories.specs.KeptRows.{rows_of}
 use Rattle.sg_histories.specs.Lawful.{Lawful}
-use Rattle.sg_histories.specs.ValidRows.{Whole, damage_of, opening, opening_of, opens_as, opens_from, opens_with}
+use Rattle.sg_histories.specs.Opens.{OpenTo, Whole}
 use Rattle.sg_histories.proofs.BackAll.{setup_kept}
-use Rattle.sg_histories.proofs.Opening.{lawful_rows_open, open_rows_are_lawful}
-use Rattle.sg_keeper.specs.SetupText.{setup_text}
+use Rattle.sg_histories.proofs.Opening.{lawful_rows_open, no_text, one_setup, open_rows_are_lawful}
 use Rattle.sg_clerk.specs.Asked.{DoSays}
 use Rattle.sg_clerk.specs.Begun.{Beginning, InitEnds, InitSays, IsCut, Refusing}
 use Rattle.sg_clerk.specs.Does.{LineTalk, LinesEnd}
@@ -28,37 +26,21 @@ use Rattle.sg_clerk.proofs.Keeping.{talks_keep_record}
 
 -- ROWS OF ONE SETUP
 
-whole_same : (a b : Setup) → Whole a ≡ Whole b → a ≡ b
-whole_same a b e = cc
-
--- the text of a setup that is in rows is read as the setup that they open to
-whole_read : (setup : Setup) (rows : Rows) (text : List ℕ) → opening rows ≡ Whole setup → rows.setup ≡ Some text → setup_in text ≡ Some setup
-unfolding opening_of
-whole_read setup rows text whole is = by_setup (setup_in text) refl (ap (λ (t : Option (List ℕ)). opens_from setup_in act_in rows t) (sym is) ∙ whole)
-  where
-    by_damage : (found : Setup) (damage : Option (ℕ × ℕ)) → opens_as found damage ≡ Whole setup → found ≡ setup
-    by_damage found None e = whole_same found setup e
-    by_damage found (Some damage) e = cc
-
-    by_setup : (found : Option Setup) → setup_in text ≡ found → opens_with act_in rows found ≡ Whole setup → setup_in text ≡ Some setup
-    by_setup None read e = cc
-    by_setup (Some found) read e = read ∙ ap Some (by_damage found (damage_of found (act_in found.plan.version) rows) e)
-
--- the rows of a later history of that setup open to it
-later_whole : (setup : Setup) (rows rows' : Rows) (text : List ℕ) (history next : List Entry) → opening rows ≡ Whole setup → rows ≡ rows_of setup text history → rows' ≡ rows_of setup text next
-    → Lawful setup next → opening rows' ≡ Whole setup
+-- the rows of a later history of the setup that rows open to open to it
+later_whole : (setup : Setup) (rows rows' : Rows) (text : List ℕ) (history next : List Entry) → OpenTo rows (Whole setup) → rows ≡ rows_of setup text history → rows' ≡ rows_of setup text next
+    → Lawful setup next → OpenTo rows' (Whole setup)
 later_whole setup rows rows' text history next whole is is' lawful =
-    let read = whole_read setup rows text whole (ap (λ (r : Rows). r.setup) is ∙ setup_kept setup text history) in
-    let said = setups_are_spelled text setup read in
-    ap opening (is' ∙ ap (λ (t : List ℕ). rows_of setup t next) said.2) ∙ lawful_rows_open setup next said.0 said.1 lawful
+    let own : text ≡ setup_text setup
+    = same_Some text whole.text (sym (ap (λ (r : Rows). r.setup) is ∙ setup_kept setup text history) ∙ whole.kept) ∙ whole.setup_is.2 in
+    subst (λ (r : Rows). OpenTo r (Whole setup)) (sym (is' ∙ ap (λ (t : List ℕ). rows_of setup t next) own)) (lawful_rows_open setup next whole.setup_is.0 whole.setup_is.1 lawful)
 
 -- WHAT GROWS
 
 -- what is posted of rows before a talk is a front of what is posted of those behind it
-talk_grows : (setup : Setup) (start next : List Entry) (rows rows' : Rows) → opening rows ≡ Whole setup → Lawful setup start → (text : List ℕ) → rows ≡ rows_of setup text start → rows' ≡ rows_of setup text next
+talk_grows : (setup : Setup) (start next : List Entry) (rows rows' : Rows) → OpenTo rows (Whole setup) → Lawful setup start → (text : List ℕ) → rows ≡ rows_of setup text start → rows' ≡ rows_of setup text next
     → KeepsRecord setup start next → KeepsPosted rows rows'
 talk_grows setup start next rows rows' whole lawful text is is' keeps other opens =
-    subst (λ (s : Setup). PostedGrows s rows rows') (whole_same setup other (sym whole ∙ opens)) (record {
+    subst (λ (s : Setup). PostedGrows s rows rows') (one_setup rows setup other None None whole opens) (record {
       whole = later_whole setup rows rows' text start next whole is is' keeps.lawful;
       front = λ due due' first last.
           let early : due ≡ posted_of setup start = first text start lawful is in
@@ -71,7 +53,7 @@ pub same_grows : (rows rows' : Rows) → rows' ≡ rows → KeepsPosted rows row
 same_grows rows rows' same setup opens =
     let found = open_rows_are_lawful setup rows opens in
     record {
-      whole = ap opening same ∙ opens;
+      whole = subst (λ (r : Rows). OpenTo r (Whole setup)) (sym same) opens;
       front = λ due due' first last.
           let early : due ≡ posted_of setup found.history = first (setup_text setup) found.history found.lawful found.rows_are in
           let late : due' ≡ posted_of setup found.history = last (setup_text setup) found.history found.lawful (same ∙ found.rows_are) in
@@ -80,11 +62,7 @@ same_grows rows rows' same setup opens =
 
 -- of no rows nothing is said
 none_grows : (rows rows' : Rows) → rows.setup ≡ None → KeepsPosted rows rows'
-unfolding opening_of
-none_grows rows rows' none setup opens = absurd (empty_is (ap (λ (t : Option (List ℕ)). opens_from setup_in act_in rows t) (sym none) ∙ opens))
-  where
-    empty_is : opens_from setup_in act_in rows None ≡ Whole setup → ⊥
-    empty_is e = cc
+none_grows rows rows' none setup opens = absurd (no_text rows opens.text none opens.kept)
 
 -- a talk of the kept office
 pub talks_grow : {X : Type 0} (Talk : Setup → List X → List Entry → List Entry → Type 0) (stores : List X → ℕ) (Ends : Ending → Setup → List X → Type 0) (result : Outcome) (tells : Type 0) (rows rows' : Rows) (faults faults' : ℕ)

@@ -4,6 +4,7 @@ use Rattle.std.proofs.lemmas.Bool.Decides.{nat_tests}
 use Rattle.std.specs.Prelude.{◌⊎◌, Option, true, false, ◌==◌}
 use Rattle.std.specs.List.{concat}
 use Rattle.std.specs.Io.KnownBytes.{Consumes, IsAtEnd}
+use Rattle.sg_lists.proofs.Lists.{concat-push}
 use Rattle.sg_plan.specs.Limits.{longest_ask, most_asks}
 use Rattle.sg_outside.specs.Cutting.{Cutting, to_come}
 use Rattle.sg_outside.specs.Faults.{Rose}
@@ -27,7 +28,7 @@ use Rattle.sg_clerk.specs.inside.LineAsks.{CutsOne, LinesCame, LinesOver, by_lin
 use Rattle.sg_clerk.specs.declared.asker.Stop.TheVariants as stop
 use Rattle.sg_clerk.specs.declared.ended.Unfit.{Unfit}
 use Rattle.sg_clerk.specs.declared.ended.Unfit.TheVariants as unfit
-use Rattle.sg_clerk.proofs.TalkGrows.{all-lines, all-lines_part, concat-push, first-lines, first-of_all, lines-length, lines-push, refused-stands}
+use Rattle.sg_clerk.proofs.TalkGrows.{all-lines, all-lines_part, first-lines, first-of_all, lines-length, lines-push, refused-stands}
 use Rattle.sg_clerk.proofs.Taking.{CutBehind, short-push, took-behind}
 
 -- WHAT CAME

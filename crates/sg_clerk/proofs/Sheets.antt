@@ -1,15 +1,14 @@
 -- How a sheet grows line by line.
-use Rattle.std.proofs.Common.{◌≡◌, ℕ, zero, suc, ◌+◌, ◌-◌, ◌<◌, ◌≤◌, ◌==◌, ◌||◌, Bool, true, false, cond, List, [], ◌∷◌, ◌++◌, drop, length, map, refl, sym, ap, subst, ◌∙◌, append_assoc, append-nil, arith}
+use Rattle.std.proofs.Common.{◌≡◌, ℕ, ◌+◌, ◌-◌, ◌<◌, ◌≤◌, ◌==◌, Bool, true, false, cond, List, [], ◌∷◌, ◌++◌, drop, length, map, refl, sym, ap, subst, ◌∙◌, append_assoc, append-nil, arith}
 use Rattle.std.specs.Prelude.{Option, None, Some, Result, Ok, Err, slice_get}
-use Rattle.std.specs.List.{list_any}
 use Rattle.std.specs.Option.{option_map_or}
 use Rattle.std.specs.Io.KnownBytes.{Appends}
-use Rattle.std.proofs.Math.Seq.{drop-cons}
-use Rattle.std.proofs.lemmas.Bool.{eq-eqb, ne_eqb}
+use Rattle.std.proofs.lemmas.Bool.{ne_eqb}
 use Rattle.std.proofs.lemmas.Grind.{flat_map-append}
 use Rattle.std.proofs.lemmas.List.{drop_all}
 use Rattle.std.proofs.lemmas.List.Concat.{flat_map-cons}
-use Rattle.std.proofs.lemmas.Option.{get_or_from_slice_get, slice_get_within}
+use Rattle.sg_lists.proofs.Lists.{drop_from_slice_get}
+use Rattle.sg_lists.proofs.Tests.{list_any-slice_get}
 use Rattle.sg_outside.specs.Streams.{AppendsFront, PutAppends}
 use Rattle.sg_outside.proofs.StreamLemmas.{Appends-nil, Appends-trans, AppendsFront-more, AppendsFront-trans}
 use Rattle.sg_plan.specs.Ballots.{ballot_has, ballot_styles, candidates_of, races_of_ballot, races_of_style, style_of_ballot}
@@ -65,12 +64,6 @@ put_after before now next (Err error) bs cs p q = AppendsFront-trans before now 
 
 -- LISTS
 
--- behind an item come those from the next place on
-pub drop_at : {A : Type 0} (xs : List A) (at : ℕ) (x : A) → slice_get xs at ≡ Some x → drop at xs ≡ x ∷ drop (at + 1) xs
-drop_at xs at x is =
-    let next : suc at ≡ at + 1 = omega arith in
-    drop-cons xs at x (slice_get_within xs at x is) ∙ (ap (λ y. y ∷ drop (suc at) xs) (get_or_from_slice_get xs at x x is) ∙ ap (λ n. x ∷ drop n xs) next)
-
 -- a text grows by one more piece
 pub line_step : (line line' piece left left' all : List ℕ) → line' ≡ line ++ piece → left ≡ piece ++ left' → line ++ left ≡ all → line' ++ left' ≡ all
 line_step line line' piece left left' all grown parts is =
@@ -83,7 +76,7 @@ line_end line left all none is = sym (append-nil line) ∙ (ap (λ l. line ++ l)
 -- the words of codes from one on
 pub codes_at : (version : ℕ) (list : List ℕ) (at code : ℕ) → slice_get list at ≡ Some code
     → code_words version (drop at list) ≡ (32 ∷ code_word version code) ++ code_words version (drop (at + 1) list)
-codes_at version list at code is = ap (code_words version) (drop_at list at code is)
+codes_at version list at code is = ap (code_words version) (drop_from_slice_get list at code is)
 
 -- the words of a ballot row's codes from a candidate on
 pub row_at : (plan : Plan) (seed : List ℕ) (race row candidate : ℕ) → fault_of plan ≡ None → race < length plan.races → candidate < candidates_of plan race
@@ -110,31 +103,15 @@ row_over plan seed race row count fine within past =
     let short : length (codes_of_row plan seed race row) ≤ count = omega (arith, many, past) in
     ap (code_words plan.version) (drop_all count (codes_of_row plan seed race row) short)
 
--- a ballot has the races of its list
-any_at : (xs : List ℕ) (at x : ℕ) → slice_get xs at ≡ Some x → list_any (λ r. r == x) xs ≡ true
-any_at [] at x is = absurd (omega (arith, slice_get_within [] at x is))
-any_at (y ∷ ys) zero x is = first (some_is is)
-  where
-    some_is : Some y ≡ Some x → y ≡ x
-    some_is e = cc
-
-    first : y ≡ x → ((y == x) || list_any (λ r. r == x) ys) ≡ true
-    first e = ap (λ b. b || list_any (λ r. r == x) ys) (eq-eqb y x e)
-any_at (y ∷ ys) (suc at) x is = ap (λ b. (y == x) || b) (any_at ys at x is) ∙ or_true (y == x)
-  where
-    or_true : (b : Bool) → (b || true) ≡ true
-    or_true true = refl
-    or_true false = refl
-
 pub has_listed : (plan : Plan) (ballot at race : ℕ) → slice_get (races_of_ballot plan ballot) at ≡ Some race → ballot_has plan ballot race ≡ true
-has_listed plan ballot at race is = has_among plan ballot race ∙ any_at (races_of_ballot plan ballot) at race is
+has_listed plan ballot at race is = has_among plan ballot race ∙ list_any-slice_get (races_of_ballot plan ballot) at race is
 
 -- the text of a ballot's races from one on
 pub races_at : (plan : Plan) (seed : List ℕ) (ballot : ℕ) (races : List ℕ) (at race : ℕ) → slice_get races at ≡ Some race
     → lines_text plan.version (map (codes_line plan (codes_of_row plan seed) ballot) (drop at races))
     ≡ line_text plan.version (codes_line plan (codes_of_row plan seed) ballot race) ++ lines_text plan.version (map (codes_line plan (codes_of_row plan seed) ballot) (drop (at + 1) races))
 races_at plan seed ballot races at race is =
-    ap (λ l. lines_text plan.version (map (codes_line plan (codes_of_row plan seed) ballot) l)) (drop_at races at race is)
+    ap (λ l. lines_text plan.version (map (codes_line plan (codes_of_row plan seed) ballot) l)) (drop_from_slice_get races at race is)
     ∙ flat_map-cons (line_text plan.version) (codes_line plan (codes_of_row plan seed) ballot race) (map (codes_line plan (codes_of_row plan seed) ballot) (drop (at + 1) races))
 
 abbrev IsNothing : Option ℕ → Type 0
@@ -168,5 +145,5 @@ pub ballots_at : (plan : Plan) (seed : List ℕ) (at style : ℕ) → style_of_b
     → lines_text plan.version (lines_from plan (codes_of_row plan seed) (at + 1) (drop at (ballot_styles plan.runs)))
     ≡ lines_text plan.version (ballot_lines plan (codes_of_row plan seed) (at + 1) style) ++ lines_text plan.version (lines_from plan (codes_of_row plan seed) (at + 1 + 1) (drop (at + 1) (ballot_styles plan.runs)))
 ballots_at plan seed at style is =
-    ap (λ l. lines_text plan.version (lines_from plan (codes_of_row plan seed) (at + 1) l)) (drop_at (ballot_styles plan.runs) at style (style_place plan at style is))
+    ap (λ l. lines_text plan.version (lines_from plan (codes_of_row plan seed) (at + 1) l)) (drop_from_slice_get (ballot_styles plan.runs) at style (style_place plan at style is))
     ∙ flat_map-append (line_text plan.version) (ballot_lines plan (codes_of_row plan seed) (at + 1) style) (lines_from plan (codes_of_row plan seed) (at + 1 + 1) (drop (at + 1) (ballot_styles plan.runs)))

@@ -9,9 +9,9 @@ use Rattle.sg_post.specs.Posted.{posted_text}
 use Rattle.sg_post.specs.declared.story.Story.{Story}
 use Rattle.sg_tables.specs.Tables.{MadeFrom}
 use Rattle.sg_histories.specs.Histories.{Entry}
+use Rattle.sg_histories.specs.Opens.{Damaged, Empty, OpenTo, Opens, Whole}
 use Rattle.sg_histories.specs.Standing.{StandsFor}
 use Rattle.sg_histories.specs.Stories.{story_of}
-use Rattle.sg_histories.specs.ValidRows.{Damaged, Empty, Opens, opening}
 use Rattle.sg_histories.specs.declared.kept.Kept.{Kept}
 use Rattle.sg_clerk.specs.Sheet.{sheet_of, sheet_text}
 use Rattle.sg_clerk.specs.Shown.{IsDue, IsDueOf, ShowSays, WritesFront, damaged_line, empty_line, posted_of}
@@ -52,15 +52,15 @@ sheet_part kept tables out out' same written = record { text = sheet_text tables
 
 -- what is due of rows that open so
 due_as : (due_of : Setup → List Entry → List ℕ) (tells : Type 0) (rows : Rows) (opens : Opens) (due : List ℕ)
-    → (tells → opening rows ≡ opens) → (tells → IsDueOf due_of rows opens due) → IsDue due_of tells rows due
-due_as due_of tells rows opens due same is told = subst (λ (o : Opens). IsDueOf due_of rows o due) (sym (same told)) (is told)
+    → (tells → OpenTo rows opens) → IsDueOf due_of rows opens due → IsDue due_of tells rows due
+due_as due_of tells rows opens due opened is told = (opens, opened told, is)
 
 -- what is due of rows that open to an office is what is shown of it
 due_whole : (due_of : Setup → List Entry → List ℕ) (kept : Kept) (tells : Type 0) (rows : Rows) (text : List ℕ) → (tells → IsOpen kept rows)
     → IsTextOf due_of kept text → IsDue due_of tells rows text
 due_whole due_of kept tells rows text opens is told =
     let open_now = opens told in
-    subst (λ (o : Opens). IsDueOf due_of rows o text) (sym open_now.whole) (λ kept_text history lawful same. is history (open_now.each kept_text history lawful same))
+    (Whole kept.setup, open_now.whole, λ kept_text history lawful same. is history (open_now.each kept_text history lawful same))
 
 -- a front of what is shown of an office was written
 due_front : (due_of : Setup → List Entry → List ℕ) (kept : Kept) (tells : Type 0) (rows : Rows) (out out' : Seen) → (tells → IsOpen kept rows)
@@ -89,9 +89,9 @@ office_shows due_of _ kept tells rows faults faults' out out' opens ends = absur
 -- a front of the line that is due was written
 line_front : (due_of : Setup → List Entry → List ℕ) (tells : Type 0) (rows : Rows) (out out' : Seen) → IsCutLine tells rows out out' → WritesFront due_of tells rows out out'
 line_front due_of tells rows out out' (NoSetup empty written) =
-    record { due = empty_line; is_due = due_as due_of tells rows Empty empty_line empty (λ told. refl); written = written }
+    record { due = empty_line; is_due = due_as due_of tells rows Empty empty_line empty refl; written = written }
 line_front due_of tells rows out out' (NoOffice table row damage written) =
-    record { due = damaged_line table row; is_due = due_as due_of tells rows (Damaged table row) (damaged_line table row) damage (λ told. refl); written = written }
+    record { due = damaged_line table row; is_due = due_as due_of tells rows (Damaged table row) (damaged_line table row) damage refl; written = written }
 
 -- behind rows that no office was opened of
 pub closed_shows : (due_of : Setup → List Entry → List ℕ) (how : Outcome) (tells : Type 0) (rows : Rows) (faults faults' : ℕ) (out out' : Seen)

@@ -3,6 +3,7 @@ use Rattle.std.proofs.Common.{◌≡◌, ℕ, ◌+◌, ◌≤◌, List, [], ◌�
 use Rattle.std.specs.Prelude.{Option, Result, Ok, Err}
 use Rattle.std.specs.List.{concat}
 use Rattle.std.specs.Io.KnownBytes.{Appends}
+use Rattle.sg_lists.proofs.Lists.{concat-push}
 use Rattle.sg_outside.specs.Streams.{AppendsFront, Seen}
 use Rattle.sg_outside.proofs.StreamLemmas.{Appends-nil, Appends-trans, Rose-later}
 use Rattle.sg_keeper.specs.declared.rows.Rows.{Rows}
@@ -18,7 +19,7 @@ use Rattle.sg_clerk.specs.declared.asker.Stop.{Stop}
 use Rattle.sg_clerk.specs.declared.asker.Stop.TheVariants as stop
 use Rattle.sg_clerk.specs.declared.ended.Ending.{Ending}
 use Rattle.sg_clerk.proofs.Follows.{follows-none, follows-on, follows-still}
-use Rattle.sg_clerk.proofs.TalkGrows.{concat-push, last-push}
+use Rattle.sg_clerk.proofs.TalkGrows.{last-push}
 
 -- LISTS THAT GROW BY ONE MORE
 

@@ -20,11 +20,6 @@ pub lines-length : (exchanges : List Exchange) → length (lines_in exchanges) �
 lines-length [] = refl
 lines-length (y ∷ ys) = let ih = lines-length ys in omega (arith, ih)
 
--- one more line joined to others
-pub concat-push : (lines : List (List ℕ)) (line : List ℕ) → concat (lines ++ line ∷ []) ≡ concat lines ++ line
-concat-push [] line = append-nil line
-concat-push (x ∷ xs) line = ap (λ l. x ++ l) (concat-push xs line) ∙ sym (append_assoc x (concat xs) line)
-
 -- THE INPUT
 
 pub first-lines : (before after : Option (List ℕ)) (lines : List (List ℕ)) → AreLines lines → Consumes before after (concat lines) → AreFirstLines before lines

@@ -8,7 +8,7 @@ use Rattle.sg_keeper.specs.declared.setup.Setup.{Setup}
 use Rattle.sg_talk.specs.Talk.{Exchange, Talk}
 use Rattle.sg_histories.specs.Histories.{Entry}
 use Rattle.sg_histories.specs.Lawful.{Lawful}
-use Rattle.sg_histories.specs.ValidRows.{Whole, opening}
+use Rattle.sg_histories.specs.Opens.{OpenTo, Whole}
 use Rattle.sg_talk.specs.Laws.{GrowsTo}
 use Rattle.sg_talk.specs.Turns.{AskTurn}
 use Rattle.sg_sheet.specs.Sheet.{SheetLine, codes_line}
@@ -36,12 +36,12 @@ TalksKeepRecord = (setup : Setup) (exchanges : List Exchange) (history next : Li
 -- Rows that are an office's and later ones: those are the same office's, and what `record` writes of the rows is a front of
 -- what it writes of the later ones.
 pub record PostedGrows (setup : Setup) (rows rows' : Rows) : Type 0 where
-  pub whole : opening rows' ≡ Whole setup
+  pub whole : OpenTo rows' (Whole setup)
   pub front : (due due' : List ℕ) → IsDueOf posted_of rows (Whole setup) due → IsDueOf posted_of rows' (Whole setup) due' → (rest : List ℕ) × (due' ≡ due ++ rest)
 
 -- so it is, where the rows are an office's
 abbrev pub KeepsPosted : Rows → Rows → Type 0
-KeepsPosted rows rows' = (setup : Setup) → opening rows ≡ Whole setup → PostedGrows setup rows rows'
+KeepsPosted rows rows' = (setup : Setup) → OpenTo rows (Whole setup) → PostedGrows setup rows rows'
 
 -- the codes of a line
 abbrev pub codes_in : SheetLine → List ℕ

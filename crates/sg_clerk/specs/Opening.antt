@@ -8,15 +8,15 @@ use Rattle.sg_outside.specs.declared.outcome.Outcome.TheVariants as outcome
 use Rattle.sg_keeper.specs.declared.rows.Rows.{Rows}
 use Rattle.sg_keeper.specs.declared.setup.Setup.{Setup}
 use Rattle.sg_histories.specs.Histories.{Entry}
+use Rattle.sg_histories.specs.Opens.{OpenTo, Whole}
 use Rattle.sg_histories.specs.Standing.{HasRows, StandsFor}
-use Rattle.sg_histories.specs.ValidRows.{Whole, opening}
 use Rattle.sg_histories.specs.declared.kept.Kept.{Kept}
 use Rattle.sg_open.specs.Opened.{StandsForEach}
 use Rattle.sg_clerk.specs.Talks.{ClosedSays}
 
 -- the office is the one that the rows open to, and stands for each history whose rows they are
 pub record IsOpen (kept : Kept) (rows : Rows) : Type 0 where
-  pub whole : opening rows ≡ Whole kept.setup
+  pub whole : OpenTo rows (Whole kept.setup)
   pub each : StandsForEach kept rows
 
 -- the office stands for a history whose rows were loaded: the keeper's, where it tells them

@@ -12,8 +12,8 @@ use Rattle.sg_post.specs.Posted.{posted_text}
 use Rattle.sg_histories.specs.Histories.{Entry}
 use Rattle.sg_histories.specs.KeptRows.{rows_of}
 use Rattle.sg_histories.specs.Lawful.{Lawful}
+use Rattle.sg_histories.specs.Opens.{Damaged, Empty, OpenTo, Opens, Whole}
 use Rattle.sg_histories.specs.Stories.{story_of}
-use Rattle.sg_histories.specs.ValidRows.{Damaged, Empty, Opens, Whole, opening}
 
 -- THE TEXTS
 
@@ -37,16 +37,16 @@ IsDueOf shown rows Empty due = due ≡ empty_line
 IsDueOf shown rows (Damaged table row) due = due ≡ damaged_line table row
 IsDueOf shown rows (Whole setup) due = (text : List ℕ) (history : List Entry) → Lawful setup history → rows ≡ rows_of setup text history → due ≡ shown setup history
 
--- the same, where the keeper tells its rows
+-- what is due of what the rows open to, where the keeper tells them
 abbrev pub IsDue : (Setup → List Entry → List ℕ) → (tells : Type 0) → Rows → List ℕ → Type 0
-IsDue shown tells rows due = tells → IsDueOf shown rows (opening rows) due
+IsDue shown tells rows due = tells → (opens : Opens) × OpenTo rows opens × IsDueOf shown rows opens due
 
 -- HOW IT ENDS
 
 -- where rows are told they are an office's, and what is shown of them was written whole
 pub record ShowsAll (shown : Setup → List Entry → List ℕ) (tells : Type 0) (rows : Rows) (out out' : Seen) : Type 0 where
   pub due : List ℕ
-  pub whole : tells → (setup : Setup) × (opening rows ≡ Whole setup)
+  pub whole : tells → (setup : Setup) × OpenTo rows (Whole setup)
   pub is_due : IsDue shown tells rows due
   pub written : Appends out.bytes out'.bytes due
 
@@ -68,14 +68,14 @@ pub record LoadFails (faults faults' : ℕ) (out out' : Seen) : Type 0 where
 
 -- no setup is kept where rows are told, and the line that says so was written
 pub record IsEmpty (tells : Type 0) (rows : Rows) (out out' : Seen) : Type 0 where
-  pub empty : tells → opening rows ≡ Empty
+  pub empty : tells → OpenTo rows Empty
   pub written : Appends out.bytes out'.bytes empty_line
 
 -- where rows are told they are no office's, and the line that names the first bad row was written
 pub record IsDamaged (tells : Type 0) (rows : Rows) (out out' : Seen) : Type 0 where
   pub table : ℕ
   pub row : ℕ
-  pub damage : tells → opening rows ≡ Damaged table row
+  pub damage : tells → OpenTo rows (Damaged table row)
   pub written : Appends out.bytes out'.bytes (damaged_line table row)
 
 -- memory was wanted; nothing was written, or a front of what is due

@@ -9,7 +9,7 @@ use Rattle.sg_keeper.specs.declared.setup.Setup.{Setup}
 use Rattle.sg_histories.specs.Histories.{Entry}
 use Rattle.sg_histories.specs.KeptRows.{rows_of}
 use Rattle.sg_histories.specs.Lawful.{Lawful}
-use Rattle.sg_histories.specs.ValidRows.{Damaged, Empty, Whole, opening}
+use Rattle.sg_histories.specs.Opens.{Damaged, Empty, OpenTo, Whole}
 use Rattle.sg_clerk.specs.Ends.{outcome_of}
 use Rattle.sg_clerk.specs.Shown.{IsDamaged, IsEmpty, LoadFails, damaged_line, empty_line}
 use Rattle.sg_clerk.specs.declared.ended.Ending.{Ending}
@@ -44,7 +44,7 @@ pub record Talks {X : Type 0} (Talk : Setup → List X → List Entry → List E
   pub lawful : Lawful setup start
   pub from : tells → (text : List ℕ) × (rows ≡ rows_of setup text start)
   pub does : Talked Talk stores (Ends how) setup start tells rows rows' faults faults'
-  pub whole : tells → opening rows ≡ Whole setup
+  pub whole : tells → OpenTo rows (Whole setup)
   pub each : tells → (text : List ℕ) (history : List Entry) → Lawful setup history → rows ≡ rows_of setup text history
       → Talked Talk stores (Ends how) setup history tells rows rows' faults faults'
 
@@ -52,8 +52,8 @@ pub record Talks {X : Type 0} (Talk : Setup → List X → List Entry → List E
 
 -- a front of the line was written that is due where no setup is kept, or where the rows are no office's
 pub data IsCutLine (tells : Type 0) (rows : Rows) (out out' : Seen) : Type 0 where
-  NoSetup : (tells → opening rows ≡ Empty) → AppendsFront out.bytes out'.bytes empty_line → IsCutLine tells rows out out'
-  NoOffice : (table row : ℕ) → (tells → opening rows ≡ Damaged table row) → AppendsFront out.bytes out'.bytes (damaged_line table row) → IsCutLine tells rows out out'
+  NoSetup : (tells → OpenTo rows Empty) → AppendsFront out.bytes out'.bytes empty_line → IsCutLine tells rows out out'
+  NoOffice : (table row : ℕ) → (tells → OpenTo rows (Damaged table row)) → AppendsFront out.bytes out'.bytes (damaged_line table row) → IsCutLine tells rows out out'
 
 -- the output's count of faults rose, and a front of the line that is due was written
 pub record LineFails (tells : Type 0) (rows : Rows) (out out' : Seen) : Type 0 where

@@ -1,23 +1,14 @@
 -- The input of a commitment has 29 bytes, and tells what it was made of.
-use Rattle.std.proofs.Common.{◌≡◌, ℕ, ◌^◌, ◌<◌, List, [], ◌∷◌, ◌++◌, length, get_or, drop, refl, sym, ap, ◌∙◌, arith}
+use Rattle.std.proofs.Common.{◌≡◌, ℕ, ◌^◌, ◌<◌, get_or, drop, refl, sym, ap, ◌∙◌, arith}
 use Rattle.std.proofs.lemmas.List.{length-append}
 use Rattle.std.proofs.lemmas.Nat.{from_be_bytes-to_be_bytes_2, from_be_bytes-to_be_bytes_4}
 use Rattle.std.specs.Int.{w16, w32, to_be_bytes, from_be_bytes}
+use Rattle.sg_lists.proofs.Lists.{append_parts}
 use Rattle.sg_commit.specs.Commitments.{letter_of}
 use Rattle.sg_commit.specs.Laws.{InputsAreOneToOne, InputsHave29Bytes}
 use Rattle.sg_commit.specs.declared.CommitKind.{CommitKind}
 use Rattle.sg_commit.specs.declared.CommitKind.TheVariants.{Q, L, R}
 use Rattle.sg_commit.specs.declared.Opening.{Opening}
-
--- fronts of one length, and what is behind them, are the same where the wholes are
-parts_same : (xs ys a b : List ℕ) → length xs ≡ length ys → xs ++ a ≡ ys ++ b → (xs ≡ ys) × (a ≡ b)
-parts_same [] [] a b long same = (refl, same)
-parts_same [] (y ∷ ys) a b long same = absurd (omega arith)
-parts_same (x ∷ xs) [] a b long same = absurd (omega arith)
-parts_same (x ∷ xs) (y ∷ ys) a b long same =
-    let first : x ≡ y = ap (λ l. get_or l 0 0) same in
-    let rest = parts_same xs ys a b (omega arith) (ap (drop 1) same) in
-    ((λ i. first i ∷ rest.0 i), rest.1)
 
 letters_differ : (kind other_kind : CommitKind) → letter_of kind ≡ letter_of other_kind → kind ≡ other_kind
 letters_differ Q Q same = refl
@@ -50,10 +41,10 @@ inputs_have_29_bytes kind race instance place opening fits =
 pub inputs_are_one_to_one : InputsAreOneToOne
 inputs_are_one_to_one kind other_kind race other_race instance other_instance place other_place opening other_opening fits other_fits same =
     let letter : letter_of kind ≡ letter_of other_kind = ap (λ l. get_or l 0 0) same in
-    let from_race = parts_same (to_be_bytes w16 race) (to_be_bytes w16 other_race) _ _ refl (ap (drop 1) same) in
-    let from_instance = parts_same (to_be_bytes w16 instance) (to_be_bytes w16 other_instance) _ _ refl from_race.1 in
-    let from_place = parts_same (to_be_bytes w32 place) (to_be_bytes w32 other_place) _ _ refl from_instance.1 in
-    let from_key = parts_same opening.key.0 other_opening.key.0 _ _ (fits.key_fits ∙ sym other_fits.key_fits) from_place.1 in (
+    let from_race = append_parts (to_be_bytes w16 race) (to_be_bytes w16 other_race) _ _ refl (ap (drop 1) same) in
+    let from_instance = append_parts (to_be_bytes w16 instance) (to_be_bytes w16 other_instance) _ _ refl from_race.1 in
+    let from_place = append_parts (to_be_bytes w32 place) (to_be_bytes w32 other_place) _ _ refl from_instance.1 in
+    let from_key = append_parts opening.key.0 other_opening.key.0 _ _ (fits.key_fits ∙ sym other_fits.key_fits) from_place.1 in (
       letters_differ kind other_kind letter,
       numbers_same_2 race other_race fits.race_fits other_fits.race_fits from_race.0,
       numbers_same_2 instance other_instance fits.instance_fits other_fits.instance_fits from_instance.0,

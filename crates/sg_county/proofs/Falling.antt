@@ -2,7 +2,7 @@
 use Rattle.std.proofs.Common.{◌≡◌, ℕ, ◌+◌, ◌-◌, ◌*◌, ◌<◌, ◌≤◌, ◌==◌, Bool, true, false, [], length, Option, sym, subst, ap, ◌∙◌, arith}
 use Rattle.std.specs.Prelude.{if◌then◌else◌}
 use Rattle.std.proofs.lemmas.Option.{same_Some}
-use Rattle.sg_grammar.proofs.Claims.{is_none-None}
+use Rattle.sg_lists.proofs.Options.{is_none-true}
 use Rattle.sg_grammar.proofs.Counting.{lines_left-most}
 use Rattle.sg_grammar.proofs.Walking.{walk-empty}
 use Rattle.sg_grammar.specs.Left.{lines_left}
@@ -23,7 +23,7 @@ use Rattle.sg_county.specs.declared.verdict.CountyVerdict.TheVariants.{Parts}
 pub fresh_left : (pass : Pass) → HasTaken pass [] → is_fine_so_far pass ≡ true → lines_left_in pass ≤ 1200000
 fresh_left pass stands fine =
     let kept : PassKept pass.expect pass.sealer pass.ledger pass.number [] =
-    subst (λ (b : Option Kind). PassJudges b pass.expect pass.sealer pass.ledger pass.number []) (is_none-None pass.broken fine) stands.judges in
+    subst (λ (b : Option Kind). PassJudges b pass.expect pass.sealer pass.ledger pass.number []) (is_none-true pass.broken fine) stands.judges in
     let same : record { posted = []; next = start } ≡ record { posted = kept.stands.posted; next = pass.expect } =
     same_Some (record { posted = []; next = start }) (record { posted = kept.stands.posted; next = pass.expect }) (sym (walk-empty start) ∙ kept.stands.walks) in
     subst (λ (next : Next). lines_left next ≤ 1200000) (ap (λ (w : Walked). w.next) same) lines_left-most

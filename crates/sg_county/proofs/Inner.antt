@@ -1,16 +1,20 @@
 -- A line inside a part.
-use Rattle.std.proofs.Common.{◌≡◌, ℕ, ◌+◌, true, false, not, List, [], ◌∷◌, ◌++◌, length, Option, Some, None, refl, sym, subst, ap, ◌∙◌}
+use Rattle.std.proofs.Common.{◌≡◌, ℕ, ◌+◌, true, false, not, List, [], ◌∷◌, ◌++◌, length, map, Option, Some, None, refl, sym, subst, ap, ◌∙◌}
 use Rattle.std.proofs.Math.Bool.{not-not}
-use Rattle.std.proofs.lemmas.List.{same_from_push}
 use Rattle.std.specs.Option.{is_none}
-use Rattle.sg_check.proofs.OneMore.{verdict-more}
-use Rattle.sg_check.specs.Verdict.{AreFine, IsFirstBad}
+use Rattle.sg_check.proofs.Fine.{none_bad_are_fine}
+use Rattle.sg_check.proofs.OneMore.{fine-all, verdict-more}
+use Rattle.sg_fronts.proofs.ByRecords.{begun-least, least-good, verdicts_say}
+use Rattle.sg_check.specs.declared.judged.Judged.TheVariants as judged
+use Rattle.sg_record.specs.Lines.{texts_in}
+use Rattle.sg_check.specs.Verdict.{IsFirstBad}
 use Rattle.sg_check.specs.declared.judged.Kind.{Kind}
 use Rattle.sg_county.proofs.Going.{open_kept, open_settled}
 use Rattle.sg_county.proofs.PartLists.{parts_inner, parts_more, parts_some}
-use Rattle.sg_county.proofs.Settling.{settles_lines}
+use Rattle.sg_county.proofs.Settling.{nothing_at, settles_lines, unsettled_at}
 use Rattle.sg_county.specs.County.{is_next}
-use Rattle.sg_county.specs.Tally.{AreKept, AreParts, IsSettled, Judges, Says, StandsFor, is_more, is_open}
+use Rattle.sg_county.specs.Tally.{AreKept, IsSettled, Judges, Says, StandsFor, is_more, is_open}
+use Rattle.sg_county.specs.inside.Keeping.{AreParts}
 use Rattle.sg_county.specs.declared.tally.Tally.{Tally}
 use Rattle.sg_county.specs.declared.verdict.CountyVerdict.{CountyVerdict}
 use Rattle.sg_county.specs.declared.verdict.CountyVerdict.TheVariants.{No}
@@ -37,7 +41,7 @@ module _ (tally : Tally) (pass : Pass) (step : Step) (line : List ℕ) (inner : 
 
   are_parts : AreParts (lines ++ line ∷ []) old.before (old.last ++ line ∷ [])
   are_parts = record {
-    parts = parts_inner lines line old.before old.last inner old.are_parts.parts;
+    parts = parts_inner lines line (map texts_in old.before) old.last inner old.are_parts.parts;
     count = old.are_parts.count;
     few = old.are_parts.few;
   }
@@ -66,17 +70,19 @@ module _ (tally : Tally) (pass : Pass) (step : Step) (line : List ℕ) (inner : 
     stays = λ later.
         let some = parts_some later in
         settles_lines ((lines ++ line ∷ []) ++ later) old.before ((old.last ++ line ∷ []) ++ some.0) some.1 (No (length old.before + 1) number k)
-        (parts_more (lines ++ line ∷ []) later old.before (old.last ++ line ∷ []) some.0 some.1 are_parts.parts some.2) old.are_parts.count
-        (record { few = old.are_parts.few; number_is = refl; bad = verdict-more (old.last ++ line ∷ []) some.0 number k bad });
+        (parts_more (lines ++ line ∷ []) later (map texts_in old.before) (old.last ++ line ∷ []) some.0 some.1 are_parts.parts some.2) old.are_parts.count
+        (record { few = old.are_parts.few; number_is = refl }, (verdicts_say ((old.last ++ line ∷ []) ++ some.0) (judged.No number k)).0 (verdict-more (old.last ++ line ∷ []) some.0 number k bad));
     settles = λ unsettled.
-        let same = same_from_push unsettled.before old.before unsettled.last (old.last ++ line ∷ []) (sym unsettled.are_parts.parts ∙ are_parts.parts) in
-        let fine : AreFine (old.last ++ line ∷ []) = subst (λ (l : List (List ℕ)). AreFine l) same.1 unsettled.fine in
+        let good = (nothing_at (lines ++ line ∷ []) old.before (old.last ++ line ∷ []) [] are_parts.parts old.are_parts.count unsettled).1 in
+        let fine = none_bad_are_fine (old.last ++ line ∷ []) (begun-least (old.last ++ line ∷ []) good.posted good.begins ∙ good.none_bad) in
         let both : None ≡ Some k = sym (fine number) ∙ bad.broken in
         let none : ⊥ = cc in none;
   }
 
   said : (s : Step) → step ≡ s → Says s (lines ++ line ∷ [])
-  said More e = record { before = old.before; last = old.last ++ line ∷ []; are_parts = are_parts; fine = subst (λ (s : Step). SaysBehind s (old.last ++ line ∷ [])) e (says old.last old.stands) }
+  said More e =
+      let fine = subst (λ (s : Step). SaysBehind s (old.last ++ line ∷ [])) e (says old.last old.stands) in
+      unsettled_at (lines ++ line ∷ []) old.before (old.last ++ line ∷ []) are_parts (old.are_parts.few, least-good (old.last ++ line ∷ []) (fine-all (old.last ++ line ∷ []) fine))
   said Ready e = subst (λ (s : Step). SaysBehind s (old.last ++ line ∷ [])) e (says old.last old.stands)
   said Over e =
       let known = bad_known pass (old.last ++ line ∷ []) (adds old.last old.stands) (open_still ∙ ap is_fine e) in

@@ -8,7 +8,7 @@ mod Lines
 mod Noting
 mod One
 mod PartLists
-mod SealTests
+mod PartRecords
 mod Settling
 mod Small
 mod SumLists

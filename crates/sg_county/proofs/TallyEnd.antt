@@ -1,9 +1,11 @@
 -- The end of a tally.
-use Rattle.std.proofs.Common.{◌≡◌, ℕ, ◌<◌, Bool, true, false, List, [], ◌∷◌, ◌++◌, length, Option, Some, None, subst, ap, ◌∙◌, append-nil}
+use Rattle.std.proofs.Common.{◌≡◌, ℕ, ◌<◌, Bool, true, false, List, [], ◌∷◌, ◌++◌, length, map, Option, Some, None, subst, ap, ◌∙◌, append-nil}
 use Rattle.std.specs.Prelude.{if◌then◌else◌}
+use Rattle.sg_record.specs.Lines.{texts_in}
+use Rattle.sg_record.specs.declared.record.Record.{Record}
 use Rattle.sg_county.proofs.Going.{open_settled}
 use Rattle.sg_county.proofs.LastEnd.{few_seals}
-use Rattle.sg_county.proofs.PartLists.{Records, parts_more, parts_some}
+use Rattle.sg_county.proofs.PartLists.{AllParts, parts_more, parts_some}
 use Rattle.sg_county.proofs.Settling.{lines_settled}
 use Rattle.sg_county.specs.County.{IsCounty, IsFirstSettled, is_next, most_parts, onto_part, parts_of}
 use Rattle.sg_county.specs.Tally.{AreKept, IsOver, IsRefusal, Judges, StandsFor, StandsForSome, is_open}
@@ -42,7 +44,7 @@ some_last tally e some =
 
 -- and its end is the answer
 pub last_answers : (tally : Tally) (lines : List (List ℕ)) (verdict : CountyVerdict) → tally.settled ≡ None → StandsFor tally lines
-    → ((before : Records) (last : List (List ℕ)) → IsLast tally.pass tally.kept before last → IsFirstSettled before (last ∷ []) verdict) → IsCounty lines verdict
+    → ((before : List Record) (last : List (List ℕ)) → IsLast tally.pass tally.kept before last → IsFirstSettled before (last ∷ []) verdict) → IsCounty lines verdict
 last_answers tally lines verdict e stands ends =
     let kept = kept_none tally lines e stands in
     lines_settled lines kept.before kept.last [] verdict kept.are_parts.parts kept.are_parts.count (ends kept.before kept.last (last_is tally lines kept))
@@ -53,12 +55,12 @@ broken_pass tally e some over = (kept_none tally some.0 e some.1).fine ∙ over
 
 -- and its answer stays
 pub last_stays : (tally : Tally) (lines more : List (List ℕ)) (verdict : CountyVerdict) → tally.settled ≡ None → StandsFor tally lines → is_open tally ≡ false
-    → (is_fine_so_far tally.pass ≡ false → (before rest : Records) (last more : List (List ℕ)) → IsLast tally.pass tally.kept before last → IsFirstSettled before ((last ++ more) ∷ rest) verdict)
+    → (is_fine_so_far tally.pass ≡ false → (before : List Record) (rest : AllParts) (last more : List (List ℕ)) → IsLast tally.pass tally.kept before last → IsFirstSettled before ((last ++ more) ∷ rest) verdict)
     → IsCounty (lines ++ more) verdict
 last_stays tally lines more verdict e stands over stays =
     let kept = kept_none tally lines e stands in
     let some = parts_some more in
-    lines_settled (lines ++ more) kept.before (kept.last ++ some.0) some.1 verdict (parts_more lines more kept.before kept.last some.0 some.1 kept.are_parts.parts some.2) kept.are_parts.count
+    lines_settled (lines ++ more) kept.before (kept.last ++ some.0) some.1 verdict (parts_more lines more (map texts_in kept.before) kept.last some.0 some.1 kept.are_parts.parts some.2) kept.are_parts.count
     (stays (kept.fine ∙ over) kept.before some.1 kept.last some.0 (last_is tally lines kept))
 
 -- WHERE THE NEXT BYTES ARE NO LINE
@@ -73,11 +75,11 @@ pub open_pass : (tally : Tally) → is_open tally ≡ true → StandsForSome tal
 open_pass tally still some = (kept_none tally some.0 (open_settled tally some.0 still some.1) some.1).fine ∙ still
 
 pub no_line_answers : (tally : Tally) (verdict : CountyVerdict) → is_open tally ≡ true → (lines more : List (List ℕ)) (text : List ℕ) → StandsFor tally lines → is_next text ≡ false
-    → ((before rest : Records) (last more : List (List ℕ)) → IsLast tally.pass tally.kept before last → IsFirstSettled before ((last ++ text ∷ more) ∷ rest) verdict)
+    → ((before : List Record) (rest : AllParts) (last more : List (List ℕ)) → IsLast tally.pass tally.kept before last → IsFirstSettled before ((last ++ text ∷ more) ∷ rest) verdict)
     → IsCounty (lines ++ text ∷ more) verdict
 no_line_answers tally verdict still lines more text stands inner ends =
     let kept = kept_none tally lines (open_settled tally lines still stands) stands in
     let some = parts_some more in
-    let next : parts_of (text ∷ more) ≡ (text ∷ some.0) ∷ some.1 = ap (λ (b : Bool). (if b then [] ∷ parts_of more else onto_part text (parts_of more))) inner ∙ ap (λ (p : Records). onto_part text p) some.2 in
-    lines_settled (lines ++ text ∷ more) kept.before (kept.last ++ text ∷ some.0) some.1 verdict (parts_more lines (text ∷ more) kept.before kept.last (text ∷ some.0) some.1 kept.are_parts.parts next) kept.are_parts.count
+    let next : parts_of (text ∷ more) ≡ (text ∷ some.0) ∷ some.1 = ap (λ (b : Bool). (if b then [] ∷ parts_of more else onto_part text (parts_of more))) inner ∙ ap (λ (p : AllParts). onto_part text p) some.2 in
+    lines_settled (lines ++ text ∷ more) kept.before (kept.last ++ text ∷ some.0) some.1 verdict (parts_more lines (text ∷ more) (map texts_in kept.before) kept.last (text ∷ some.0) some.1 kept.are_parts.parts next) kept.are_parts.count
     (ends kept.before some.1 kept.last some.0 (last_is tally lines kept))

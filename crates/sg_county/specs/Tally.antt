@@ -1,29 +1,28 @@
 -- What a tally stands for, and what it says of the lines so far.
 use Rattle.std.specs.Prelude.{◌≡◌, ℕ, ◌+◌, ◌-◌, ◌*◌, ◌<◌, Bool, true, false, not, List, [], ◌∷◌, ◌++◌, length, Option, Some, None}
-use Rattle.sg_check.specs.Verdict.{AreFine}
+use Rattle.sg_record.specs.declared.record.Record.{Record}
+use Rattle.sg_fronts.specs.ByRecords.{IsGoodFront}
 use Rattle.sg_judge.specs.Pass.{StandsFor as HasTaken, is_open as is_fine_so_far, left_in as lines_left_in}
 use Rattle.sg_judge.specs.declared.pass.Step.{Step}
 use Rattle.sg_judge.specs.declared.pass.Step.TheVariants.{More, Over, Ready}
-use Rattle.sg_county.specs.County.{AllCount, IsCounty, most_parts, parts_of}
-use Rattle.sg_county.specs.inside.Keeping.{Keeps}
+use Rattle.sg_county.specs.County.{Counts, IsCounty, most_parts, parts_of}
+use Rattle.sg_county.specs.inside.Keeping.{AreParts, Keeps}
 use Rattle.sg_county.specs.declared.verdict.CountyVerdict.{CountyVerdict}
 use Rattle.sg_county.specs.declared.verdict.CountyVerdict.TheVariants.{Yes}
 use Rattle.sg_county.specs.declared.tally.Tally.{Tally}
 
 -- WHAT IS SETTLED
 
--- the lines have this last part, behind parts that settle nothing, and it is none too many
-pub record AreParts (lines : List (List ℕ)) (before : List (List (List ℕ))) (last : List (List ℕ)) : Type 0 where
-  pub parts : parts_of lines ≡ before ++ last ∷ []
-  pub count : AllCount [] before
-  pub few : length before < most_parts
+-- the parts settle nothing, behind the records of those before them: each but the last counts; the last is none too many, and a
+-- record begins with its lines, none of which is bad
+abbrev pub SettleNothing : List Record → List (List (List ℕ)) → Type 0
+SettleNothing before [] = ⊥
+SettleNothing before (part ∷ []) = (length before < most_parts) × IsGoodFront part
+SettleNothing before (part ∷ next ∷ parts) = (posted : Record) × Counts before part posted × SettleNothing (before ++ posted ∷ []) (next ∷ parts)
 
--- the lines settle nothing: all parts before the last count, it is none too many, and its lines are fine
+-- the lines settle nothing
 pub record IsUnsettled (lines : List (List ℕ)) : Type 0 where
-  pub before : List (List (List ℕ))
-  pub last : List (List ℕ)
-  pub are_parts : AreParts lines before last
-  pub fine : AreFine last
+  pub nothing : SettleNothing [] (parts_of lines)
 
 -- the answer is not yes
 abbrev pub IsRefusal : CountyVerdict → Type 0
@@ -40,7 +39,7 @@ pub record IsSettled (lines : List (List ℕ)) (verdict : CountyVerdict) : Type 
 
 -- the last part is in the pass, and this is kept of those before it
 pub record AreKept (tally : Tally) (lines : List (List ℕ)) : Type 0 where
-  pub before : List (List (List ℕ))
+  pub before : List Record
   pub last : List (List ℕ)
   pub are_parts : AreParts lines before last
   pub stands : HasTaken tally.pass last

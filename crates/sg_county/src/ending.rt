@@ -1,6 +1,8 @@
 //! A part that ends: what is found of it, and what the table of answers says of that.
 ghost use Rattle.std.specs.Prelude.{◌≡◌, ◌+◌, ◌<◌, ℕ, List, length, Option};
-ghost use Rattle.sg_check.specs.Verdict.{IsNo, IsVerdict};
+ghost use Rattle.sg_record.specs.declared.record.Record.{Record};
+ghost use Rattle.sg_check.specs.Verdict.{IsNo};
+ghost use Rattle.sg_fronts.specs.ByRecords.{Says};
 ghost use Rattle.sg_county.specs.County.{Settles, most_parts};
 ghost use Rattle.sg_county.specs.Tally.{IsRefusal};
 ghost use Rattle.sg_county.specs.inside.Keeping.{close_good, close_of};
@@ -62,7 +64,7 @@ fn good_end(number: u32, totals: Items<Total>, same: bool, other: Option<u32>) -
 /// What a bad part of this number settles.
 pub(crate) fn bad_part(number: u32, judged: Judged) -> CountyVerdict
     requires { IsNo judged }
-    ensures settles { (before : List (List (List ℕ))) (part : List (List ℕ)) → length before < most_parts → number ≡ length before + 1 → IsVerdict part judged → Settles before part result }
+    ensures settles { (before : List Record) (part : List (List ℕ)) → length before < most_parts → number ≡ length before + 1 → Says judged part → Settles before part result }
     ensures refuses { IsRefusal result }
 {
     match judged {

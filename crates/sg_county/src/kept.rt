@@ -1,9 +1,11 @@
 //! What a tally keeps of the parts that have ended.
 ghost use Rattle.std.specs.Prelude.{◌≡◌, ◌++◌, ◌+◌, ◌<◌, ◌==◌, ℕ, IfOk, List, [], ◌∷◌, length, None, OnErr, OnOk, Option, Some, true, false};
 ghost use Rattle.std.specs.Option.{option_map_or};
+ghost use Rattle.sg_record.specs.Laws.{AreLinesOf};
+ghost use Rattle.sg_record.specs.declared.record.Record.{Record};
 ghost use Rattle.sg_judge.specs.Pass.{StandsFor as HasTaken, is_behind_plan, is_open as is_fine_so_far};
-ghost use Rattle.sg_county.specs.County.{most_parts, races_of};
-ghost use Rattle.sg_county.specs.inside.Keeping.{FitsBehind, IsFound, IsNoted, Keeps, more_sums};
+ghost use Rattle.sg_county.specs.County.{most_parts};
+ghost use Rattle.sg_county.specs.inside.Keeping.{FitsBehind, IsFound, IsNoted, Keeps, more_sums, races_of};
 
 use crate::ending::Found;
 use crate::seals::first_equal_seal;
@@ -50,7 +52,7 @@ impl Kept {
     pub(crate) fn find(&self, pass: &Pass) -> Found
         requires { length self.now.seals < most_parts }
         ensures number { result.number ≡ length self.now.seals + 1 }
-        ensures is { is_fine_so_far pass.now ≡ true → (before : List (List (List ℕ))) (part : List (List ℕ)) → Keeps self.now before → HasTaken pass.now part → IsFound result before part }
+        ensures is { is_fine_so_far pass.now ≡ true → (before : List Record) (part : List (List ℕ)) (posted : Record) → Keeps self.now before → HasTaken pass.now part → AreLinesOf part posted → IsFound result before posted }
     {
         let number = self.number();
         Found {
@@ -64,8 +66,9 @@ impl Kept {
     /// what is found of it. After `NoMemory` all is as before.
     pub(crate) fn note_part(&mut self, alloc: Global, pass: &Pass) -> Result<Found, NoMemory>
         requires { length self.old.seals < most_parts }
-        ensures found { is_fine_so_far pass.now ≡ true → IfOk result (λ found. (before : List (List (List ℕ))) (part : List (List ℕ)) → Keeps self.old before → HasTaken pass.now part → IsFound found before part) }
-        ensures noted { is_fine_so_far pass.now ≡ true → OnOk result ((before : List (List (List ℕ))) (part : List (List ℕ)) → Keeps self.old before → HasTaken pass.now part → IsNoted self.old self.new before part) }
+        ensures number { IfOk result (λ found. found.number ≡ length self.old.seals + 1) }
+        ensures found { is_fine_so_far pass.now ≡ true → IfOk result (λ found. (before : List Record) (part : List (List ℕ)) (posted : Record) → Keeps self.old before → HasTaken pass.now part → AreLinesOf part posted → IsFound found before posted) }
+        ensures noted { is_fine_so_far pass.now ≡ true → OnOk result ((before : List Record) (part : List (List ℕ)) (posted : Record) → Keeps self.old before → HasTaken pass.now part → AreLinesOf part posted → IsNoted self.old self.new before posted) }
         ensures count { OnOk result (length self.new.seals ≡ length self.old.seals + 1) }
         ensures err { OnErr result (self.new ≡ self.old) }
     {

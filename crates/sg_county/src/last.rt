@@ -1,5 +1,6 @@
 //! The end of the last part.
 ghost use Rattle.std.specs.Prelude.{◌≡◌, ◌++◌, ◌∷◌, [], ℕ, List, None, false, true};
+ghost use Rattle.sg_record.specs.declared.record.Record.{Record};
 ghost use Rattle.sg_county.specs.County.{IsFirstSettled};
 ghost use Rattle.sg_county.specs.Tally.{IsRefusal};
 ghost use Rattle.sg_county.specs.inside.Ending.{IsLast, IsSomeLast, answer_of};
@@ -18,8 +19,8 @@ use sg_plan::Items;
 /// The answer where the last part ends, behind parts of which this is kept.
 pub(crate) fn end_last(pass: Pass, kept: Kept) -> CountyVerdict
     requires { IsSomeLast pass kept }
-    ensures all { (before : List (List (List ℕ))) (last : List (List ℕ)) → IsLast pass kept before last → IsFirstSettled before (last ∷ []) result }
-    ensures over { is_fine_so_far pass ≡ false → (before rest : List (List (List ℕ))) (last more : List (List ℕ)) → IsLast pass kept before last → IsFirstSettled before ((last ++ more) ∷ rest) result }
+    ensures all { (before : List Record) (last : List (List ℕ)) → IsLast pass kept before last → IsFirstSettled before (last ∷ []) result }
+    ensures over { is_fine_so_far pass ≡ false → (before : List Record) (rest : List (List (List ℕ))) (last more : List (List ℕ)) → IsLast pass kept before last → IsFirstSettled before ((last ++ more) ∷ rest) result }
     ensures refuses { is_fine_so_far pass ≡ false → IsRefusal result }
 {
     let found = kept.find(&pass);
@@ -41,7 +42,7 @@ fn answer_at(number: u32, kept: Kept, end: Close) -> CountyVerdict
 pub(crate) fn end_last_at_no_line(pass: Pass, kept: Kept) -> CountyVerdict
     requires last { IsSomeLast pass kept }
     requires open { is_fine_so_far pass ≡ true }
-    ensures all { (before rest : List (List (List ℕ))) (last more : List (List ℕ)) (text : List ℕ) → IsLast pass kept before last → ((version : ℕ) → line_of version text ≡ None) → IsFirstSettled before ((last ++ text ∷ more) ∷ rest) result }
+    ensures all { (before : List Record) (rest : List (List (List ℕ))) (last more : List (List ℕ)) (text : List ℕ) → IsLast pass kept before last → ((version : ℕ) → line_of version text ≡ None) → IsFirstSettled before ((last ++ text ∷ more) ∷ rest) result }
     ensures refuses { IsRefusal result }
 {
     bad_part(kept.number(), pass.end_at_no_line())

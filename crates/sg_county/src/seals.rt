@@ -29,7 +29,7 @@ fn is_same_seal(one: Option<Digest>, other: Option<Digest>) -> bool
 }
 
 /// The other is there, and is this digest.
-#[tactic(auto, using(crate::proofs::SealTests::same))]
+#[tactic(auto, using(sg_lists::proofs::Lists::same_bytes_eq))]
 fn is_same_as(one: &Digest, other: Option<Digest>) -> bool
     ensures { result ≡ same_seal (Some one.now) other }
 {

@@ -1,5 +1,6 @@
 //! The answer on a county in one pass: what is kept of the lines so far, and what is said of them.
 ghost use Rattle.std.specs.Prelude.{◌≡◌, ◌<◌, ◌==◌, if◌then◌else◌, ℕ, List, [], ◌∷◌, ◌++◌, not, true, false, IfOk, None, Ok, OnErr, OnOk};
+ghost use Rattle.sg_record.specs.declared.record.Record.{Record};
 ghost use Rattle.sg_check.specs.Verdict.{IsVerdict};
 ghost use Rattle.sg_county.specs.County.{IsCounty, IsFirstSettled, is_next, most_parts};
 ghost use Rattle.sg_county.specs.Tally.{IsRefusal, Says, StandsFor, StandsForSome, is_more, is_open, left_in};
@@ -171,8 +172,8 @@ impl Tally {
 /// The answer where the last part ends, and none before it settled one.
 fn end_open(tally: Tally) -> CountyVerdict
     requires { IsSomeLast tally.pass tally.kept }
-    ensures all { (before : List (List (List ℕ))) (last : List (List ℕ)) → IsLast tally.pass tally.kept before last → IsFirstSettled before (last ∷ []) result }
-    ensures over { is_fine_so_far tally.pass ≡ false → (before rest : List (List (List ℕ))) (last more : List (List ℕ)) → IsLast tally.pass tally.kept before last → IsFirstSettled before ((last ++ more) ∷ rest) result }
+    ensures all { (before : List Record) (last : List (List ℕ)) → IsLast tally.pass tally.kept before last → IsFirstSettled before (last ∷ []) result }
+    ensures over { is_fine_so_far tally.pass ≡ false → (before : List Record) (rest : List (List (List ℕ))) (last more : List (List ℕ)) → IsLast tally.pass tally.kept before last → IsFirstSettled before ((last ++ more) ∷ rest) result }
     ensures refuses { is_fine_so_far tally.pass ≡ false → IsRefusal result }
 {
     let Tally { pass, kept, .. } = tally;

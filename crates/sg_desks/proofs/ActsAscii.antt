@@ -1,21 +1,18 @@
 -- The text of each act of the version is ASCII.
-use Rattle.std.proofs.Common.{◌≡◌, ℕ, ◌/◌, ◌%◌, ◌<◌, ◌≤◌, nat_le, nat_lt, Bool, true, false, ◌&&◌, ◌||◌, List, [], ◌∷◌, All, map, codes, Result, Ok, Err, refl, sym, subst, arith}
+use Rattle.std.proofs.Common.{◌≡◌, ℕ, ◌/◌, ◌%◌, ◌<◌, nat_lt, true, List, [], ◌∷◌, All, map, codes, Result, Ok, Err, refl, sym, subst, arith}
 use Rattle.std.specs.Prelude.{IfOk}
-use Rattle.std.specs.List.{join_with_byte, list_all}
-use Rattle.std.proofs.lemmas.Bool.{agree_below_at, and_parts, leb-true, ltb-true}
-use Rattle.std.proofs.lemmas.List.Elements.{All-append, All-cons, All-head, All-nil, All-tail, All-weaker}
-use Rattle.std.proofs.lemmas.List.Sums.{AllPass-from_list_all}
+use Rattle.std.specs.List.{join_with_byte}
+use Rattle.std.proofs.lemmas.Bool.{agree_below_at, ltb-true}
+use Rattle.std.proofs.lemmas.List.Elements.{All-append, All-cons, All-head, All-nil, All-tail}
 use Rattle.sg_plan.specs.declared.memory.NoMemory.{NoMemory}
 use Rattle.sg_plan.specs.declared.plan.Draw.{Draw}
 use Rattle.sg_plan.specs.declared.plan.Draw.TheVariants as draw
 use Rattle.sg_plan.specs.declared.plan.Mark.{Mark}
-use Rattle.sg_lines.specs.Words.{code_word, decimal, encode_lower, sign_of}
-use Rattle.sg_lines.proofs.Numbers.{decimal-digits_only}
+use Rattle.sg_lines.specs.Words.{code_word, decimal, sign_of}
 use Rattle.sg_lines.proofs.Signs.{by_version, code_word-digits, code_word-signs}
-use Rattle.sg_forms.specs.Reading.{is_hex_sign}
-use Rattle.sg_forms.specs.Spelling.{IsCode, IsNumber}
-use Rattle.sg_forms.proofs.WordKinds.{hex_signs}
+use Rattle.sg_forms.specs.Spelling.{IsCode}
 use Rattle.sg_keeper.specs.Rows.{IsAscii}
+use Rattle.sg_keeper.proofs.SetupAscii.{AreAscii, hex_ascii, literal_ascii, number_ascii}
 use Rattle.sg_acts.specs.declared.asks.Act.{Act}
 use Rattle.sg_acts.specs.declared.asks.Act.TheVariants as act
 use Rattle.sg_desks.specs.Laws.{TextsAreAscii}
@@ -24,30 +21,9 @@ use Rattle.sg_desks.specs.ActTexts.{HasCodes, HasNumbers, IsDraw, IsMark, act_te
 abbrev A : ℕ → Type 0
 A byte = byte < 128
 
--- a literal
-literal_ascii : (word : List ℕ) → list_all (λ byte. nat_lt byte 128) word ≡ true → IsAscii word
-literal_ascii word e = All-weaker (λ byte. nat_lt byte 128 ≡ true) A (λ byte small. ltb-true byte 128 small) word (AllPass-from_list_all (λ byte. nat_lt byte 128) word e)
-
-number_ascii : (number : ℕ) → IsNumber number → IsAscii (decimal number)
-number_ascii number fits = All-weaker (λ byte. (48 ≤ byte) × (byte ≤ 57)) A (λ byte digit. omega arith) (decimal number) (decimal-digits_only number fits)
-
 mark_ascii : (mark : Mark) → IsMark mark → IsAscii (mark_word mark)
 mark_ascii mark fits =
     All-append A (decimal mark.race) (58 ∷ decimal mark.candidate) (number_ascii mark.race fits.0) (All-cons A 58 (decimal mark.candidate) (omega arith) (number_ascii mark.candidate fits.1))
-
-sign_ascii_at : (byte : ℕ) (digit letter : Bool) → (digit ≡ true → byte ≤ 57) → (letter ≡ true → byte ≤ 102) → (digit || letter) ≡ true → byte < 128
-sign_ascii_at byte true letter low high e = omega (arith, low refl)
-sign_ascii_at byte false true low high e = omega (arith, high refl)
-sign_ascii_at byte false false low high e = cc
-
-sign_ascii : (byte : ℕ) → is_hex_sign byte ≡ true → byte < 128
-sign_ascii byte e =
-    sign_ascii_at byte (nat_le 48 byte && nat_le byte 57) (nat_le 97 byte && nat_le byte 102)
-    (λ digit. leb-true byte 57 (and_parts (nat_le 48 byte) (nat_le byte 57) digit).1)
-    (λ letter. leb-true byte 102 (and_parts (nat_le 97 byte) (nat_le byte 102) letter).1) e
-
-hex_ascii : (bytes : List ℕ) → All (λ byte. byte < 256) bytes → IsAscii (encode_lower bytes)
-hex_ascii bytes fit = All-weaker (λ byte. is_hex_sign byte ≡ true) A sign_ascii (encode_lower bytes) (AllPass-from_list_all is_hex_sign (encode_lower bytes) (hex_signs bytes fit))
 
 three_ascii : (a b c : ℕ) → A a → A b → A c → IsAscii (a ∷ b ∷ c ∷ [])
 three_ascii a b c first second third = All-cons A a (b ∷ c ∷ []) first (All-cons A b (c ∷ []) second (All-cons A c [] third (All-nil A)))
@@ -64,10 +40,6 @@ code_ascii version code fits =
     (three_ascii _ _ _ (sign_of_ascii (code / 32 / 32) (omega arith)) (sign_of_ascii (code / 32 % 32) (omega arith)) (sign_of_ascii (code % 32) (omega arith))))
 
 -- WORDS
-
-abbrev AreAscii : List (List ℕ) → Type 0
-AreAscii [] = Unit {0}
-AreAscii (word ∷ words) = IsAscii word × AreAscii words
 
 each_ascii : {B : Type 0} (spell : B → List ℕ) (Fits : B → Type 0) → ((value : B) → Fits value → IsAscii (spell value)) → (values : List B) → All Fits values → AreAscii (map spell values)
 each_ascii spell Fits ascii [] fit = tt

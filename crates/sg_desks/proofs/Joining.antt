@@ -1,10 +1,9 @@
 -- Words and digits that are written one by one.
-use Rattle.std.proofs.Common.{◌≡◌, ◌⊎◌, inl, inr, ℕ, ◌<◌, ◌==◌, Bool, true, false, cond, List, [], ◌∷◌, ◌++◌, All, length, drop, take, map, slice_get, Some, refl, sym, ap, ◌∙◌, append-nil, append_assoc, ◌+◌, ◌≤◌, arith}
+use Rattle.std.proofs.Common.{◌≡◌, ◌⊎◌, inl, inr, ℕ, ◌<◌, ◌==◌, Bool, true, false, cond, List, [], ◌∷◌, ◌++◌, All, length, drop, take, map, refl, sym, ap, ◌∙◌, append-nil, append_assoc, ◌+◌, ◌≤◌, arith}
 use Rattle.std.specs.List.{join_with_byte}
 use Rattle.std.proofs.lemmas.Bool.{eqb-true}
 use Rattle.std.proofs.lemmas.List.{drop_all, take_all}
 use Rattle.std.proofs.lemmas.List.Elements.{All-append, All-cons, All-nil}
-use Rattle.std.proofs.lemmas.Option.{get_or_from_slice_get, slice_get_within}
 use Rattle.hex.specs.Hex.{encode_with}
 use Rattle.sg_plan.specs.declared.plan.Mark.{Mark}
 use Rattle.sg_lines.specs.Words.{code_word, encode_lower}
@@ -23,10 +22,6 @@ version_at version code false false is_one is_two fits = absurd (omega (arith, f
 
 pub version_of_code : (version code : ℕ) → IsCode version code → (version ≡ 1) ⊎ (version ≡ 2)
 version_of_code version code fits = version_at version code (version == 1) (version == 2) refl refl fits
-
--- what holds of each item holds of the one at this place
-pub item_of : {A : Type 0} (P : A → Type 0) (xs : List A) (at : ℕ) (x : A) → All P xs → slice_get xs at ≡ Some x → P x
-item_of P xs at x each e = rw (get_or_from_slice_get xs at x x e) at (each at x (slice_get_within xs at x e))
 
 -- digits of bytes, byte by byte
 pub encode_first : (byte : ℕ) (bytes : List ℕ) → encode_lower (byte ∷ bytes) ≡ encode_lower (byte ∷ []) ++ encode_lower bytes

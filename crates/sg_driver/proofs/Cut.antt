@@ -20,11 +20,6 @@ HasLine done line bytes = (others : List (List ℕ)) × (lines_of bytes ≡ done
 
 -- A LINE
 
--- one more line joined to others
-pub concat-push : (lines : List (List ℕ)) (line : List ℕ) → concat (lines ++ line ∷ []) ≡ concat lines ++ line
-concat-push [] line = append-nil line
-concat-push (x ∷ xs) line = ap (λ l. x ++ l) (concat-push xs line) ∙ sym (append_assoc x (concat xs) line)
-
 -- a line has a byte
 pub line-some : (line : List ℕ) → IsLine line → 0 < length line
 line-some [] is_line = absurd is_line

@@ -6,6 +6,7 @@ use Rattle.std.specs.Io.BufRead.{ends_with_byte}
 use Rattle.std.proofs.lemmas.Bool.{ne_eqb}
 use Rattle.std.proofs.lemmas.List.{take-append-le, take_all}
 use Rattle.std.proofs.lemmas.Slice.Eq.{bytes_eq-Decides}
+use Rattle.std.proofs.Math.Bool.{and-false}
 use Rattle.sg_outside.specs.TextLines.{HasNoFeed}
 use Rattle.sg_driver.specs.Judging.{IsNoLine}
 use Rattle.sg_forms.specs.Reading.{line_of}
@@ -15,10 +16,6 @@ use Rattle.sg_forms.proofs.LineLaws.{cut_lines, open_lines}
 no_feed : (text : List ℕ) → HasNoFeed text → list_any (λ byte. byte == 10) text ≡ false
 no_feed [] p = refl
 no_feed (x ∷ xs) p = ap (λ b. b || list_any (λ byte. byte == 10) xs) (ne_eqb x 10 p.0) ∙ no_feed xs p.1
-
-and-false : (b : Bool) → (b && false) ≡ false
-and-false true = refl
-and-false false = refl
 
 -- no byte of them is a line feed, wherever it stands
 no_feed-at : (text : List ℕ) (at : ℕ) → HasNoFeed text → at < length text → get_or text at 0 ≡ 10 → ⊥

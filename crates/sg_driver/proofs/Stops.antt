@@ -3,6 +3,7 @@ use Rattle.std.proofs.Common.{◌≡◌, ℕ, ◌+◌, ◌*◌, ◌<◌, ◌≤�
 use Rattle.std.specs.Prelude.{◌⊎◌, Option, Some}
 use Rattle.std.specs.List.{concat}
 use Rattle.std.specs.Io.KnownBytes.{Consumes, IsAtEnd}
+use Rattle.sg_lists.proofs.Lists.{concat-push}
 use Rattle.sg_outside.specs.Cutting.{Cutting, to_come}
 use Rattle.sg_outside.specs.Streams.{Seen}
 use Rattle.sg_outside.proofs.LineLemmas.{AreLines-append}
@@ -13,7 +14,7 @@ use Rattle.sg_driver.specs.Taken.{TookLines, TookOneMore, TookUnended}
 use Rattle.sg_driver.specs.inside.Stopping.{AtEnd, AtNoLine, AtSettled, Cuts, CutsEnd, CutsFault, CutsLine, CutsNoLine, IsFed, Stops}
 use Rattle.sg_driver.specs.declared.hearing.Stop.{Stop}
 use Rattle.sg_driver.specs.declared.hearing.Stop.TheVariants as stop
-use Rattle.sg_driver.proofs.Cut.{concat-push, end-cut, few-behind, few-of_all, line-cut, line-some, open-cut, some_then}
+use Rattle.sg_driver.proofs.Cut.{end-cut, few-behind, few-of_all, line-cut, line-some, open-cut, some_then}
 
 -- one more short line
 short-push : (done : List (List ℕ)) (line : List ℕ) → length (concat done) ≤ length done * 16384 → length line ≤ 16384 → length (concat (done ++ line ∷ [])) ≤ length (done ++ line ∷ []) * 16384

@@ -1,10 +1,13 @@
 -- The facts of a record, by its lists.
-use Rattle.std.proofs.Common.{◌≡◌, ◌≢◌, ℕ, ◌+◌, ◌-◌, ◌*◌, ◌<◌, ◌==◌, Bool, true, false, ◌&&◌, ◌||◌, cond, List, [], ◌∷◌, ◌++◌, length, map, filter, get_or, Option, Some, None, refl, sym, ap, ◌∙◌, arith}
+use Rattle.std.proofs.Common.{◌≡◌, ◌≢◌, ℕ, ◌+◌, ◌-◌, ◌*◌, ◌<◌, ◌==◌, Bool, true, false, ◌&&◌, cond, List, [], ◌∷◌, ◌++◌, length, map, filter, get_or, Option, Some, None, refl, sym, ap, ◌∙◌, arith}
 use Rattle.std.proofs.lemmas.Bool.{and_left, and_right, eq-eqb, eqb-true, ne_eqb}
 use Rattle.std.proofs.lemmas.Option.{get_or_from_slice_get, slice_get_within}
 use Rattle.std.specs.List.{flat_map, list_any}
 use Rattle.std.specs.Option.{option_and_then, option_map, option_map_or}
 use Rattle.std.specs.Prelude.{slice_get, slice_index_or}
+use Rattle.std.proofs.Math.Bool.{or-false}
+use Rattle.sg_lists.proofs.Any.{any-before, any-behind}
+use Rattle.sg_lists.proofs.Each.{EachOf, of-append, of-none}
 use Rattle.sg_commit.specs.declared.Digest.{Digest}
 use Rattle.sg_commit.specs.declared.Opening.{Opening}
 use Rattle.sg_plan.specs.Ballots.{entry_at, races_of_ballot}
@@ -29,13 +32,12 @@ use Rattle.sg_check.specs.Completions.{posted_half, posts_half}
 use Rattle.sg_check.specs.Facts.{code_commitment, commits_code, commits_half, draws_digits, draws_full, first_given, flags_row, is_flagged, is_full_draw, is_set, known_code, sets_place, shows_code, half_commitment, opened_on}
 use Rattle.sg_check.specs.Printings.{marked_code, posts_code}
 use Rattle.sg_check.proofs.BitsFound.{bits-found}
-use Rattle.sg_check.proofs.Fronts.{any-at, any-before, any-behind, given-before, given-behind}
+use Rattle.sg_check.proofs.Fronts.{any-at, given-before, given-behind}
 use Rattle.sg_facts.specs.Items.{item_in, row_in}
 use Rattle.sg_facts.specs.Laws.{FactsAreListed}
 use Rattle.sg_facts.specs.Listed.{block_code, block_mark, code_shown, digest_on, dispute_code, fate_code, fate_mark}
 use Rattle.sg_facts.specs.Totals.{totals_candidate}
-use Rattle.sg_facts.proofs.Each.{EachOf, given-of, of-append, of-none}
-use Rattle.sg_facts.proofs.Finding.{any_indexed-at, first-at, given-filter, given-flat, given-map, given-same, nested-at, numbered-at, of-each, paired-at}
+use Rattle.sg_facts.proofs.Finding.{any_indexed-at, first-at, given-filter, given-flat, given-map, given-of, given-same, nested-at, numbered-at, of-each, paired-at}
 use Rattle.sg_facts.proofs.Rising.{any-openings, any-results, given-codes, given-commits, given-openings, given-results, part_of}
 use Rattle.sg_facts.proofs.Sections.{codes-of, draw-of, race_flags-of, race_results-of, race_sets-of, race_totals-of, row_commits-of, rows-of, seals-of}
 
@@ -170,15 +172,11 @@ module _ (posted : Record) where
       any-openings posted draws_full others
       ∙ (any-before draws_full (draw_place posted.draw ∷ []) (rows ++ third_seal)
       (of-none draws_full (rows ++ third_seal) (of-append (FailsBy draws_full) rows third_seal (rows-of (FailsBy draws_full) posted (λ r i x o is. refl)) (seals-of (FailsBy draws_full) 3 posted.seals (λ d. refl))))
-      ∙ or_false (draws_full (draw_place posted.draw)))
+      ∙ or-false (draws_full (draw_place posted.draw)))
     where
       others : (line : Placed) → part_of line ≢ 5 → part_of line ≢ 6 → draws_full line ≡ false
       others DrawnFull drawn row = absurd (drawn refl)
       others line drawn row = refl
-
-      or_false : (b : Bool) → (b || false) ≡ b
-      or_false true = refl
-      or_false false = refl
 
   module _ (on : Side) (race instance row : ℕ) where
     abbrev posts : Placed → Option Opening

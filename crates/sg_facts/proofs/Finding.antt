@@ -4,12 +4,14 @@ use Rattle.std.proofs.lemmas.Bool.{cases_lt}
 use Rattle.std.specs.List.{flat_map, list_any}
 use Rattle.std.specs.Option.{option_and_then, option_map_or}
 use Rattle.std.specs.Prelude.{slice_get}
+use Rattle.sg_lists.proofs.Any.{any-before, any-behind}
+use Rattle.sg_lists.proofs.Each.{EachOf, of-append}
+use Rattle.sg_grammar.proofs.Lists.{of-numbered}
 use Rattle.sg_grammar.specs.Due.{each, numbered}
 use Rattle.sg_record.specs.Lines.{indexed}
 use Rattle.sg_check.specs.Facts.{first_given}
-use Rattle.sg_check.proofs.Fronts.{any-before, any-behind, given-before, given-behind, given-none}
+use Rattle.sg_check.proofs.Fronts.{given-before, given-behind, given-none}
 use Rattle.sg_facts.specs.Items.{item_in, row_in}
-use Rattle.sg_facts.proofs.Each.{EachOf, of-append, of-numbered}
 
 -- PROPERTIES OF EACH ITEM
 
@@ -37,6 +39,11 @@ of-rows {A} {B} P place lists all =
     of-items P (λ race instances. indexed (λ instance rows. indexed (place race instance) 0 rows) 0 instances) lists
     (λ race instances there. of-entries P (place race) instances
     (λ instance row x is. all race instance row x (ap (option_and_then (λ (l : List (List A)). item_in l instance row)) there ∙ is)))
+
+-- where each gives none, none is given
+pub given-of : {A B : Type 0} (given : A → Option B) (xs : List A) → EachOf (λ (x : A). given x ≡ None) xs → first_given given xs ≡ None
+given-of given [] all = refl
+given-of {A} {B} given (x ∷ xs) all = ap (λ (p : Option B). option_map_or Some p (first_given given xs)) all.0 ∙ given-of given xs all.1
 
 pub of-each : {B : Type 0} (P : B → Type 0) (f : ℕ → List B) (at end : ℕ) → ((k : ℕ) → EachOf P (f k)) → EachOf P (each f at end)
 of-each P f at end all = of-numbered P f at (end - at) (λ k a b. all k)

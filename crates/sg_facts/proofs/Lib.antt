@@ -1,5 +1,4 @@
 -- The proofs of facts.
-pub mod Each
 pub mod Facts
 pub mod Finding
 pub mod Rising

@@ -3,6 +3,8 @@ use Rattle.std.proofs.Common.{◌≡◌, ◌≢◌, ℕ, ◌*◌, ◌<◌, ◌�
 use Rattle.std.specs.List.{flat_map, list_any}
 use Rattle.std.specs.Option.{is_some, option_map_or}
 use Rattle.std.specs.Prelude.{slice_get, slice_index_or}
+use Rattle.sg_lists.proofs.Any.{any-before}
+use Rattle.sg_lists.proofs.Each.{EachOf, of-append, of-into, of-none}
 use Rattle.sg_plan.specs.declared.plan.Draw.{Draw}
 use Rattle.sg_plan.specs.declared.plan.Draw.TheVariants as drawn
 use Rattle.sg_plan.specs.declared.plan.Plan.{Plan}
@@ -17,10 +19,9 @@ use Rattle.sg_record.specs.Places.{block_places, commit_places, dispute_places, 
 use Rattle.sg_record.specs.declared.record.Record.{Record}
 use Rattle.sg_check.specs.Facts.{code_commitment, commits_code, commits_half, draws_digits, draws_full, first_given, flags_row, is_flagged, is_full_draw, is_marked, is_set, marks_entry, sets_place, half_commitment}
 use Rattle.sg_check.specs.Verdict.{late}
-use Rattle.sg_check.proofs.Fronts.{any-before, given-before, given-behind}
+use Rattle.sg_check.proofs.Fronts.{given-before, given-behind}
 use Rattle.sg_facts.specs.Items.{row_in}
-use Rattle.sg_facts.proofs.Each.{EachOf, given-of, of-append, of-into, of-none}
-use Rattle.sg_facts.proofs.Finding.{given-append}
+use Rattle.sg_facts.proofs.Finding.{given-append, given-of}
 use Rattle.sg_facts.proofs.Sections.{ballots-of, commits-of, disputes-of, openings-of, plan-of, results-of, rows-of, seals-of}
 
 -- THE PARTS OF A RECORD

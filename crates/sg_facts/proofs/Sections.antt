@@ -2,6 +2,8 @@
 use Rattle.std.proofs.Common.{◌≡◌, ℕ, ◌-◌, ◌<◌, ◌==◌, Bool, true, false, cond, List, [], ◌∷◌, ◌++◌, length, map, filter, drop, take, Some, refl, arith}
 use Rattle.std.specs.List.{flat_map, list_any}
 use Rattle.std.specs.Prelude.{slice_get, slice_index_or}
+use Rattle.sg_lists.proofs.Each.{EachOf, of-all, of-among, of-append, of-every, of-filter, of-map}
+use Rattle.sg_grammar.proofs.Lists.{of-numbered}
 use Rattle.sg_commit.specs.declared.Digest.{Digest}
 use Rattle.sg_plan.specs.Ballots.{races_of_ballot}
 use Rattle.sg_plan.specs.declared.plan.ClaimWord.{ClaimWord}
@@ -23,7 +25,6 @@ use Rattle.sg_record.specs.declared.record.BlockFate.TheVariants as fate
 use Rattle.sg_record.specs.declared.record.DisputeBlock.{DisputeBlock}
 use Rattle.sg_record.specs.declared.record.Record.{Record}
 use Rattle.sg_facts.specs.Items.{row_in}
-use Rattle.sg_facts.proofs.Each.{EachOf, of-all, of-among, of-append, of-every, of-filter, of-map, of-numbered}
 use Rattle.sg_facts.proofs.Finding.{of-each, of-entries, of-flat_map, of-items, of-rows}
 
 module _ (P : Placed → Type 0) where

@@ -1,22 +1,24 @@
 -- How a table of codes is filled.
-use Rattle.std.proofs.Common.{◌≡◌, ◌≢◌, ℕ, zero, suc, ◌+◌, ◌-◌, ◌*◌, ◌<◌, ◌==◌, ◌⊎◌, nat_lt, Bool, true, false, ◌&&◌, cond, inl, inr, List, [], ◌∷◌, ◌++◌, length, replicate, Option, Some, None, refl, sym, subst, ap, ◌∙◌, arith}
+use Rattle.std.proofs.Common.{◌≡◌, ◌≢◌, ℕ, zero, suc, ◌+◌, ◌-◌, ◌*◌, ◌<◌, ◌==◌, ◌⊎◌, nat_lt, Bool, true, false, ◌&&◌, cond, inl, inr, List, [], ◌∷◌, ◌++◌, All, length, replicate, Option, Some, None, refl, sym, subst, ap, ◌∙◌, arith}
 use Rattle.std.specs.Option.{option_and_then, option_map, option_map_or}
 use Rattle.std.specs.Prelude.{IsSome, slice_get, slice_set}
-use Rattle.std.proofs.lemmas.Bool.{and_parts, cases_eq, cases_lt, eq-eqb, eqb-true, lt-ltb, ne_eqb}
-use Rattle.std.proofs.lemmas.Option.{same_Some, slice_get_past, slice_get_within}
-use Rattle.std.specs.List.{list_all}
-use Rattle.sg_plan.specs.Ballots.{ballot_has, candidates_of, entries_of, entry_at, rows_of}
+use Rattle.std.proofs.lemmas.Bool.{and_from, and_parts, cases_eq, cases_lt, eq-eqb, eqb-true, lt-ltb, ne_eqb, or_cases}
+use Rattle.std.proofs.lemmas.Option.{get_or_from_slice_get, same_Some, slice_get_past, slice_get_within}
+use Rattle.std.specs.List.{list_all, list_any}
+use Rattle.std.proofs.lemmas.List.{length-set, length_push}
+use Rattle.sg_lists.proofs.Each.{EachOf}
+use Rattle.sg_lists.proofs.Lists.{slice_get-push, slice_get-push_last, slice_get-replicate, slice_get-set, slice_get_there}
+use Rattle.sg_lists.proofs.Options.{option_map_or-Some}
+use Rattle.sg_grammar.proofs.Lists.{of-numbered}
+use Rattle.sg_plan.specs.Ballots.{ballot_has, candidates_of, entries_of, entry_at, races_of_ballot, rows_of}
 use Rattle.sg_plan.specs.declared.plan.Plan.{Plan}
 use Rattle.sg_plan.specs.declared.plan.Race.{Race}
 use Rattle.sg_forms.specs.declared.line.CodeLine.{CodeLine}
-use Rattle.sg_grammar.specs.Due.{ballot_codes, code_line, each, race_codes}
 use Rattle.sg_grammar.specs.Walk.{follows_in_order, is_column, is_later}
-use Rattle.sg_grammar.specs.declared.state.Block.{Block}
-use Rattle.sg_grammar.specs.declared.state.Block.TheVariants as block
-use Rattle.sg_grammar.specs.declared.state.Slot.{Slot}
-use Rattle.sg_grammar.specs.declared.state.Slot.TheVariants as slot
+use Rattle.sg_record.proofs.BlockTests.{has_among}
+use Rattle.sg_record.proofs.Columns.{IsOfRaces, codes-own, race_codes-own}
 use Rattle.sg_plan.specs.Codes.{is_code}
-use Rattle.sg_record.specs.Formed.{are_blocks, are_due, are_marks, are_overs, is_dispute, is_due, is_fate}
+use Rattle.sg_record.specs.Formed.{are_blocks, are_columns, are_marks, are_overs, are_papers, has_columns, is_dispute, is_fate}
 use Rattle.sg_record.specs.declared.record.BallotBlock.{BallotBlock}
 use Rattle.sg_record.specs.declared.record.BlockFate.TheVariants as fate
 use Rattle.sg_record.specs.declared.record.DisputeBlock.{DisputeBlock}
@@ -25,7 +27,6 @@ use Rattle.sg_facts.specs.Items.{item_in}
 use Rattle.sg_facts.specs.Listed.{code_shown}
 use Rattle.sg_facts.specs.Tables.{HasTable}
 use Rattle.sg_facts.specs.inside.Putting.{AreDisputes, AreFates, AreOwn, IsSized, Puts, or_code, put_at, told, with_first}
-use Rattle.sg_facts.proofs.Each.{EachOf, of-numbered}
 use Rattle.sg_facts.proofs.Finding.{given-append}
 
 -- only a race of the plan has entries
@@ -41,52 +42,17 @@ has_entries plan race below =
 
 -- ONE LIST
 
--- what stands in a list in which one item was set
-pub set_get : {A : Type 0} (xs : List A) (i j : ℕ) (v : A) → i < length xs → slice_get (slice_set xs i v) j ≡ cond (i == j) (Some v) (slice_get xs j)
-set_get [] i j v less = absurd (omega (arith, less))
-set_get (x ∷ xs) zero zero v less = refl
-set_get {A} (x ∷ xs) zero (suc j) v less = sym (ap (λ (b : Bool). cond b (Some v) (slice_get xs j)) (ne_eqb 0 (suc j) (λ e. omega (arith, e))))
-set_get {A} (x ∷ xs) (suc i) zero v less = sym (ap (λ (b : Bool). cond b (Some v) (Some x)) (ne_eqb (suc i) 0 (λ e. omega (arith, e))))
-set_get (x ∷ xs) (suc i) (suc j) v less = set_get xs i j v (omega (arith, less)) ∙ ap (λ (b : Bool). cond b (Some v) (slice_get xs j)) (same i j)
-  where
-    same : (a b : ℕ) → (a == b) ≡ (suc a == suc b)
-    same a b = elim (cases_eq a b) [
-      | inl e ↦ eq-eqb a b e ∙ sym (eq-eqb (suc a) (suc b) (ap suc e))
-      | inr n ↦ ne_eqb a b n ∙ sym (ne_eqb (suc a) (suc b) (λ e. n (omega (arith, e))))
-    ]
-
-pub push_get : {A : Type 0} (xs : List A) (x : A) (j : ℕ) → j < length xs → slice_get (xs ++ x ∷ []) j ≡ slice_get xs j
-push_get [] x j less = absurd (omega (arith, less))
-push_get (y ∷ xs) x zero less = refl
-push_get (y ∷ xs) x (suc j) less = push_get xs x j (omega (arith, less))
-
-pub push_last : {A : Type 0} (xs : List A) (x : A) (j : ℕ) → j ≡ length xs → slice_get (xs ++ x ∷ []) j ≡ Some x
-push_last [] x zero same = refl
-push_last [] x (suc j) same = absurd (omega (arith, same))
-push_last (y ∷ xs) x zero same = absurd (omega (arith, same))
-push_last (y ∷ xs) x (suc j) same = push_last xs x j (omega (arith, same))
-
-pub fill_get : {A : Type 0} (x : A) (n j : ℕ) → j < n → slice_get (replicate n x) j ≡ Some x
-fill_get x zero j less = absurd (omega (arith, less))
-fill_get x (suc n) zero less = refl
-fill_get x (suc n) (suc j) less = fill_get x n j (omega (arith, less))
-
-pub get_there : {A : Type 0} (xs : List A) (i : ℕ) → i < length xs → (x : A) × (slice_get xs i ≡ Some x)
-get_there [] i less = absurd (omega (arith, less))
-get_there (x ∷ xs) zero less = (x, refl)
-get_there (x ∷ xs) (suc i) less = get_there xs i (omega (arith, less))
-
 -- a code is put, unless one stands there
 pub first_is : (codes : List (Option ℕ)) (entry code : ℕ) (kept : Option ℕ) → slice_get codes entry ≡ Some kept → with_first codes entry code ≡ put_at codes entry code kept
 first_is codes entry code kept is = ap (λ (o : Option (Option ℕ)). put_at codes entry code (option_map_or (λ k. k) o None)) is
 
 first_get : (codes : List (Option ℕ)) (entry code e : ℕ) → entry < length codes → slice_get (with_first codes entry code) e ≡ cond (entry == e) (option_map (or_code code) (slice_get codes e)) (slice_get codes e)
 first_get codes entry code e less =
-    let found = get_there codes entry less in
+    let found = slice_get_there codes entry less in
     ap (λ (l : List (Option ℕ)). slice_get l e) (first_is codes entry code found.0 found.1) ∙ at_kept found.0 found.1
   where
     at_kept : (kept : Option ℕ) → slice_get codes entry ≡ Some kept → slice_get (put_at codes entry code kept) e ≡ cond (entry == e) (option_map (or_code code) (slice_get codes e)) (slice_get codes e)
-    at_kept None is = set_get codes entry e (Some code) less ∙ at_place (entry == e) refl
+    at_kept None is = slice_get-set codes entry e (Some code) less ∙ at_place (entry == e) refl
       where
         at_place : (b : Bool) → (entry == e) ≡ b → cond b (Some (Some code)) (slice_get codes e) ≡ cond b (option_map (or_code code) (slice_get codes e)) (slice_get codes e)
         at_place false d = refl
@@ -117,7 +83,7 @@ pub put_back : (table blank new : List (List (Option ℕ))) (codes codes' : List
     → blank ≡ slice_set table race [] → codes' ≡ with_first codes entry code → new ≡ slice_set blank race codes'
     → (r e : ℕ) → item_in new r e ≡ cond (race == r && entry == e) (option_map (or_code code) (item_in table r e)) (item_in table r e)
 put_back table blank new codes codes' race entry code some is taken put back r e =
-    ap (option_and_then (λ items. slice_get items e)) (ap (λ (t : List (List (Option ℕ))). slice_get t r) back ∙ set_get blank race r codes' (longer blank taken))
+    ap (option_and_then (λ items. slice_get items e)) (ap (λ (t : List (List (Option ℕ))). slice_get t r) back ∙ slice_get-set blank race r codes' (longer blank taken))
     ∙ at_race (race == r) refl
   where
     found : (items : List (Option ℕ)) × (slice_get table race ≡ Some items) × (entry < length items)
@@ -126,13 +92,8 @@ put_back table blank new codes codes' race entry code some is taken put back r e
     within : race < length table
     within = slice_get_within table race codes is
 
-    set_length : (xs : List (List (Option ℕ))) (i : ℕ) (v : List (Option ℕ)) → length (slice_set xs i v) ≡ length xs
-    set_length [] i v = refl
-    set_length (x ∷ xs) zero v = refl
-    set_length (x ∷ xs) (suc i) v = ap suc (set_length xs i v)
-
     longer : (b : List (List (Option ℕ))) → b ≡ slice_set table race [] → race < length b
-    longer b t = omega (arith, within, ap length t, set_length table race [])
+    longer b t = omega (arith, within, ap length t, length-set table race [])
 
     short : entry < length codes
     short = subst (λ (c : List (Option ℕ)). entry < length c) (same_Some found.0 codes (sym found.1 ∙ is)) found.2
@@ -141,7 +102,7 @@ put_back table blank new codes codes' race entry code some is taken put back r e
         ≡ cond (b && entry == e) (option_map (or_code code) (item_in table r e)) (item_in table r e)
     at_race false d =
         ap (option_and_then (λ items. slice_get items e))
-        (ap (λ (t : List (List (Option ℕ))). slice_get t r) taken ∙ (set_get table race r [] within ∙ ap (λ (b : Bool). cond b (Some []) (slice_get table r)) d))
+        (ap (λ (t : List (List (Option ℕ))). slice_get t r) taken ∙ (slice_get-set table race r [] within ∙ ap (λ (b : Bool). cond b (Some []) (slice_get table r)) d))
     at_race true d =
         let here : item_in table r e ≡ slice_get codes e = ap (option_and_then (λ items. slice_get items e)) (ap (slice_get table) (sym (eqb-true race r d)) ∙ is) in
         ap (λ (l : List (Option ℕ)). slice_get l e) put ∙ (first_get codes entry code e short ∙ ap (λ (x : Option (Option ℕ)). cond (entry == e) (option_map (or_code code) x) x) (sym here))
@@ -154,20 +115,16 @@ pub record IsBlank (plan : Plan) (table : List (List (Option ℕ))) (races : ℕ
 
 pub blank_more : (plan : Plan) (table table' : List (List (Option ℕ))) (race count : ℕ) → IsBlank plan table race → table' ≡ table ++ replicate count None ∷ [] → count ≡ entries_of plan race → IsBlank plan table' (race + 1)
 blank_more plan table table' race count blank grown many = record {
-  long = ap length grown ∙ omega (arith, blank.long, pushed table (replicate count None));
+  long = ap length grown ∙ omega (arith, blank.long, length_push table (replicate count None));
   none = λ r e below within. ap (λ (t : List (List (Option ℕ))). item_in t r e) grown ∙ at_place r e (cases_eq r race) below within;
 }
   where
-    pushed : (xs : List (List (Option ℕ))) (x : List (Option ℕ)) → length (xs ++ x ∷ []) ≡ length xs + 1
-    pushed [] x = refl
-    pushed (y ∷ xs) x = omega (arith, pushed xs x)
-
     at_place : (r e : ℕ) → (r ≡ race) ⊎ (r ≢ race) → r < race + 1 → e < entries_of plan r → item_in (table ++ replicate count None ∷ []) r e ≡ Some None
     at_place r e (inl same) below within =
-        ap (option_and_then (λ items. slice_get items e)) (push_last table (replicate count None) r (same ∙ sym blank.long)) ∙ fill_get None count e (omega (arith, within, many, ap (entries_of plan) same))
+        ap (option_and_then (λ items. slice_get items e)) (slice_get-push_last table (replicate count None) r (same ∙ sym blank.long)) ∙ slice_get-replicate count e None (omega (arith, within, many, ap (entries_of plan) same))
     at_place r e (inr other) below within =
         let less : r < race = omega (arith, below, other) in
-        ap (option_and_then (λ items. slice_get items e)) (push_get table (replicate count None) r (omega (arith, less, blank.long))) ∙ blank.none r e less within
+        ap (option_and_then (λ items. slice_get items e)) (slice_get-push table (replicate count None) r (omega (arith, less, blank.long))) ∙ blank.none r e less within
 
 -- WHAT IS TOLD
 
@@ -178,10 +135,6 @@ some_told None s = cc
 then_one : (kept : Option ℕ) (code : ℕ) → or_code code kept ≡ option_map_or Some kept (Some code)
 then_one None code = refl
 then_one (Some k) code = refl
-
-then_none : (kept : Option ℕ) → option_map_or Some kept None ≡ kept
-then_none None = refl
-then_none (Some k) = refl
 
 then_three : (a b c : Option ℕ) → option_map_or Some (option_map_or Some a b) c ≡ option_map_or Some a (option_map_or Some b c)
 then_three None b c = refl
@@ -207,7 +160,7 @@ one_puts plan old new ballot code is sized = λ r e within below.
   where
     at_place : (b : Bool) (x : Option (Option ℕ)) → IsSome x → option_map_or (λ k. k) (cond b (option_map (or_code code.code) x) x) None ≡ option_map_or Some (option_map_or (λ k. k) x None) (cond b (Some code.code) None)
     at_place true (Some k) s = then_one k code.code
-    at_place false (Some k) s = sym (then_none k)
+    at_place false (Some k) s = sym (option_map_or-Some k)
     at_place b None s = cc
 
 pub puts_same : (plan : Plan) (old new : List (List (Option ℕ))) (f h : ℕ → ℕ → Option ℕ) → ((r e : ℕ) → f r e ≡ h r e) → Puts plan old new f → Puts plan old new h
@@ -222,7 +175,7 @@ pub puts_more : {A : Type 0} (plan : Plan) (old mid new : List (List (Option ℕ
     → Puts plan old mid (λ r e. first_given (g r e) front) → Puts plan mid new (λ r e. g r e x) → Puts plan old new (λ r e. first_given (g r e) front')
 puts_more plan old mid new g items front front' x grown one two =
     puts_same plan old new (λ r e. option_map_or Some (first_given (g r e) front) (g r e x)) (λ r e. first_given (g r e) front')
-    (λ r e. sym (ap (first_given (g r e)) grown ∙ (given-append (g r e) front (x ∷ []) ∙ ap (λ (o : Option ℕ). option_map_or Some (first_given (g r e) front) o) (then_none (g r e x)))))
+    (λ r e. sym (ap (first_given (g r e)) grown ∙ (given-append (g r e) front (x ∷ []) ∙ ap (λ (o : Option ℕ). option_map_or Some (first_given (g r e) front) o) (option_map_or-Some (g r e x)))))
     (puts_both plan old mid new (λ r e. first_given (g r e) front) (λ r e. g r e x) one two)
 
 pub blank_sized : (plan : Plan) (table : List (List (Option ℕ))) → HasTable plan table (λ race entry. None) → IsSized plan table
@@ -256,48 +209,31 @@ marks_own plan ballot race column (code ∷ codes) e =
     let first = and_parts (is_column plan ballot code.race code.column && follows_in_order race column code.race code.column) (is_code plan code.code) parts.0 in
     ((and_parts (is_column plan ballot code.race code.column) (follows_in_order race column code.race code.column) first.0).0, marks_own plan ballot code.race (code.column + 1) codes parts.1)
 
-abbrev IsOwnSlot : Plan → ℕ → Slot → Type 0
-IsOwnSlot plan ballot (slot.Code kind of race column) = is_column plan ballot race column ≡ true
-IsOwnSlot plan ballot due = Unit {0}
-
-due_own : (plan : Plan) (ballot : ℕ) (slots : List Slot) (codes : List CodeLine) → EachOf (IsOwnSlot plan ballot) slots → are_due plan slots codes ≡ true → EachOf (IsOwn plan ballot) codes
-due_own plan ballot [] [] own e = tt
-due_own plan ballot [] (code ∷ codes) own e = cc
-due_own plan ballot (due ∷ slots) [] own e = cc
-due_own plan ballot (due ∷ slots) (code ∷ codes) own e =
-    let parts = and_parts (is_due plan due code) (are_due plan slots codes) e in
-    (of_slot due own.0 parts.0, due_own plan ballot slots codes own.1 parts.1)
-  where
-    of_slot : (s : Slot) → IsOwnSlot plan ballot s → is_due plan s code ≡ true → IsOwn plan ballot code
-    of_slot (slot.Code kind of race column) own d =
-        let is = and_parts (code.race == race) (code.column == column) (and_parts (code.race == race && code.column == column) (is_code plan code.code) d).0 in
-        rw (eqb-true code.race race is.0, eqb-true code.column column is.1) own
-    of_slot s own d = cc
-
-codes_own : (plan : Plan) (kind : Block) (ballot race : ℕ) → ballot_has plan ballot race ≡ true → EachOf (IsOwnSlot plan ballot) (race_codes plan kind ballot race)
-codes_own plan kind ballot race has =
-    of-numbered (IsOwnSlot plan ballot) (code_line kind ballot race) 0 (candidates_of plan race - 0) (λ column a b. (rw (has, lt-ltb column (candidates_of plan race) (omega (arith, b))) refl, tt))
-
-ballot_own : (plan : Plan) (ballot : ℕ) → EachOf (IsOwnSlot plan ballot) (each (ballot_codes plan ballot) 0 (length plan.races))
-ballot_own plan ballot = of-numbered (IsOwnSlot plan ballot) (ballot_codes plan ballot) 0 (length plan.races - 0) (λ race a b. of_race race (ballot_has plan ballot race) refl)
-  where
-    of_race : (race : ℕ) (b : Bool) → ballot_has plan ballot race ≡ b → EachOf (IsOwnSlot plan ballot) (cond b (race_codes plan block.Audited ballot race) [])
-    of_race race true e = codes_own plan block.Audited ballot race e
-    of_race race false e = tt
+-- codes of columns of races that the ballot has
+columns_own : (plan : Plan) (ballot : ℕ) (races : List ℕ) (codes : List CodeLine) → ((race : ℕ) → list_any (λ carried. carried == race) races ≡ true → ballot_has plan ballot race ≡ true)
+    → All (IsOfRaces plan races) codes → AreOwn plan ballot codes
+columns_own plan ballot races codes has own = λ at code is.
+    let it = subst (IsOfRaces plan races) (get_or_from_slice_get codes at code code is) (own at code (slice_get_within codes at code is)) in
+    and_from (ballot_has plan ballot code.race) (nat_lt code.column (candidates_of plan code.race)) (has code.race it.race) (lt-ltb code.column (candidates_of plan code.race) it.column)
 
 pub cast_own : (plan : Plan) (ballot : ℕ) (codes : List CodeLine) (overs : List ℕ) → is_fate plan ballot (fate.Cast codes overs) ≡ true → AreOwn plan ballot codes
 cast_own plan ballot codes overs e = own_at plan ballot codes (marks_own plan ballot 0 0 codes (and_parts (are_marks plan ballot 0 0 codes) (are_overs plan ballot 0 overs) e).0)
 
 pub audited_own : (plan : Plan) (ballot : ℕ) (papers : List (List ℕ)) (codes : List CodeLine) → is_fate plan ballot (fate.Audited papers codes) ≡ true → AreOwn plan ballot codes
 audited_own plan ballot papers codes e =
-    own_at plan ballot codes (due_own plan ballot (each (ballot_codes plan ballot) 0 (length plan.races)) codes (ballot_own plan ballot) (and_parts _ (are_due plan (each (ballot_codes plan ballot) 0 (length plan.races)) codes) e).1)
+    columns_own plan ballot (races_of_ballot plan ballot) codes (λ race is. has_among plan ballot race ∙ is)
+    (codes-own plan (races_of_ballot plan ballot) codes (and_parts (are_papers plan (races_of_ballot plan ballot) papers) (are_columns plan (races_of_ballot plan ballot) codes) e).1)
 
 pub dispute_own : (plan : Plan) (one : DisputeBlock) → is_dispute plan one ≡ true → AreOwn plan one.ballot one.codes
 dispute_own plan one e =
-    let parts = and_parts ((nat_lt one.race (length plan.races) && ballot_has plan one.ballot one.race) && is_code plan one.code) (are_due plan (race_codes plan block.Dispute one.ballot one.race) one.codes) e in
+    let parts = and_parts ((nat_lt one.race (length plan.races) && ballot_has plan one.ballot one.race) && is_code plan one.code) (has_columns plan one.race one.codes) e in
     let first = and_parts (nat_lt one.race (length plan.races) && ballot_has plan one.ballot one.race) (is_code plan one.code) parts.0 in
     let has = (and_parts (nat_lt one.race (length plan.races)) (ballot_has plan one.ballot one.race) first.0).1 in
-    own_at plan one.ballot one.codes (due_own plan one.ballot (race_codes plan block.Dispute one.ballot one.race) one.codes (codes_own plan block.Dispute one.ballot one.race has) parts.1)
+    columns_own plan one.ballot (one.race ∷ []) one.codes (λ race is.
+    elim (or_cases (one.race == race) false is) [
+      | inl same ↦ subst (λ (r : ℕ). ballot_has plan one.ballot r ≡ true) (eqb-true one.race race same) has
+      | inr none ↦ cc
+    ]) (race_codes-own plan one.race [] one.codes parts.1)
 
 pub blocks_fates : (plan : Plan) (last : ℕ) (blocks : List BallotBlock) → are_blocks plan last blocks ≡ true → AreFates plan blocks
 blocks_fates plan last [] e = λ at one is. absurd (omega (arith, slice_get_within [] at one is))

@@ -1,6 +1,6 @@
 -- What is read of a line's words is in range, and its words are those that were read.
 use Rattle.std.proofs.Common.{◌≡◌, ℕ, ◌≤◌, ◌⊎◌, inl, inr, Bool, true, false, ◌||◌, ◌==◌, nat_le, cond, List, [], ◌∷◌, ◌++◌, All, length, map, Option, None, Some, bytes_eq, codes, refl, sym, ap, ◌∙◌, subst, append_assoc, arith}
-use Rattle.std.proofs.lemmas.Bool.{eqb-true, leb-true}
+use Rattle.std.proofs.lemmas.Bool.{eqb-true, leb-true, and_parts}
 use Rattle.std.proofs.lemmas.List.{append-nil, length-map}
 use Rattle.std.proofs.lemmas.List.Elements.{All-nil, All-cons}
 use Rattle.std.proofs.lemmas.Slice.Eq.{bytes_eq-Decides}
@@ -10,7 +10,6 @@ use Rattle.sg_forms.specs.Said.Said.{Election, Instances, Cand, Style, Cast, Spo
 use Rattle.sg_forms.specs.Spelling.{words_of, IsInRange}
 use Rattle.sg_forms.specs.Reading.{one_name, one_number, first_by, whole, read_race, read_ballots, read_code_commit, read_row_commit, read_seal, read_code_line, read_flags, read_places, read_total, read_left, read_right, read_both, read_dispute, read_version, read_style, read_paper, read_draw, digits_of, is_few, all_by, few_by, plan_form, result_form, ballot_form, form_of, form_in}
 use Rattle.sg_forms.proofs.WordKinds.{IsKind, number_kind, key_kind, digest_kind, code_kind, name_kind, bits_kind, digits_kind, claim_kind}
-use Rattle.sg_forms.proofs.Kept.{both_true}
 
 -- the line is in range, and these are its words
 abbrev pub Says : ℕ → List (List ℕ) → Said → Type 0
@@ -252,7 +251,7 @@ few_found_at : {A : Type 0} (read : List ℕ → Option A) (spell : A → List �
 few_found_at read spell Fits most kind words values true inside e =
     let are = all_found read spell Fits kind words values e in
     let count : length words ≡ length values = ap length are.spelled ∙ length-map values spell in
-    let ends = both_true (nat_le 1 (length words)) (nat_le (length words) most) inside in
+    let ends = and_parts (nat_le 1 (length words)) (nat_le (length words) most) inside in
     let some = leb-true 1 (length words) ends.0 in
     let few = leb-true (length words) most ends.1 in
     record { are = are; some = omega arith; few = omega arith }

@@ -1,6 +1,6 @@
 -- The tests of words that a line keeps as they are say what the definitions of names and bits say.
 use Rattle.std.proofs.Common.{◌≡◌, ℕ, ◌<◌, ◌≤◌, Bool, true, false, cond, ◌&&◌, ◌||◌, ◌==◌, nat_le, List, length, Option, None, Some, inl, inr, refl, arith}
-use Rattle.std.proofs.lemmas.Bool.{leb-true, le-leb, eqb-true}
+use Rattle.std.proofs.lemmas.Bool.{leb-true, le-leb, eqb-true, and_parts}
 use Rattle.std.proofs.lemmas.List.Elements.{All-weaker}
 use Rattle.std.proofs.lemmas.List.Sums.{AllPass-from_list_all, list_all-from_AllPass}
 use Rattle.std.specs.List.{list_all}
@@ -30,16 +30,11 @@ kept_found_at word value false e = cc
 pub kept_found : (test : List ℕ → Bool) (word value : List ℕ) → kept_where test word ≡ Some value → (test word ≡ true) × (word ≡ value)
 kept_found test word value e = kept_found_at word value (test word) e
 
--- the parts of a test of two parts
-pub both_true : (a b : Bool) → (a && b) ≡ true → (a ≡ true) × (b ≡ true)
-both_true true b e = (refl, e)
-both_true false b e = cc
-
 -- the parts of a test of a short word
 pub few_parts : (most : ℕ) (test : Bool) (word : List ℕ) → (is_few most word && test) ≡ true → (1 ≤ length word) × (length word ≤ most) × (test ≡ true)
 few_parts most test word is =
-    let parts = both_true (is_few most word) test is in
-    let ends = both_true (nat_le 1 (length word)) (nat_le (length word) most) parts.0 in
+    let parts = and_parts (is_few most word) test is in
+    let ends = and_parts (nat_le 1 (length word)) (nat_le (length word) most) parts.0 in
     (leb-true 1 (length word) ends.0, leb-true (length word) most ends.1, parts.1)
 
 -- a short word that passes
@@ -55,7 +50,7 @@ name_byte_test byte is = rw (le-leb 0x21 byte is.0, le-leb byte 0x7E is.1) refl
 -- a byte that passes the test
 name_byte_from_test : (byte : ℕ) → is_name_byte byte ≡ true → IsNameByte byte
 name_byte_from_test byte test =
-    let parts = both_true (nat_le 0x21 byte) (nat_le byte 0x7E) test in
+    let parts = and_parts (nat_le 0x21 byte) (nat_le byte 0x7E) test in
     (leb-true 0x21 byte parts.0, leb-true byte 0x7E parts.1)
 
 -- a name passes the test

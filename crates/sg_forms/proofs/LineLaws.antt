@@ -1,10 +1,10 @@
 -- The laws of reading a line.
 use Rattle.std.proofs.Common.{◌≡◌, ℕ, suc, ◌+◌, ◌-◌, ◌<◌, ◌≤◌, ◌==◌, nat_le, nat_lt, Bool, true, false, cond, List, [], ◌∷◌, ◌++◌, All, length, take, drop, get_or, slice_index, Option, None, Some, refl, sym, ap, ◌∙◌, subst, arith, length-append}
 use Rattle.std.proofs.Math.Seq.{split_at, get_or-append_seam, take-append_seam}
-use Rattle.std.proofs.lemmas.Bool.{le-leb, lt-ltb, ltb-true, eqb-true, ne_eqb}
+use Rattle.std.proofs.lemmas.Bool.{le-leb, lt-ltb, ltb-true, eqb-true, ne_eqb, and_parts}
 use Rattle.std.proofs.lemmas.List.Elements.{All-weaker, All-get_or, All-cons, All-append}
 use Rattle.std.proofs.Math.Bool.{or-true}
-use Rattle.std.proofs.lemmas.List.{append-nil, drop_all, get_or_append_left}
+use Rattle.std.proofs.lemmas.List.{append-nil, drop_all, get_or_append_left, nil_from_length}
 use Rattle.std.proofs.lemmas.List.Folds.{list_any-append}
 use Rattle.std.proofs.lemmas.List.Splits.{slice_split_at, slice_split_none, join_with_byte-slice_split}
 use Rattle.std.specs.Io.BufRead.{ends_with_byte}
@@ -15,7 +15,6 @@ use Rattle.sg_forms.specs.Said.{Said}
 use Rattle.sg_forms.specs.Spelling.{words_of, spelling, IsInRange}
 use Rattle.sg_plan.specs.Limits.{longest_line}
 use Rattle.sg_forms.specs.Reading.{text_of, is_space, words_in, form_in, line_of}
-use Rattle.sg_forms.proofs.Kept.{both_true}
 use Rattle.sg_forms.proofs.WordKinds.{IsInk}
 use Rattle.sg_forms.proofs.FormsFound.{Says, form_in_says}
 use Rattle.sg_forms.proofs.FormsRead.{form_in_read}
@@ -27,7 +26,7 @@ use Rattle.sg_forms.proofs.Plain.{ArePlain, words_plain}
 -- a list that ends with this byte is what stands before it and the byte
 ends_at : (bytes : List ℕ) → ends_with_byte 10 bytes ≡ true → bytes ≡ take (length bytes - 1) bytes ++ 10 ∷ []
 ends_at bytes ends =
-    let parts = both_true (nat_lt 0 (length bytes)) (slice_index bytes (length bytes - 1) == 10) ends in
+    let parts = and_parts (nat_lt 0 (length bytes)) (slice_index bytes (length bytes - 1) == 10) ends in
     let some : 0 < length bytes = ltb-true 0 (length bytes) parts.0 in
     let last : get_or bytes (length bytes - 1) 0 ≡ 10 = eqb-true (slice_index bytes (length bytes - 1)) 10 parts.1 in
     let front : List ℕ = take (length bytes - 1) bytes in
@@ -166,11 +165,6 @@ ends_anyway bytes text is open_end =
     let ends : ends_with_byte 10 bytes ≡ true = ap (ends_with_byte 10) is ∙ ends_with_feed text in
     cc
 
--- a list of length 0
-no_bytes : (bytes : List ℕ) → length bytes ≡ 0 → bytes ≡ []
-no_bytes [] none = refl
-no_bytes (byte ∷ bytes) none = absurd (omega arith)
-
 -- a line feed at the end is found
 last_feed : (text : List ℕ) → list_any (λ byte. byte == 10) (text ++ 10 ∷ []) ≡ true
 last_feed text = list_any-append (λ byte. byte == 10) text (10 ∷ []) ∙ or-true (list_any (λ byte. byte == 10) text)
@@ -205,6 +199,6 @@ cut_lines version text more full none =
     let count : length (text ++ more) ≡ length text + length more = length-append text more in
     let short = line.short in
     let nothing : length more ≡ 0 = omega arith in
-    let alone : text ≡ line.text ++ 10 ∷ [] = sym (append-nil text) ∙ (ap (λ rest. text ++ rest) (sym (no_bytes more nothing)) ∙ line.is) in
+    let alone : text ≡ line.text ++ 10 ∷ [] = sym (append-nil text) ∙ (ap (λ rest. text ++ rest) (sym (nil_from_length more nothing)) ∙ line.is) in
     let found : list_any (λ byte. byte == 10) text ≡ true = ap (list_any (λ byte. byte == 10)) alone ∙ last_feed line.text in
     cc)

@@ -1,6 +1,6 @@
 -- The kinds of words: each is read from its spelling alone, in which no byte is a space or a line feed.
 use Rattle.std.proofs.Common.{◌≡◌, ℕ, ◌+◌, ◌-◌, ◌*◌, ◌/◌, ◌%◌, ◌<◌, ◌≤◌, ◌==◌, nat_le, Bool, true, false, ◌&&◌, ◌||◌, cond, inl, inr, List, [], ◌∷◌, All, length, slice_index, Option, None, Some, bytes_eq, codes, refl, sym, ap, ◌∙◌, subst, arith}
-use Rattle.std.proofs.lemmas.Bool.{agree_below_at, cases_lt, leb-true, eq-eqb, eqb-true}
+use Rattle.std.proofs.lemmas.Bool.{agree_below_at, cases_lt, leb-true, eq-eqb, eqb-true, and_parts}
 use Rattle.std.proofs.lemmas.List.{get_or_past}
 use Rattle.std.proofs.lemmas.List.Elements.{All-nil, All-cons, All-head, All-tail, All-get_or, All-from_get_or, All-weaker}
 use Rattle.std.proofs.lemmas.List.Sums.{AllPass-from_list_all}
@@ -16,7 +16,7 @@ use Rattle.sg_lines.proofs.Numbers.{decimals_are_spelled, decimals_are_read, dec
 use Rattle.sg_lines.proofs.Signs.{by_version, codes_are_spelled, codes_are_read, code_word-digits, code_word-signs}
 use Rattle.sg_forms.specs.Reading.{is_few, is_name_byte, is_bit_sign, is_hex_sign, name_of, bits_of, digits_of, claim_of}
 use Rattle.sg_forms.specs.Spelling.{IsNumber, IsCode, AreBytes, AreFewBits, AreDigits, claim_word}
-use Rattle.sg_forms.proofs.Kept.{kept_yes, kept_found, both_true, few_parts, few_test, name_kept, name_from_test, bits_kept, bits_from_test}
+use Rattle.sg_forms.proofs.Kept.{kept_yes, kept_found, few_parts, few_test, name_kept, name_from_test, bits_kept, bits_from_test}
 
 -- a byte above the space, and so above the line feed
 abbrev pub IsInk : ℕ → Type 0
@@ -77,8 +77,8 @@ sign_ink_at byte false false low high e = cc
 sign_ink : (byte : ℕ) → is_hex_sign byte ≡ true → IsInk byte
 sign_ink byte e =
     sign_ink_at byte (nat_le 48 byte && nat_le byte 57) (nat_le 97 byte && nat_le byte 102)
-    (λ digit. leb-true 48 byte (both_true (nat_le 48 byte) (nat_le byte 57) digit).0)
-    (λ letter. leb-true 97 byte (both_true (nat_le 97 byte) (nat_le byte 102) letter).0) e
+    (λ digit. leb-true 48 byte (and_parts (nat_le 48 byte) (nat_le byte 57) digit).0)
+    (λ letter. leb-true 97 byte (and_parts (nat_le 97 byte) (nat_le byte 102) letter).0) e
 
 -- a spelling in hexadecimal digits has no space and no line feed
 pub hex_plain : (bytes : List ℕ) → All (λ byte. byte < 256) bytes → All IsInk (encode_lower bytes)
@@ -128,8 +128,8 @@ value_at sign false false low high e = cc
 value_of_sign : (sign : ℕ) → is_hex_sign sign ≡ true → HasValue sign
 value_of_sign sign e =
     value_at sign (nat_le 48 sign && nat_le sign 57) (nat_le 97 sign && nat_le sign 102)
-    (λ digit. let parts = both_true (nat_le 48 sign) (nat_le sign 57) digit in (leb-true 48 sign parts.0, leb-true sign 57 parts.1))
-    (λ letter. let parts = both_true (nat_le 97 sign) (nat_le sign 102) letter in (leb-true 97 sign parts.0, leb-true sign 102 parts.1)) e
+    (λ digit. let parts = and_parts (nat_le 48 sign) (nat_le sign 57) digit in (leb-true 48 sign parts.0, leb-true sign 57 parts.1))
+    (λ letter. let parts = and_parts (nat_le 97 sign) (nat_le sign 102) letter in (leb-true 97 sign parts.0, leb-true sign 102 parts.1)) e
 
 -- an even number of hexadecimal digits spells bytes
 pub record SpellsBytes (word : List ℕ) : Type 0 where
@@ -143,8 +143,8 @@ unfolding encode_with
 spells_bytes [] even signs = record { bytes = []; spelled = refl; fit = All-nil (λ byte. byte < 256) }
 spells_bytes (high ∷ []) even signs = absurd (omega arith)
 spells_bytes (high ∷ low ∷ word) even signs =
-    let first = both_true (is_hex_sign high) (is_hex_sign low && list_all is_hex_sign word) signs in
-    let second = both_true (is_hex_sign low) (list_all is_hex_sign word) first.1 in
+    let first = and_parts (is_hex_sign high) (is_hex_sign low && list_all is_hex_sign word) signs in
+    let second = and_parts (is_hex_sign low) (list_all is_hex_sign word) first.1 in
     let a = value_of_sign high first.0 in
     let b = value_of_sign low second.0 in
     let rest = spells_bytes word (omega arith) second.1 in
@@ -164,7 +164,7 @@ digits_found : (word value : List ℕ) → digits_of word ≡ Some value → Are
 digits_found word value e =
     let kept = kept_found (λ w. is_few 8192 w && ((length w % 2 == 0) && list_all is_hex_sign w)) word value e in
     let parts = few_parts 8192 ((length word % 2 == 0) && list_all is_hex_sign word) word kept.0 in
-    let tests = both_true (length word % 2 == 0) (list_all is_hex_sign word) parts.2 in
+    let tests = and_parts (length word % 2 == 0) (list_all is_hex_sign word) parts.2 in
     let even : length word % 2 ≡ 0 = eqb-true (length word % 2) 0 tests.0 in
     let spells = spells_bytes word even tests.1 in
     let count : length word ≡ 2 * length spells.bytes = ap length spells.spelled ∙ length-encode_lower spells.bytes in

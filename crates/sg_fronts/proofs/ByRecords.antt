@@ -1,15 +1,15 @@
 -- The verdict on lines is what it says of whole records.
-use Rattle.std.proofs.Common.{◌≡◌, ◌≢◌, ℕ, inl, inr, Bool, true, false, cond, List, [], ◌++◌, length, take, Option, Some, None, refl, sym, subst, ap, ◌∙◌, arith}
+use Rattle.std.proofs.Common.{◌≡◌, ◌≢◌, ℕ, inl, inr, true, false, List, [], ◌++◌, length, take, Option, Some, None, refl, sym, subst, ap, ◌∙◌, arith}
 use Rattle.std.proofs.lemmas.Bool.{cases_Bool}
 use Rattle.std.proofs.lemmas.List.{take-append-le, take_all}
 use Rattle.std.proofs.lemmas.Option.{none-some}
-use Rattle.std.specs.Prelude.{IsSome, find}
+use Rattle.std.specs.Prelude.{IsSome}
 use Rattle.std.specs.Option.{option_map_or}
+use Rattle.sg_lists.proofs.Finding.{find-passes}
 use Rattle.sg_plan.specs.declared.plan.Plan.{Plan}
 use Rattle.sg_grammar.specs.Laws.{IsFront}
 use Rattle.sg_grammar.specs.Walk.{Posted, Walked, start, walk}
-use Rattle.sg_record.proofs.FormedLaw.{formed_are_whole}
-use Rattle.sg_record.proofs.PlacesLaw.{formed_are_walked}
+use Rattle.sg_record.proofs.PlacesLaw.{formed_are_walked, formed_are_whole}
 use Rattle.sg_record.proofs.WholeLaw.{whole_are_formed}
 use Rattle.sg_record.specs.Laws.{AreLinesOf, AreWhole}
 use Rattle.sg_record.specs.Lines.{texts_in}
@@ -17,6 +17,7 @@ use Rattle.sg_record.specs.Places.{walk_of}
 use Rattle.sg_record.specs.declared.record.Record.{Record}
 use Rattle.sg_check.proofs.Fine.{FrontWalk, all_good-fine, front-walk, none_bad_are_fine}
 use Rattle.sg_check.proofs.Judging.{unwalked-least, walked-least}
+use Rattle.sg_check.proofs.Late.{form_never}
 use Rattle.sg_check.proofs.OfPlan.{plan_lines-none}
 use Rattle.sg_check.proofs.OneMore.{fine-all}
 use Rattle.sg_check.specs.Judging.{first_late, later_kinds}
@@ -85,24 +86,9 @@ least-good lines none = at_walk (walk start lines) refl
 
 -- no kind but those behind form is found among them
 found-later : (plan : Plan) (lines : List Posted) → first_late plan lines ≢ Some kind.Form
-found-later plan lines = not_form (λ k. late (is_bad k plan) [] lines)
-  where
-    one : (b : Bool) (k : Kind) (o : Option Kind) → Some k ≢ Some kind.Form → o ≢ Some kind.Form → cond b (Some k) o ≢ Some kind.Form
-    one true k o there rest = there
-    one false k o there rest = rest
-
-    not_form : (p : Kind → Bool) → find p later_kinds ≢ Some kind.Form
-    not_form p =
-        one (p kind.Seal) kind.Seal _ (λ e. cc)
-        (one (p kind.Opening) kind.Opening _ (λ e. cc)
-        (one (p kind.Side) kind.Side _ (λ e. cc)
-        (one (p kind.Pointer) kind.Pointer _ (λ e. cc)
-        (one (p kind.Flag) kind.Flag _ (λ e. cc)
-        (one (p kind.Path) kind.Path _ (λ e. cc)
-        (one (p kind.Total) kind.Total _ (λ e. cc)
-        (one (p kind.Print) kind.Print _ (λ e. cc)
-        (one (p kind.Rule) kind.Rule _ (λ e. cc)
-        (one (p kind.Dispute) kind.Dispute None (λ e. cc) (λ e. cc))))))))))
+found-later plan lines found =
+    let both : true ≡ false = sym (find-passes (λ k. late (is_bad k plan) [] lines) later_kinds kind.Form found) ∙ form_never plan [] lines in
+    cc
 
 -- another kind than form
 breaks-later : (lines : List (List ℕ)) (posted : Record) (k : Kind) → BeginsWith lines posted → broken_in posted (length lines) ≡ Some k → Breaks lines k

@@ -50,20 +50,16 @@ filling (slot.Total race candidate) = Total race candidate 0
 filling slot.Draw = DrawFull
 filling (slot.Row race instance at) = Row (row.Left no_opening)
 
--- so many numbers
-count-length : (count number : ℕ) → length (replicate count number) ≡ count
-count-length count number = length-replicate count number
-
 -- the line stands in its slot
 filling-fits : (s : Slot) → fits s (filling s) ≡ true
 filling-fits (slot.CodeCommit race entry) = rw (eq-eqb race race refl) refl
 filling-fits (slot.RowCommit race instance at) = rw (eq-eqb race race refl, eq-eqb instance instance refl) refl
 filling-fits (slot.Seal number) = rw (eq-eqb number number refl) refl
-filling-fits (slot.Paper ballot race count) = rw (eq-eqb race race refl, eq-eqb (length (replicate {A = ℕ} count 0)) count (count-length count 0)) refl
+filling-fits (slot.Paper ballot race count) = rw (eq-eqb race race refl, eq-eqb (length (replicate {A = ℕ} count 0)) count (length-replicate count 0)) refl
 filling-fits (slot.Code kind ballot race column) = rw (eq-eqb race race refl, eq-eqb column column refl) refl
 filling-fits (slot.Flags race instance line count) =
-    rw (eq-eqb race race refl, eq-eqb instance instance refl, eq-eqb (length (replicate {A = ℕ} count 48)) count (count-length count 48)) refl
-filling-fits (slot.Places race line count) = rw (eq-eqb race race refl, eq-eqb (length (replicate {A = ℕ} count 48)) count (count-length count 48)) refl
+    rw (eq-eqb race race refl, eq-eqb instance instance refl, eq-eqb (length (replicate {A = ℕ} count 48)) count (length-replicate count 48)) refl
+filling-fits (slot.Places race line count) = rw (eq-eqb race race refl, eq-eqb (length (replicate {A = ℕ} count 48)) count (length-replicate count 48)) refl
 filling-fits (slot.Total race candidate) = rw (eq-eqb race race refl, eq-eqb candidate candidate refl) refl
 filling-fits slot.Draw = refl
 filling-fits (slot.Row race instance at) = refl
@@ -83,11 +79,11 @@ CanFill (slot.Row race instance at) = Unit {0}
 
 -- zeros are bytes
 zero_bytes : (count : ℕ) → AreBytes count (replicate count 0)
-zero_bytes count = (count-length count 0, All-replicate (λ (byte : ℕ). byte < 256) count 0 (omega arith))
+zero_bytes count = (length-replicate count 0, All-replicate (λ (byte : ℕ). byte < 256) count 0 (omega arith))
 
 -- 1 to 64 unset bits are bits of a line
 unset_bits : (count : ℕ) → 1 ≤ count → count ≤ 64 → AreFewBits (replicate count 48)
-unset_bits count one few = (omega (arith, count-length count 48), omega (arith, count-length count 48), (refl, All-replicate IsBit count 48 (inl refl)))
+unset_bits count one few = (omega (arith, length-replicate {A = ℕ} count 48), omega (arith, length-replicate {A = ℕ} count 48), (refl, All-replicate IsBit count 48 (inl refl)))
 
 -- and then its words are of their kinds
 filling-in : (version : ℕ) (s : Slot) → 0 < codes_of version → CanFill s → IsInRange version (filling s)
@@ -95,7 +91,7 @@ filling-in version (slot.CodeCommit race entry) codes can = (can, zero_bytes 32)
 filling-in version (slot.RowCommit race instance at) codes can = (can.0, can.1, zero_bytes 32, zero_bytes 32)
 filling-in version (slot.Seal number) codes can = (can, zero_bytes 32)
 filling-in version (slot.Paper ballot race count) codes can =
-    (can.0, All-replicate (IsCode version) count 0 codes, omega (arith, can.1, count-length count 0), omega (arith, can.2, count-length count 0))
+    (can.0, All-replicate (IsCode version) count 0 codes, omega (arith, can.1, length-replicate {A = ℕ} count 0), omega (arith, can.2, length-replicate {A = ℕ} count 0))
 filling-in version (slot.Code kind ballot race column) codes can = (can.0, can.1, zero_bytes 16, codes)
 filling-in version (slot.Flags race instance line count) codes can = (can.0, can.1, unset_bits count can.2 can.3)
 filling-in version (slot.Places race line count) codes can = (can.0, unset_bits count can.1 can.2)

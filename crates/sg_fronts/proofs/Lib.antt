@@ -5,6 +5,7 @@ pub mod Filled
 pub mod Fronts
 pub mod Heading
 pub mod Names
+pub mod OfRecord
 pub mod PlanFronts
 pub mod Promised
 pub mod Standing

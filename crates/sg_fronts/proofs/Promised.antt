@@ -1,39 +1,34 @@
 -- What a yes promises of lines by their walk is promised of their record.
-use Rattle.std.proofs.Common.{◌≡◌, ℕ, true, false, List, [], ◌∷◌, ◌++◌, Option, Some, refl, sym, subst, ap, ◌∙◌}
+use Rattle.std.proofs.Common.{◌≡◌, ℕ, true, false, List, [], Option, Some, refl, sym, subst, ap, ◌∙◌}
 use Rattle.std.proofs.lemmas.Option.{same_Some}
 use Rattle.std.specs.Option.{option_map_or}
+use Rattle.sg_lists.proofs.Finding.{find-none}
 use Rattle.sg_plan.specs.declared.plan.Plan.{Plan}
 use Rattle.sg_grammar.specs.Lines.{placed_of}
 use Rattle.sg_grammar.specs.Placed.{Placed}
-use Rattle.sg_grammar.specs.Walk.{Posted, Walked, is_whole, start, walk}
-use Rattle.sg_record.proofs.PlacesLaw.{places-many, posts-places}
+use Rattle.sg_grammar.specs.Walk.{Walked, is_whole, start, walk}
 use Rattle.sg_record.specs.Laws.{AreLinesOf}
-use Rattle.sg_record.specs.Lines.{lines_in}
 use Rattle.sg_record.specs.Places.{places_in, walk_of}
 use Rattle.sg_record.specs.declared.record.Record.{Record}
-use Rattle.sg_check.proofs.Finding.{find-none}
+use Rattle.sg_check.proofs.Late.{form_never}
 use Rattle.sg_check.specs.Bounds.{AreAllTotalled, AreTotalsBound, AreTotalsEqual, HasCompletion, HasPrinting, IsSound}
 use Rattle.sg_check.specs.Facts.{is_full_draw}
 use Rattle.sg_check.specs.Judging.{later_kinds}
-use Rattle.sg_check.specs.Kinds.{is_bad}
-use Rattle.sg_check.specs.Verdict.{IsVerdict, breaks, breaks_walked, late, totals_in, totals_of}
+use Rattle.sg_check.specs.Verdict.{IsVerdict, breaks, breaks_walked, totals_in, totals_of}
 use Rattle.sg_check.specs.declared.judged.Judged.TheVariants.{Yes}
 use Rattle.sg_check.specs.declared.judged.Kind.{Kind}
 use Rattle.sg_check.specs.declared.judged.Kind.TheVariants as kind
 use Rattle.sg_check.specs.declared.judged.Total.{Total}
 use Rattle.sg_fronts.proofs.ByRecords.{record_of, verdicts_say, whole-walk}
+use Rattle.sg_fronts.proofs.OfRecord.{placed}
 use Rattle.sg_fronts.specs.ByRecords.{breaks_in, posted_of, totals_on}
 use Rattle.sg_fronts.specs.Promised.{IsBound, IsWholeAndAgrees, SoundIsPromised}
 
 -- KINDS
 
-never-late : (plan : Plan) (before lines : List Posted) → late (is_bad kind.Form plan) before lines ≡ false
-never-late plan before [] = refl
-never-late plan before (line ∷ lines) = never-late plan (before ++ line ∷ []) lines
-
 -- what lines break by their walk is what the record breaks
 broken-in : (lines : List (List ℕ)) (posted : Record) → walk start lines ≡ Some (walk_of posted) → (k : Kind) → breaks k lines ≡ false → breaks_in posted k ≡ false
-broken-in lines posted walks kind.Form none = never-late posted.plan [] (posted_of posted)
+broken-in lines posted walks kind.Form none = form_never posted.plan [] (posted_of posted)
 broken-in lines posted walks k none = sym (ap (λ (o : Option Walked). option_map_or (breaks_walked k) o false) walks) ∙ none
 
 -- a record that agrees has the verdict yes, with its totals
@@ -55,7 +50,7 @@ module _ (lines : List (List ℕ)) (totals : List Total) (sound : IsSound lines 
   same = same_Some sound.walked (walk_of posted) (sym sound.walks ∙ walks)
 
   places_are : placed_of sound.walked.posted ≡ places_in posted
-  places_are = ap (λ (w : Walked). placed_of w.posted) same ∙ posts-places posted.plan.version (lines_in posted) (places_in posted) (places-many posted are.words are.formed)
+  places_are = ap (λ (w : Walked). placed_of w.posted) same ∙ placed posted are.words are.formed
 
   on_record : (P : Plan → List Placed → Type 0) → P sound.walked.next.plan (placed_of sound.walked.posted) → P posted.plan (places_in posted)
   on_record P holds =

@@ -1,12 +1,13 @@
 -- Behind each line of a front the plan is one in the making, and each slot that is due can be filled.
 use Rattle.std.proofs.Common.{◌≡◌, ℕ, ◌+◌, ◌==◌, nat_lt, ◌&&◌, List, [], ◌∷◌, length, Some, sym, subst}
 use Rattle.std.proofs.lemmas.Bool.{and_parts, ltb-true}
+use Rattle.sg_lists.proofs.Options.{option_map-some}
 use Rattle.sg_plan.specs.Ballots.{ballot_has}
 use Rattle.sg_plan.specs.Limits.{most_claims}
 use Rattle.sg_plan.specs.declared.plan.Plan.{Plan}
 use Rattle.sg_forms.specs.Said.{Said}
 use Rattle.sg_forms.specs.Said.Said.{Audited, Ballots, Cast, Code, Dispute, Over, Spoiled, Voided}
-use Rattle.sg_grammar.proofs.Claims.{if_then-claim, option_map-some}
+use Rattle.sg_grammar.proofs.Claims.{if_then-claim}
 use Rattle.sg_grammar.proofs.FirstLines.{take_bytes-line, walk-first, walk-none}
 use Rattle.sg_grammar.proofs.Making.{complete-sizes, made-line, made-start}
 use Rattle.sg_grammar.specs.Due.{commits, due_audit, race_codes, results}

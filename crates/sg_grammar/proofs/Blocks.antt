@@ -8,6 +8,7 @@ use Rattle.std.proofs.lemmas.List.{length-append, take-take}
 use Rattle.std.proofs.lemmas.List.Sums.{sum_by-cons, sum_by-drop_more, sum_by-take-drop, sum_by-take-le}
 use Rattle.std.proofs.lemmas.Nat.{mul-le}
 use Rattle.std.proofs.lemmas.Option.{slice_get-get_or}
+use Rattle.sg_lists.proofs.Sums.{sum-nothing}
 use Rattle.sg_plan.specs.Ballots.{ballot_has, ballot_styles, ballots_of, candidates_of, entries_before, entries_of, rows_of, style_has, style_of_ballot}
 use Rattle.sg_plan.specs.declared.plan.Plan.{Plan}
 use Rattle.sg_grammar.proofs.Sections.{entries-rows, race_codes-length}
@@ -19,10 +20,6 @@ use Rattle.sg_grammar.specs.declared.state.Block.TheVariants as block
 use Rattle.sg_grammar.specs.declared.state.Slot.TheVariants as slot
 
 -- SUMS OVER A LIST
-
-sum-none : (xs : List ℕ) → sum_by (λ x. 0) xs ≡ 0
-sum-none [] = refl
-sum-none (x ∷ xs) = omega (arith, sum_by-cons (λ y. 0) x xs, sum-none xs)
 
 sum-add : (f g : ℕ → ℕ) (xs : List ℕ) → sum_by (λ x. f x + g x) xs ≡ sum_by f xs + sum_by g xs
 sum-add f g [] = refl
@@ -203,7 +200,7 @@ race-lines plan race two =
 
 -- the same of the races before this one
 races-lines : (plan : Plan) (end : ℕ) → HasSizes plan → end ≤ length plan.races → 2 * sum_by (λ style. lines_before plan style end) (ballot_styles plan.runs) ≤ 3 * entries_before plan end
-races-lines plan zero sizes le = omega (arith, sum-none (ballot_styles plan.runs))
+races-lines plan zero sizes le = omega (arith, sum-nothing (ballot_styles plan.runs))
 races-lines plan (suc end) sizes le =
     omega (
       arith,

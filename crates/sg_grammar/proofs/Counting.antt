@@ -3,6 +3,7 @@ use Rattle.std.proofs.Common.{◌≡◌, ℕ, ◌+◌, ◌<◌, ◌≤◌, ◌==
 use Rattle.std.proofs.lemmas.Bool.{and_parts, cases_eq, eq-eqb, leb-true, ltb-true, ne_eqb}
 use Rattle.std.proofs.lemmas.List.{length-append}
 use Rattle.std.proofs.lemmas.Option.{same_Some}
+use Rattle.sg_lists.proofs.Options.{cond_some-then, option_map-some}
 use Rattle.sg_plan.proofs.BallotLists.{count-push}
 use Rattle.sg_plan.proofs.LimitTests.{run_keeps-true}
 use Rattle.sg_plan.proofs.NameTests.{is_within-true}
@@ -14,7 +15,7 @@ use Rattle.sg_plan.specs.declared.plan.Race.{Race as PlanRace}
 use Rattle.sg_forms.specs.Said.{Said}
 use Rattle.sg_forms.specs.Said.Said.{Audited, Ballots, Cand, Cast, Code, Dispute, Election, Instances, Over, Race, Spoiled, Style, Version, Voided}
 use Rattle.sg_grammar.proofs.Blocks.{due_audit-length, blocks-fall, blocks-length, codes-fall, overs-fall}
-use Rattle.sg_grammar.proofs.Claims.{if_some, if_then-claim, option_map-some}
+use Rattle.sg_grammar.proofs.Claims.{if_then-claim}
 use Rattle.sg_grammar.proofs.FirstLines.{take_bytes-line, walk-first, walk-none}
 use Rattle.sg_grammar.proofs.Making.{candidates_within, complete-sizes, length-with_candidate, made-line, made-start}
 use Rattle.sg_grammar.proofs.Sections.{commits-length, race_codes-length, results-length}
@@ -202,7 +203,7 @@ race_line-falls plan (Race name candidates votes) m e =
       length-append plan.races (record { name = name; candidates = []; votes = votes } ∷ []),
     )) e
 race_line-falls plan (Style name races) m e =
-    omega (arith, take_style-falls plan (Style name races) m (if_some (nat_lt 0 (length plan.races)) (take_style plan (Style name races)) m e))
+    omega (arith, take_style-falls plan (Style name races) m (cond_some-then (nat_lt 0 (length plan.races)) (take_style plan (Style name races)) m e))
 race_line-falls plan said m e = cc
 
 candidate_line-falls : (left : ℕ) (plan : Plan) (said : Said) (m : Making) → 1 ≤ left → head_line plan (head.Candidates left) said ≡ Some m

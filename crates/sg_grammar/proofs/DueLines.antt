@@ -1,6 +1,7 @@
 -- A line in the place of the one that is due has coordinates of the plan.
 use Rattle.std.proofs.Common.{◌≡◌, ℕ, ◌+◌, ◌*◌, ◌<◌, ◌≤◌, ◌==◌, ◌&&◌, Bool, true, false, List, length, take, min, refl, sym, ap, subst, ◌∙◌, arith, Option, Some, IfSome, eqb-true}
 use Rattle.std.proofs.lemmas.List.{length-take}
+use Rattle.std.proofs.lemmas.Bool.{and_parts}
 use Rattle.sg_plan.specs.Ballots.{entries_of}
 use Rattle.sg_plan.specs.declared.plan.Plan.{Plan}
 use Rattle.sg_forms.specs.Said.{Said}
@@ -57,13 +58,9 @@ seal_in plan number said = tt
 bits_within : (entries line count bits : ℕ) → line < lines_for entries → count ≡ bits_on entries line → bits ≡ count → 64 * line + bits ≤ entries
 bits_within entries line count bits h e d = omega arith
 
-both_true : (a b : Bool) → a && b ≡ true → b ≡ true
-both_true true b e = e
-both_true false b e = cc
-
 paper_in : (plan : Plan) (ballot race count : ℕ) (said : Said) → IsIn plan (slot.Paper ballot race count) → IfSome (place (slot.Paper ballot race count) said) (IsPlacedIn plan)
 paper_in plan ballot race count (Paper named list) h =
-    if_then_claim (IsPlacedIn plan) (named == race && length list == count) (PaperAt ballot race list) (λ t. (h.0, h.1, h.2, h.3, eqb-true (length list) count (both_true (named == race) (length list == count) t) ∙ h.4))
+    if_then_claim (IsPlacedIn plan) (named == race && length list == count) (PaperAt ballot race list) (λ t. (h.0, h.1, h.2, h.3, eqb-true (length list) count (and_parts (named == race) (length list == count) t).1 ∙ h.4))
 paper_in plan ballot race count said h = tt
 
 code_in : (plan : Plan) (kind : Block) (ballot race column : ℕ) (said : Said) → IsIn plan (slot.Code kind ballot race column) → IfSome (place (slot.Code kind ballot race column) said) (IsPlacedIn plan)
@@ -72,12 +69,12 @@ code_in plan kind ballot race column said h = tt
 
 flags_in : (plan : Plan) (race instance line count : ℕ) (said : Said) → IsIn plan (slot.Flags race instance line count) → IfSome (place (slot.Flags race instance line count) said) (IsPlacedIn plan)
 flags_in plan race instance line count (Flags named of bits) h =
-    if_then_claim (IsPlacedIn plan) ((named == race && of == instance) && length bits == count) (FlagsAt race instance (64 * line) bits) (λ t. (h.0, h.1, bits_within (entries_of plan race) line count (length bits) h.2 h.4 (eqb-true (length bits) count (both_true (named == race && of == instance) (length bits == count) t))))
+    if_then_claim (IsPlacedIn plan) ((named == race && of == instance) && length bits == count) (FlagsAt race instance (64 * line) bits) (λ t. (h.0, h.1, bits_within (entries_of plan race) line count (length bits) h.2 h.4 (eqb-true (length bits) count (and_parts (named == race && of == instance) (length bits == count) t).1)))
 flags_in plan race instance line count said h = tt
 
 places_in : (plan : Plan) (race line count : ℕ) (said : Said) → IsIn plan (slot.Places race line count) → IfSome (place (slot.Places race line count) said) (IsPlacedIn plan)
 places_in plan race line count (Places named bits) h =
-    if_then_claim (IsPlacedIn plan) (named == race && length bits == count) (PlacesAt race (64 * line) bits) (λ t. (h.0, bits_within (entries_of plan race) line count (length bits) h.1 h.3 (eqb-true (length bits) count (both_true (named == race) (length bits == count) t))))
+    if_then_claim (IsPlacedIn plan) (named == race && length bits == count) (PlacesAt race (64 * line) bits) (λ t. (h.0, bits_within (entries_of plan race) line count (length bits) h.1 h.3 (eqb-true (length bits) count (and_parts (named == race) (length bits == count) t).1)))
 places_in plan race line count said h = tt
 
 total_in : (plan : Plan) (race candidate : ℕ) (said : Said) → IsIn plan (slot.Total race candidate) → IfSome (place (slot.Total race candidate) said) (IsPlacedIn plan)

@@ -2,9 +2,9 @@
 use Rattle.std.proofs.Common.{◌≡◌, ℕ, List, [], ◌∷◌, Some, sym, ap}
 use Rattle.std.specs.Option.{option_map}
 use Rattle.std.proofs.lemmas.Option.{same_Some}
+use Rattle.sg_lists.proofs.Options.{option_and_then-some, option_map-some}
 use Rattle.sg_forms.specs.Reading.{line_of}
 use Rattle.sg_forms.specs.Said.{Said}
-use Rattle.sg_grammar.proofs.Claims.{option_and_then-some, option_map-some}
 use Rattle.sg_grammar.specs.Walk.{Next, Taken, Walked, take_bytes, take_line, walk, walked_on}
 
 -- a line's bytes are taken where the line is

@@ -2,6 +2,7 @@
 use Rattle.std.proofs.Common.{◌≡◌, ℕ, zero, suc, ◌+◌, ◌<◌, ◌≤◌, Bool, false, List, [], ◌∷◌, ◌++◌, refl, arith}
 use Rattle.std.proofs.lemmas.Bool.{or_from, or_parts}
 use Rattle.std.specs.List.{list_any}
+use Rattle.sg_lists.proofs.Each.{EachOf, of-append}
 use Rattle.sg_grammar.specs.Due.{numbered}
 use Rattle.sg_grammar.specs.Parting.{Apart, None_of}
 
@@ -82,3 +83,10 @@ apart-numbered clash f at (suc count) within across =
 pub apart-behind : {A : Type 0} (clash : A → A → Bool) (front rest : List A) (x : A) → Apart clash (front ++ x ∷ rest) → None_of (clash x) rest
 apart-behind clash [] rest x apart = apart.0
 apart-behind clash (y ∷ front) rest x apart = apart-behind clash front rest x apart.1
+
+-- lists of which each item has a property
+pub of-numbered : {A : Type 0} (P : A → Type 0) (f : ℕ → List A) (at count : ℕ) → ((k : ℕ) → at ≤ k → k < at + count → EachOf P (f k)) → EachOf P (numbered f at count)
+unfolding numbered
+of-numbered P f at zero all = tt
+of-numbered P f at (suc count) all =
+    of-append P (f at) (numbered f (at + 1) count) (all at (omega arith) (omega arith)) (of-numbered P f (at + 1) count (λ k a b. all k (omega (arith, a)) (omega (arith, b))))

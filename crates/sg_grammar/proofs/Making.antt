@@ -7,8 +7,9 @@ use Rattle.std.proofs.lemmas.Bool.{and_from, and_parts, cases_Bool, cases_eq, ca
 use Rattle.std.proofs.lemmas.List.{append_assoc, append-nil, length-append}
 use Rattle.std.proofs.lemmas.Nat.{mul-le}
 use Rattle.std.proofs.lemmas.Option.{slice_get_past}
+use Rattle.sg_lists.proofs.Counting.{count_by-append, count_by-replicate}
+use Rattle.sg_lists.proofs.Options.{cond_some-then, is_none-true}
 use Rattle.sg_plan.proofs.BallotLists.{ballot_styles-append}
-use Rattle.sg_plan.proofs.Counting.{count_by-append, count_by-replicate}
 use Rattle.sg_plan.proofs.LimitLaws.{no_fault, passes_tests}
 use Rattle.sg_plan.proofs.LimitTests.{runs-true}
 use Rattle.sg_plan.proofs.Lists.{None-first_fault, each_keeps-push, first_fault-None}
@@ -23,7 +24,7 @@ use Rattle.sg_plan.specs.declared.plan.Run.{Run}
 use Rattle.sg_plan.specs.declared.plan.Style.{Style as PlanStyle}
 use Rattle.sg_forms.specs.Said.{Said}
 use Rattle.sg_forms.specs.Said.Said.{Ballots, Cand, Election, Instances, Race, Style, Version}
-use Rattle.sg_grammar.proofs.Claims.{if_some, if_then-claim, is_none-None}
+use Rattle.sg_grammar.proofs.Claims.{if_then-claim}
 use Rattle.sg_grammar.specs.Head.{Making, behind_candidate, has_runs, head_line, last_candidates, made, no_plan, take_run, take_style, with_cand, with_candidate, with_instances, with_name, with_race, with_run, with_style, with_version}
 use Rattle.sg_grammar.specs.Made.{HasFront, HasNoRaces, HasNoStyles, HasRaces, HasRacesBut, HasSizes, HasStyles, IsComplete, IsMade, IsSmall, races_keep_but}
 use Rattle.sg_grammar.specs.declared.state.Head.{Head}
@@ -169,7 +170,7 @@ race_line-made plan (Race name candidates votes) m front whole none e =
 race_line-made plan (Style name races) m front whole none e =
     let some : 1 ≤ length plan.races = some_races plan (length plan.races) m name races e in
     take_style-made plan name races m front whole some (ap (λ l. each_keeps (style_keeps (length plan.races)) [] l) none.styles) none.runs
-    (if_some (nat_lt 0 (length plan.races)) (take_style plan (Style name races)) m e)
+    (cond_some-then (nat_lt 0 (length plan.races)) (take_style plan (Style name races)) m e)
   where
     some_races : (p : Plan) (n : ℕ) (x : Making) (word list : List ℕ) → cond (nat_lt 0 n) (take_style p (Style word list)) None ≡ Some x → 1 ≤ n
     some_races p zero x word list none_there = cc
@@ -376,7 +377,7 @@ complete-fault plan whole =
 -- a plan without runs is at fault
 pub no_runs-fault : (plan : Plan) → plan.runs ≡ [] → is_none (fault_of plan) ≡ false
 no_runs-fault plan none = elim (cases_Bool (is_none (fault_of plan))) [
-  | inl fine ↦ absurd (some_runs (passes_tests plan (is_none-None (fault_of plan) fine)))
+  | inl fine ↦ absurd (some_runs (passes_tests plan (is_none-true (fault_of plan) fine)))
   | inr at_fault ↦ at_fault
 ]
   where

@@ -3,13 +3,14 @@ use Rattle.std.proofs.Common.{◌≡◌, ℕ, ◌+◌, ◌-◌, ◌==◌, ◌⊎
 use Rattle.std.specs.List.{list_any}
 use Rattle.std.proofs.lemmas.Bool.{or_from, or_parts}
 use Rattle.std.proofs.lemmas.Option.{cond_some, same_Some}
+use Rattle.sg_lists.proofs.Options.{option_map-some}
 use Rattle.sg_plan.specs.Limits.{most_claims}
 use Rattle.sg_plan.specs.Ballots.{ballot_has, candidates_of, entries_of}
 use Rattle.sg_plan.specs.declared.plan.ClaimWord.{ClaimWord}
 use Rattle.sg_plan.specs.declared.plan.Plan.{Plan}
 use Rattle.sg_forms.specs.Said.{Said}
 use Rattle.sg_forms.specs.Said.Said.{Audited, Ballots, Cast, Code, Dispute, Over, Spoiled, Voided}
-use Rattle.sg_grammar.proofs.Claims.{if_then-claim, option_map-some}
+use Rattle.sg_grammar.proofs.Claims.{if_then-claim}
 use Rattle.sg_grammar.proofs.FirstLines.{take_bytes-line, walk-first}
 use Rattle.sg_grammar.specs.Due.{due_audit, ballot_codes, ballot_paper, code_commit, code_line, commits, each, instance_row_commits, race_code_commits, race_codes, race_row_commits, results, row_commit}
 use Rattle.sg_grammar.specs.Head.{head_line}

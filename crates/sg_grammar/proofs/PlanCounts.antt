@@ -4,6 +4,7 @@ use Rattle.std.specs.Prelude.{Err, IfOk, IsSome, Ok, OnErr, Result}
 use Rattle.std.proofs.lemmas.Bool.{and_parts}
 use Rattle.std.proofs.lemmas.Option.{cond_some}
 use Rattle.std.proofs.lemmas.List.{length-append}
+use Rattle.sg_lists.proofs.Options.{cond_some-then}
 use Rattle.sg_plan.proofs.BallotLists.{count-push}
 use Rattle.sg_plan.proofs.IndexLists.{few_runs_of, numbers-push}
 use Rattle.sg_plan.specs.Ballots.{ballot_styles, candidates_of, entries_of, r_rows, style_has}
@@ -14,7 +15,7 @@ use Rattle.sg_plan.specs.declared.plan.Plan.{Plan}
 use Rattle.sg_plan.specs.declared.plan.Run.{Run}
 use Rattle.sg_forms.specs.Said.{Said}
 use Rattle.sg_forms.specs.Said.Said.{Ballots, Cand, Election, Instances, Race, Style, Version}
-use Rattle.sg_grammar.proofs.Claims.{if_some, if_then-claim}
+use Rattle.sg_grammar.proofs.Claims.{if_then-claim}
 use Rattle.sg_grammar.specs.Head.{Making, behind_candidate, has_runs, head_line, last_candidates, made, take_run, take_style, with_cand, with_instances, with_name, with_race, with_run, with_style, with_version}
 use Rattle.sg_grammar.specs.Made.{IsMade}
 use Rattle.sg_grammar.specs.Slots.{IsCounted, RunFits, TellsEntries, is_run}
@@ -120,7 +121,7 @@ early_style plan name races m e = if_then-claim IsEarly (nat_lt (length plan.sty
 
 early_race : (plan : Plan) (said : Said) (m : Making) → head_line plan head.Races said ≡ Some m → IsEarly m
 early_race plan (Race name candidates votes) m e = if_then-claim IsEarly (nat_lt (length plan.races) most_races && race_head_keeps plan.races name candidates votes) (made (with_race plan name votes) (head.Candidates candidates)) m (λ _. refl) e
-early_race plan (Style name races) m e = early_style plan name races m (if_some (nat_lt 0 (length plan.races)) (take_style plan (Style name races)) m e)
+early_race plan (Style name races) m e = early_style plan name races m (cond_some-then (nat_lt 0 (length plan.races)) (take_style plan (Style name races)) m e)
 early_race plan said m e = cc
 
 early_candidate : (left : ℕ) (plan : Plan) (said : Said) (m : Making) → head_line plan (head.Candidates left) said ≡ Some m → IsEarly m

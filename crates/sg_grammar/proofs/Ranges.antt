@@ -3,6 +3,7 @@ use Rattle.std.proofs.Common.{◌≡◌, ℕ, zero, suc, ◌+◌, ◌-◌, ◌*�
 use Rattle.std.specs.Option.{option_map_or}
 use Rattle.std.proofs.lemmas.Bool.{and_parts, eqb-true, leb-true, ltb-true}
 use Rattle.std.proofs.lemmas.Option.{same_Some, slice_get_cases}
+use Rattle.sg_lists.proofs.Options.{option_map-some}
 use Rattle.sg_plan.specs.Limits.{most_claims}
 use Rattle.sg_plan.proofs.PlanLaws.{ballot_has-true}
 use Rattle.sg_plan.specs.Ballots.{ballot_has, ballots_of, candidates_of, entries_of}
@@ -12,7 +13,7 @@ use Rattle.sg_forms.proofs.LineLaws.{lines_are_spelled}
 use Rattle.sg_forms.specs.Said.{Said}
 use Rattle.sg_forms.specs.Said.Said.{Audited, Ballots, Cast, Code, CodeCommit, Dispute, DrawFull, DrawPublic, Flags, Over, Paper, Places, Row, RowCommit, Seal, Spoiled, Total, Voided}
 use Rattle.sg_forms.specs.Spelling.{IsInRange}
-use Rattle.sg_grammar.proofs.Claims.{if_then-claim, option_map-some}
+use Rattle.sg_grammar.proofs.Claims.{if_then-claim}
 use Rattle.sg_grammar.proofs.FirstLines.{take_bytes-line, walk-first}
 use Rattle.sg_grammar.proofs.Walking.{take_line-behind, take_line-head, take_line-plan}
 use Rattle.sg_grammar.specs.Due.{due_audit, ballot_codes, ballot_paper, bits_on, code_commit, code_line, commits, each, due_flags, instance_flags, instance_row_commits, instance_rows, lines_for, numbered, due_places, race_code_commits, race_codes, race_places, race_results, race_row_commits, race_rows, race_totals, results, row_commit, row_opening, due_totals}

@@ -2,13 +2,15 @@
 use Rattle.std.proofs.Common.{◌≡◌, ℕ, zero, suc, ◌+◌, ◌-◌, ◌*◌, ◌==◌, ◌≤◌, nat_lt, Bool, true, false, ◌&&◌, cond, if◌then◌else◌, List, [], ◌∷◌, ◌++◌, length, map, count_by, Some, refl, subst, arith}
 use Rattle.std.proofs.lemmas.List.Sums.{sum_by-cons}
 use Rattle.std.proofs.lemmas.Option.{same_Some}
+use Rattle.sg_lists.proofs.Bools.{one_if}
+use Rattle.sg_lists.proofs.Counting.{count_by-append}
+use Rattle.sg_lists.proofs.Options.{option_map-some}
 use Rattle.sg_plan.specs.Limits.{most_claims}
-use Rattle.sg_plan.proofs.Counting.{count_by-append}
 use Rattle.sg_plan.specs.Ballots.{ballot_has, candidates_of, entries_of}
 use Rattle.sg_plan.specs.declared.plan.Plan.{Plan}
 use Rattle.sg_forms.specs.Said.{Said}
 use Rattle.sg_forms.specs.Said.Said.{Audited, Ballots, Cast, Code, CodeCommit, Dispute, DrawFull, DrawPublic, Flags, Over, Paper, Places, Row, RowCommit, Seal, Spoiled, Voided}
-use Rattle.sg_grammar.proofs.Claims.{if_then-claim, option_map-some}
+use Rattle.sg_grammar.proofs.Claims.{if_then-claim}
 use Rattle.sg_grammar.proofs.Counting.{start-made, take_line-made}
 use Rattle.sg_grammar.proofs.FirstLines.{take_bytes-line, walk-first}
 use Rattle.sg_grammar.proofs.Making.{complete-sizes, made-line, made-start}
@@ -108,26 +110,22 @@ results-totals plan sizes =
 
 -- A LINE BEHIND THE PLAN
 
--- one, where the test is passed
-abbrev one : Bool → ℕ
-one test = (if test then 1 else 0)
-
 -- with this line and behind it at most so many totals come
 abbrev Keeps : ℕ → Taken → Type 0
-Keeps most taken = one (is_total_line taken.placed) + totals_left taken.next ≤ most
+Keeps most taken = one_if (is_total_line taken.placed) + totals_left taken.next ≤ most
 
 keeps-more : (few most : ℕ) (t : Taken) → few ≤ most → Keeps few t → Keeps most t
 keeps-more few most t le keeps = omega arith
 
 -- a line behind which these lines are due
 keeps-took : (plan : Plan) (due : List Slot) (may_begin : Part) (most : ℕ) (placed : Placed)
-    → one (is_total_line placed) + (count_by is_total due + part_totals plan may_begin) ≤ most → Keeps most (took placed (behind plan due may_begin))
+    → one_if (is_total_line placed) + (count_by is_total due + part_totals plan may_begin) ≤ most → Keeps most (took placed (behind plan due may_begin))
 unfolding totals_left
 keeps-took plan due may_begin most placed few = few
 
 -- only a total is placed where one is due
 abbrev IsNoMore : Slot → Placed → Type 0
-IsNoMore slot placed = one (is_total_line placed) ≤ one (is_total slot)
+IsNoMore slot placed = one_if (is_total_line placed) ≤ one_if (is_total slot)
 
 place-total : (s : Slot) (said : Said) (placed : Placed) → place s said ≡ Some placed → IsNoMore s placed
 place-total (slot.CodeCommit race entry) (CodeCommit named digest) placed e =
@@ -154,7 +152,7 @@ place-total (slot.Places race line count) (Places named bits) placed e =
 place-total (slot.Places race line count) said placed e = cc
 place-total (slot.Total race candidate) said placed e = at_line (is_total_line placed)
   where
-    at_line : (b : Bool) → one b ≤ 1
+    at_line : (b : Bool) → one_if b ≤ 1
     at_line true = omega arith
     at_line false = omega arith
 place-total slot.Draw DrawFull placed e = subst (IsNoMore slot.Draw) (same_Some DrawnFull placed e) (omega arith)
@@ -169,7 +167,7 @@ due-keeps : (plan : Plan) (s : Slot) (due : List Slot) (may_begin : Part) (said 
     → Keeps (count_by is_total (s ∷ due) + part_totals plan may_begin) t
 due-keeps plan s due may_begin said t e =
     let from = option_map-some (λ line. took line (behind plan due may_begin)) (place s said) t e in
-    let count = sum_by-cons (λ (x : Slot). one (is_total x)) s due in
+    let count = sum_by-cons (λ (x : Slot). one_if (is_total x)) s due in
     subst (λ (x : Taken). Keeps (count_by is_total (s ∷ due) + part_totals plan may_begin) x) from.2
     (keeps-took plan due may_begin (count_by is_total (s ∷ due) + part_totals plan may_begin) from.0 (omega (arith, count, place-total s said from.0 from.1)))
 
@@ -277,7 +275,7 @@ walk-totals next (bytes ∷ lines) w kept e =
     let on = walk-first next bytes lines w e in
     let line = take_bytes-line next bytes on.taken on.first in
     let rest = walk-totals on.taken.next lines on.rest (take_line-made next line.0 on.taken kept line.2) on.others in
-    let count = sum_by-cons (λ (x : Placed). one (is_total_line x)) on.taken.placed (map (λ (p : Posted). p.line) on.rest.posted) in
+    let count = sum_by-cons (λ (x : Placed). one_if (is_total_line x)) on.taken.placed (map (λ (p : Posted). p.line) on.rest.posted) in
     subst (λ (x : Walked). totals_in x.posted + totals_left x.next ≤ totals_left next) on.is
     (omega (arith, rest, count, take_line-totals next line.0 on.taken kept line.2))
 

@@ -3,13 +3,13 @@ use Rattle.std.proofs.Common.{◌≡◌, ℕ, ◌+◌, ◌==◌, ◌&&◌, nat_l
 use Rattle.std.specs.Option.{is_some, option_map}
 use Rattle.std.specs.Prelude.{IsSome, option_and_then}
 use Rattle.std.proofs.lemmas.Option.{cond_some, none-some, same_Some}
+use Rattle.sg_lists.proofs.Options.{is_some-true, option_and_then-some}
 use Rattle.sg_plan.specs.Ballots.{ballot_has}
 use Rattle.sg_plan.specs.Limits.{fault_of, most_claims}
 use Rattle.sg_plan.specs.declared.plan.Plan.{Plan}
 use Rattle.sg_forms.specs.Reading.{line_of}
 use Rattle.sg_forms.specs.Said.{Said}
 use Rattle.sg_forms.specs.Said.Said.{Audited, Ballots, Cast, Code, Dispute, Over, Spoiled, Voided}
-use Rattle.sg_grammar.proofs.Claims.{option_and_then-some}
 use Rattle.sg_grammar.proofs.FirstLines.{walk-first}
 use Rattle.sg_grammar.proofs.Making.{complete-sizes, runs-fault, whole-fault}
 use Rattle.sg_grammar.proofs.PlanCounts.{some_value}
@@ -60,19 +60,11 @@ pub ruleset sizes = (sizes_runs, sizes_whole, take_at-none)
 
 -- THE STEPS OF THE PROGRAM
 
-pub none_there : {A : Type 0} (o : Option A) → is_some o ≡ false → o ≡ None
-none_there None e = refl
-none_there (Some x) e = cc
-
-pub some_there : {A : Type 0} (o : Option A) → is_some o ≡ true → (x : A) × (o ≡ Some x)
-some_there None e = cc
-some_there (Some x) e = (x, refl)
-
 -- a line of the plan may stand among those of the plan
 pub taken_in_head : (next : Next) (said : Said) → is_some (head_line next.plan next.head said) ≡ true → is_some (take_line next said) ≡ true
 unfolding take_line
 taken_in_head next said e =
-    let there = some_there (head_line next.plan next.head said) e in
+    let there = is_some-true (head_line next.plan next.head said) e in
     ap is_some (take_at-head next.plan next.head next.due next.part said there.0 there.1)
 
 -- another line may stand where it is taken

@@ -11,7 +11,7 @@ use Rattle.sg_keeper.specs.declared.setup.Setup.{Setup}
 use Rattle.sg_histories.specs.Histories.{Entry, stage_of}
 use Rattle.sg_histories.specs.KeptRows.{rows_of}
 use Rattle.sg_histories.specs.Lawful.{Lawful}
-use Rattle.sg_histories.specs.ValidRows.{Whole, opening}
+use Rattle.sg_histories.specs.Opens.{OpenTo, Whole}
 use Rattle.sg_openings.specs.Openings.{openings_text}
 use Rattle.sg_clerk.specs.Shown.{CutsShort, IsDamaged, IsEmpty, LacksMemory, LoadFails}
 
@@ -39,7 +39,7 @@ due_of setup history = due_at setup (stage_of history)
 
 -- the rows are those of an office with this setup, and the draw of each history whose rows they are is made, or is not
 pub record IsOffice (setup : Setup) (drawn : Bool) (rows : Rows) : Type 0 where
-  pub whole : opening rows ≡ Whole setup
+  pub whole : OpenTo rows (Whole setup)
   pub each : (text : List ℕ) (history : List Entry) → Lawful setup history → rows ≡ rows_of setup text history → is_drawn (stage_of history) ≡ drawn
 
 -- where rows are told they are those of an office whose draw is made, and the openings of all its rows were written

@@ -1,5 +1,7 @@
 -- What an accepted act tells of the history before it.
 use Rattle.std.proofs.Common.{◌≡◌, ℕ, ◌==◌, Bool, true, false, ◌&&◌, not, cond, List, [], ◌∷◌, Option, Some, None, is_none, refl, sym, ap, ◌∙◌}
+use Rattle.std.proofs.lemmas.Bool.{not-true}
+use Rattle.sg_lists.proofs.Options.{is_none-true}
 use Rattle.sg_plan.specs.declared.plan.Fate.{Fate}
 use Rattle.sg_plan.specs.declared.plan.Fate.TheVariants as fate
 use Rattle.sg_plan.specs.declared.plan.Plan.{Plan}
@@ -21,10 +23,6 @@ first_none (Some x) os e = cc
 pub unless_none : (b : Bool) (r : Reply) → unless b r ≡ None → b ≡ true
 unless_none true r e = refl
 unless_none false r e = cc
-
-pub none_is : {A : Type 0} (o : Option A) → is_none o ≡ true → o ≡ None
-none_is None e = refl
-none_is (Some x) e = cc
 
 -- no act has the number of a stamp just where none is repeated
 unstamped : (setup : Setup) (history : List Entry) (stamp : Stamp) (asked : Act) → is_none (act_of_stamp history stamp.station stamp.number) ≡ is_none (repeat_of setup history stamp asked)
@@ -56,7 +54,7 @@ next_early setup history stamp asked = ap (λ (b : Bool). cond b (entry_of stamp
 
 -- then there is no such reply
 pub none_early : (setup : Setup) (history : List Entry) (stamp : Stamp) (asked : Act) → accepts setup history stamp asked ≡ true → early_reply setup history stamp asked ≡ None
-none_early setup history stamp asked accepted = none_is (early_reply setup history stamp asked) (sym (accepts_is setup history stamp asked) ∙ accepted)
+none_early setup history stamp asked accepted = is_none-true (early_reply setup history stamp asked) (sym (accepts_is setup history stamp asked) ∙ accepted)
 
 -- a new act that is accepted
 pub record Passed (setup : Setup) (history : List Entry) (stamp : Stamp) (asked : Act) : Type 0 where
@@ -97,11 +95,7 @@ voids plan now told scanner station ballot e =
     let two = first_none (unless (is_ballot plan ballot) reply.Ballot) _ one.1 in
     let three = first_none (unless (is_cast_word told) (reply.Fate told)) _ two.1 in
     let four = first_none (unless (not (station == scanner)) (reply.Station scanner)) _ three.1 in
-    record { voting = unless_none _ _ one.0; ballot_is = unless_none _ _ two.0; cast = unless_none _ _ three.0; other = not_true (station == scanner) (unless_none _ _ four.0) }
-  where
-    not_true : (b : Bool) → not b ≡ true → b ≡ false
-    not_true true e = cc
-    not_true false e = refl
+    record { voting = unless_none _ _ one.0; ballot_is = unless_none _ _ two.0; cast = unless_none _ _ three.0; other = not-true (station == scanner) (unless_none _ _ four.0) }
 
 pub unused_is : (told : Fate) → is_unused (fate_word told) ≡ true → told ≡ fate.Unused
 unused_is fate.Unused e = refl

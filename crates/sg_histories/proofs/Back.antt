@@ -8,6 +8,8 @@ use Rattle.std.proofs.lemmas.Bool.{and_parts}
 use Rattle.std.proofs.lemmas.Bool.Decides.{nat_tests}
 use Rattle.std.proofs.lemmas.Int.{ints}
 use Rattle.std.proofs.lemmas.Slice.Eq.{bytes_eq-Decides}
+use Rattle.sg_lists.proofs.Bools.{not_or_parts}
+use Rattle.sg_lists.proofs.Integers.{higher_differs, lower_differs}
 use Rattle.sg_plan.specs.Limits.{each_keeps, first_bad}
 use Rattle.sg_plan.proofs.Lists.{first_bad-each}
 use Rattle.sg_keeper.specs.Rows.{ballot_before, ballot_is, done_before, done_is, is_new, put, void_before, void_is}
@@ -28,6 +30,14 @@ use Rattle.sg_histories.proofs.NewKeys.{any_put}
 use Rattle.sg_histories.proofs.OutDones.{same_done}
 use Rattle.sg_histories.proofs.Pairing.{BeforeAll, Rises}
 use Rattle.sg_histories.proofs.Rising.{IsOrder, before_more, climbs_last}
+
+-- TESTS
+
+pub same_bad : {A : Type 0} (keeps other : List A → A → Bool) (earlier rows : List A) → ((front : List A) (x : A) → keeps front x ≡ other front x) → first_bad keeps earlier rows ≡ first_bad other earlier rows
+same_bad keeps other earlier [] same = refl
+same_bad keeps other earlier (x ∷ rows) same =
+    ap (λ b. cond b (first_bad keeps (earlier ++ x ∷ []) rows) (Some (length earlier))) (same earlier x)
+    ∙ ap (λ o. cond (other earlier x) o (Some (length earlier))) (same_bad keeps other (earlier ++ x ∷ []) rows same)
 
 -- RISING
 
@@ -89,12 +99,6 @@ new_out before same differ row (x ∷ xs) h = by_order (before row x) h (λ k. n
     by_order true k ih = new_before before same differ row (x ∷ xs) k.0
     by_order false k ih = rw ((differ x row (out_before before x row xs k.0).0).1) (ih k.1)
 
-ints_differ : (a b : ℤ) → int_lt a b ≡ true → int_eq b a ≡ false
-ints_differ a b h = grind (arith, ints, h)
-
-ints_differ_too : (a b : ℤ) → int_lt a b ≡ true → int_eq a b ≡ false
-ints_differ_too a b h = grind (arith, ints, h)
-
 pairs_differ : (a b n m : ℤ) → (int_lt a b || (int_eq a b && int_lt n m)) ≡ true → (int_eq b a && int_eq m n) ≡ false
 pairs_differ a b n m h = grind (arith, ints, h)
 
@@ -102,10 +106,10 @@ pairs_differ_too : (a b n m : ℤ) → (int_lt a b || (int_eq a b && int_lt n m)
 pairs_differ_too a b n m h = grind (arith, ints, h)
 
 pub ballots_differ : Differ ballot_before ballot_is
-ballots_differ a b h = (ints_differ a.ballot b.ballot h, ints_differ_too a.ballot b.ballot h)
+ballots_differ a b h = (higher_differs b.ballot a.ballot h, lower_differs a.ballot b.ballot h)
 
 pub voids_differ : Differ void_before void_is
-voids_differ a b h = (ints_differ a.ballot b.ballot h, ints_differ_too a.ballot b.ballot h)
+voids_differ a b h = (higher_differs b.ballot a.ballot h, lower_differs a.ballot b.ballot h)
 
 pub dones_differ : Differ done_before done_is
 dones_differ a b h = (pairs_differ a.station b.station a.number b.number h, pairs_differ_too a.station b.station a.number b.number h)
@@ -136,10 +140,6 @@ row_back setup row done stations stamp words =
     back a b c x y z e f g =
         ap (λ (v : ℤ). record { station = v; number = b; act = c }) e ∙ (ap (λ (v : ℤ). record { station = x; number = v; act = c }) f ∙ ap (λ (v : List ℕ). record { station = x; number = y; act = v }) g)
 
-none_of : (a b : Bool) → not (a || b) ≡ true → (a ≡ false) × (not b ≡ true)
-none_of true b e = cc
-none_of false b e = (refl, e)
-
 passed_over : (b : Bool) (said : Reply) (rest : Option Reply) → b ≡ false → rest ≡ None → cond b (Some said) rest ≡ None
 passed_over true said rest e f = cc
 passed_over false said rest e f = f
@@ -152,7 +152,7 @@ repeat_new setup text (entry ∷ history) stamp asked words e =
     let row : DoneRow = record { station = pos stamp.station; number = pos stamp.number; act = words } in
     let split : not (done_is (done_row setup.plan.version entry) row || list_any (λ kept. done_is kept row) (rows_of setup text history).dones) ≡ true
     = ap not (sym (any_put done_before (λ kept. done_is kept row) (done_row setup.plan.version entry) (rows_of setup text history).dones)) ∙ e in
-    let parts = none_of _ _ split in
+    let parts = not_or_parts _ _ split in
     let t : is_stamped stamp.station stamp.number entry ≡ false = sym (same_done setup.plan.version stamp.station stamp.number words entry) ∙ parts.0 in
     passed_over _ _ _ t (repeat_new setup text history stamp asked words parts.1)
 

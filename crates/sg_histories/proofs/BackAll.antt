@@ -5,10 +5,12 @@ use Rattle.std.proofs.lemmas.Bool.{and_parts}
 use Rattle.std.proofs.lemmas.Bool.Decides.{nat_tests}
 use Rattle.std.proofs.lemmas.List.{append_assoc, append-nil}
 use Rattle.std.proofs.lemmas.Slice.Eq.{bytes_eq-Decides}
+use Rattle.sg_lists.proofs.Bools.{one_if}
+use Rattle.sg_lists.proofs.Counting.{count_by-append}
+use Rattle.sg_lists.proofs.Lists.{cons_parts}
 use Rattle.sg_plan.specs.Limits.{each_keeps, first_bad}
 use Rattle.sg_plan.specs.declared.plan.Stage.{Stage}
 use Rattle.sg_plan.specs.declared.plan.Stage.TheVariants as stage
-use Rattle.sg_plan.proofs.Counting.{count_by-append}
 use Rattle.sg_keeper.specs.Rows.{ballot_before, ballot_is, done_before, done_is, put, void_before, void_is, with_row}
 use Rattle.sg_acts.specs.declared.asks.Act.{Act}
 use Rattle.sg_acts.specs.declared.asks.Act.TheVariants as act
@@ -36,7 +38,7 @@ use Rattle.sg_histories.proofs.BackTold.{ActsOf, ClaimsOf, StageOf, acts_from, c
 use Rattle.sg_histories.proofs.BackVoids.{void_acts, voids_lead}
 use Rattle.sg_histories.proofs.DoneOrder.{done_asym}
 use Rattle.sg_histories.proofs.Fitting.{claims}
-use Rattle.sg_histories.proofs.OutDones.{claim_rows, claims_out, count_cons, count_tables, one}
+use Rattle.sg_histories.proofs.OutDones.{claim_rows, claims_out, count_cons, count_tables}
 use Rattle.sg_histories.proofs.OutRows.{stage_rows, stages_out}
 use Rattle.sg_histories.proofs.Pairing.{Rises, how_many, pair_off, put_all}
 use Rattle.sg_histories.proofs.Rising.{ballot_order, done_order, void_order}
@@ -56,16 +58,16 @@ count_upto stations told earlier (x ∷ xs) e text few =
     (count_upto stations told (earlier ++ x ∷ []) xs parts.1 text (by_text (bytes_eq x.act text) refl low a b))
   where
     by_text : (t : Bool) → bytes_eq x.act text ≡ t → nat_lt (count_done x.act earlier) (count_told x.act told) ≡ true
-        → count_done text (earlier ++ x ∷ []) ≡ count_done text earlier + count_done text (x ∷ []) → count_done text (x ∷ []) ≡ one (bytes_eq x.act text) + 0
+        → count_done text (earlier ++ x ∷ []) ≡ count_done text earlier + count_done text (x ∷ []) → count_done text (x ∷ []) ≡ one_if (bytes_eq x.act text) + 0
         → count_done text (earlier ++ x ∷ []) ≤ count_told text told
     by_text true k low a b =
         let is : x.act ≡ text = (bytes_eq-Decides x.act text).0 k in
         let below : nat_lt (count_done text earlier) (count_told text told) ≡ true = ap (λ (w : List ℕ). nat_lt (count_done w earlier) (count_told w told)) (sym is) ∙ low in
         let less : count_done text earlier < count_told text told = grind (arith, nat_tests, below) in
-        let z : one (bytes_eq x.act text) ≡ 1 = ap one k in
+        let z : one_if (bytes_eq x.act text) ≡ 1 = ap one_if k in
         omega (arith, a, b, z, less)
     by_text false k low a b =
-        let z : one (bytes_eq x.act text) ≡ 0 = ap one k in
+        let z : one_if (bytes_eq x.act text) ≡ 0 = ap one_if k in
         omega (arith, a, b, z, few)
 
 -- and no fewer
@@ -76,14 +78,14 @@ all_least told (x ∷ some) rows e text more =
     let parts = and_parts (nat_le (count_told x told) (count_done x rows)) (list_all (λ w. nat_le (count_told w told) (count_done w rows)) some) e in
     by_text (bytes_eq x text) refl parts.0 (count_cons (λ (w : List ℕ). bytes_eq w text) x some) (all_least told some rows parts.1 text)
   where
-    by_text : (t : Bool) → bytes_eq x text ≡ t → nat_le (count_told x told) (count_done x rows) ≡ true → count_told text (x ∷ some) ≡ one (bytes_eq x text) + count_told text some
+    by_text : (t : Bool) → bytes_eq x text ≡ t → nat_le (count_told x told) (count_done x rows) ≡ true → count_told text (x ∷ some) ≡ one_if (bytes_eq x text) + count_told text some
         → (0 < count_told text some → count_told text told ≤ count_done text rows) → count_told text told ≤ count_done text rows
     by_text true k low c ih =
         let is : x ≡ text = (bytes_eq-Decides x text).0 k in
         let here : nat_le (count_told text told) (count_done text rows) ≡ true = ap (λ (w : List ℕ). nat_le (count_told w told) (count_done w rows)) (sym is) ∙ low in
         grind (arith, nat_tests, here)
     by_text false k low c ih =
-        let z : one (bytes_eq x text) ≡ 0 = ap one k in
+        let z : one_if (bytes_eq x text) ≡ 0 = ap one_if k in
         ih (let m : 0 < count_told text (x ∷ some) = more in omega (arith, c, z, m))
 
 no_missing : (b : Bool) (last : ℕ) (place : Option ℕ) → or_missing b last place ≡ None → (place ≡ None) × (b ≡ true)
@@ -105,9 +107,9 @@ how_count : {A : Type 0} (p : A → Bool) (xs : List A) → how_many p xs ≡ co
 how_count p [] = refl
 how_count p (x ∷ xs) = by_test (p x) refl (how_count p xs) (count_cons p x xs)
   where
-    by_test : (b : Bool) → p x ≡ b → how_many p xs ≡ count_by p xs → count_by p (x ∷ xs) ≡ one (p x) + count_by p xs → how_many p (x ∷ xs) ≡ count_by p (x ∷ xs)
-    by_test true k ih c = (let a : how_many p (x ∷ xs) ≡ 1 + how_many p xs = ap (λ b. Rattle.sg_histories.proofs.Pairing.one b + how_many p xs) k in let z : one (p x) ≡ 1 = ap one k in omega (arith, a, z, ih, c))
-    by_test false k ih c = (let a : how_many p (x ∷ xs) ≡ 0 + how_many p xs = ap (λ b. Rattle.sg_histories.proofs.Pairing.one b + how_many p xs) k in let z : one (p x) ≡ 0 = ap one k in omega (arith, a, z, ih, c))
+    by_test : (b : Bool) → p x ≡ b → how_many p xs ≡ count_by p xs → count_by p (x ∷ xs) ≡ one_if (p x) + count_by p xs → how_many p (x ∷ xs) ≡ count_by p (x ∷ xs)
+    by_test true k ih c = (let a : how_many p (x ∷ xs) ≡ 1 + how_many p xs = ap (λ b. Rattle.sg_histories.proofs.Pairing.one b + how_many p xs) k in let z : one_if (p x) ≡ 1 = ap one_if k in omega (arith, a, z, ih, c))
+    by_test false k ih c = (let a : how_many p (x ∷ xs) ≡ 0 + how_many p xs = ap (λ b. Rattle.sg_histories.proofs.Pairing.one b + how_many p xs) k in let z : one_if (p x) ≡ 0 = ap one_if k in omega (arith, a, z, ih, c))
 
 texts_append : (version : ℕ) (text : List ℕ) (xs ys : List Act) → count_told text (texts version (xs ++ ys)) ≡ count_told text (texts version xs) + count_told text (texts version ys)
 texts_append version text [] ys = omega arith
@@ -119,18 +121,12 @@ texts_append version text (x ∷ xs) ys =
 
 -- PAIRS
 
-head_same : (x y : List ℕ) (xs ys : List (List ℕ)) → x ∷ xs ≡ y ∷ ys → x ≡ y
-head_same x y xs ys e = cc
-
-tail_same : (x y : List ℕ) (xs ys : List (List ℕ)) → x ∷ xs ≡ y ∷ ys → xs ≡ ys
-tail_same x y xs ys e = cc
-
 match_from : (version : ℕ) (acts : List Act) (items : List DoneRow) → map (λ (d : DoneRow). d.act) items ≡ texts version acts → Match version acts items
 match_from version [] [] e = tt
 match_from version [] (d ∷ ds) e = cc
 match_from version (a ∷ acts) [] e = cc
 match_from version (a ∷ acts) (d ∷ ds) e =
-    (head_same d.act (act_text version a) (map (λ (x : DoneRow). x.act) ds) (texts version acts) e, match_from version acts ds (tail_same d.act (act_text version a) (map (λ (x : DoneRow). x.act) ds) (texts version acts) e))
+    ((cons_parts e).0, match_from version acts ds (cons_parts e).1)
 
 all_out : {A : Type 0} (before : A → A → Bool) (p : A → Bool) (row : A) (xs : List A) → list_all p (put before row xs) ≡ true → (p row ≡ true) × (list_all p xs ≡ true)
 all_out before p row [] e = ((and_parts (p row) true e).0, refl)

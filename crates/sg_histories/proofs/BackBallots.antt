@@ -1,9 +1,12 @@
 -- A history is built from ballot rows that fit, and from void rows.
-use Rattle.std.proofs.Common.{◌≡◌, ℕ, ◌==◌, Bool, true, false, ◌||◌, not, cond, List, [], ◌∷◌, length, map, Some, None, refl, ap, sym, ◌∙◌, subst}
+use Rattle.std.proofs.Common.{◌≡◌, ℕ, ◌==◌, Bool, true, false, not, cond, List, [], ◌∷◌, length, map, Some, None, refl, ap, sym, ◌∙◌, subst}
 use Rattle.std.specs.List.{join_with_byte, list_all, list_any}
 use Rattle.std.specs.Ordering.{int_eq}
 use Rattle.std.specs.Prelude.{pos, ℤ}
 use Rattle.std.proofs.lemmas.Bool.{and_parts}
+use Rattle.sg_lists.proofs.Bools.{not_or_parts}
+use Rattle.sg_lists.proofs.Integers.{int_eq-pos}
+use Rattle.sg_lists.proofs.Options.{is_none-true}
 use Rattle.sg_plan.specs.declared.plan.Fate.{Fate}
 use Rattle.sg_plan.specs.declared.plan.Fate.TheVariants as fate
 use Rattle.sg_plan.specs.declared.plan.Mark.{Mark}
@@ -29,10 +32,8 @@ use Rattle.sg_histories.specs.ValidRows.{ballot_text, fits, is_stamp, scan_text}
 use Rattle.sg_histories.specs.declared.kept.Claim.{Claim}
 use Rattle.sg_histories.proofs.Accepted.{early, first_none}
 use Rattle.sg_histories.proofs.Back.{accepted, ballots_differ, dones_differ, entry_for, nat_of, new_before, new_out, out_rises, row_back}
-use Rattle.sg_histories.proofs.OutDones.{same_ints}
 use Rattle.sg_histories.proofs.OutVoids.{fate_else, same_numbers, scan_said, touches}
 use Rattle.sg_histories.proofs.Pairing.{Rises, put_all, put_first}
-use Rattle.sg_histories.proofs.Rising.{none_is}
 
 -- the items are done rows of these acts, one by one
 abbrev pub Match : ℕ → List Act → List DoneRow → Type 0
@@ -91,7 +92,7 @@ early_act setup row done is = by_act done is.fit (is.row_is 0)
           no_claim = λ kept. refl;
           passes = λ history station v u.
               subst (λ (s : Stage). scan_refusal setup.plan (phase_word s) (fate_word (fate_of history b)) b marks ≡ None) (sym v)
-              (subst (λ (t : Fate). scan_refusal setup.plan phase.Voting (fate_word t) b marks ≡ None) (sym u) (none_is (scan_refusal setup.plan phase.Voting word.Unused b marks) f));
+              (subst (λ (t : Fate). scan_refusal setup.plan phase.Voting (fate_word t) b marks ≡ None) (sym u) (is_none-true (scan_refusal setup.plan phase.Voting word.Unused b marks) f));
           casts = λ k. (marks, refl);
         }
     by_act (act.Spoil b) f e =
@@ -105,7 +106,7 @@ early_act setup row done is = by_act done is.fit (is.row_is 0)
           no_claim = λ kept. refl;
           passes = λ history station v u.
               subst (λ (s : Stage). early_refusal setup.plan (phase_word s) (fate_word (fate_of history b)) b ≡ None) (sym v)
-              (subst (λ (t : Fate). early_refusal setup.plan phase.Voting (fate_word t) b ≡ None) (sym u) (none_is (early_refusal setup.plan phase.Voting word.Unused b) f));
+              (subst (λ (t : Fate). early_refusal setup.plan phase.Voting (fate_word t) b ≡ None) (sym u) (is_none-true (early_refusal setup.plan phase.Voting word.Unused b) f));
           casts = λ k. absurd (no_one (pos 2) refl (ap (λ (z : ℤ). int_eq z (pos 1)) (sym two) ∙ k));
         }
     by_act (act.Audit b paper) f e =
@@ -119,7 +120,7 @@ early_act setup row done is = by_act done is.fit (is.row_is 0)
           no_claim = λ kept. refl;
           passes = λ history station v u.
               subst (λ (s : Stage). audit_refusal setup.plan (phase_word s) (fate_word (fate_of history b)) b paper ≡ None) (sym v)
-              (subst (λ (t : Fate). audit_refusal setup.plan phase.Voting (fate_word t) b paper ≡ None) (sym u) (none_is (audit_refusal setup.plan phase.Voting word.Unused b paper) f));
+              (subst (λ (t : Fate). audit_refusal setup.plan phase.Voting (fate_word t) b paper ≡ None) (sym u) (is_none-true (audit_refusal setup.plan phase.Voting word.Unused b paper) f));
           casts = λ k. absurd (no_one (pos 3) refl (ap (λ (z : ℤ). int_eq z (pos 1)) (sym three) ∙ k));
         }
     by_act (act.Void b) f e = cc
@@ -144,10 +145,6 @@ pub record Voted (setup : Setup) (text : List ℕ) (ballots : List BallotRow) (d
   pub fresh : (ballot : ℕ) → is_new ballot_is (record { ballot = pos ballot; fate = pos 1; detail = [] }) ballots ≡ true → fate_of history ballot ≡ fate.Unused
   pub cast : (ballot : ℕ) (told : List ℕ) → scan_text (pos ballot) ballots ≡ Some told → CastIn setup.plan history ballot
 
-none_of : (a b : Bool) → not (a || b) ≡ true → (a ≡ false) × (not b ≡ true)
-none_of true b e = cc
-none_of false b e = (refl, e)
-
 said_cast : (row : BallotRow) (told : List ℕ) → scan_said row ≡ Some told → int_eq row.fate (pos 1) ≡ true
 said_cast row told e = by_test (int_eq row.fate (pos 1)) refl e
   where
@@ -156,7 +153,7 @@ said_cast row told e = by_test (int_eq row.fate (pos 1)) refl e
     by_test false k h = cc
 
 pub scan_known : (plan : Plan) (ballot : ℕ) (marks : List Mark) → fits plan (act.Scan ballot marks) ≡ true → is_ballot plan ballot ≡ true
-scan_known plan ballot marks f = (early plan phase.Voting word.Unused ballot (first_none (early_refusal plan phase.Voting word.Unused ballot) _ (none_is (scan_refusal plan phase.Voting word.Unused ballot marks) f)).0).ballot_is
+scan_known plan ballot marks f = (early plan phase.Voting word.Unused ballot (first_none (early_refusal plan phase.Voting word.Unused ballot) _ (is_none-true (scan_refusal plan phase.Voting word.Unused ballot marks) f)).0).ballot_is
 
 -- one more ballot
 voted_more : (setup : Setup) (text : List ℕ) (row : BallotRow) (done : Act) (d : DoneRow) (ballots : List BallotRow) (dones : List DoneRow) (history : List Entry)
@@ -170,7 +167,7 @@ voted_more setup text row done d ballots dones history old is words stamp up ris
   dones_are = ap (λ (r : DoneRow). put done_before r (rows_of setup text history).dones) (row_back setup d done (length setup.secrets) stamp words) ∙ ap (put done_before d) old.dones_are;
   voting = does.stays (stage_of history) ∙ old.voting;
   no_claims = does.no_claim (claims_of history) ∙ old.no_claims;
-  fresh = λ b k. (let parts = none_of _ _ k in fate_else b done (fate_of history b) (touched b parts.0) ∙ old.fresh b parts.1);
+  fresh = λ b k. (let parts = not_or_parts _ _ k in fate_else b done (fate_of history b) (touched b parts.0) ∙ old.fresh b parts.1);
   cast = λ b told k. by_test b told (int_eq row.ballot (pos b)) refl k;
 }
   where
@@ -184,10 +181,10 @@ voted_more setup text row done d ballots dones history old is words stamp up ris
     unused = old.fresh does.ballot (ap (λ (z : ℤ). not (list_any (λ kept. int_eq kept.ballot z) ballots)) (sym does.at) ∙ new_before ballot_before ballot_is ballots_differ row ballots up.0)
 
     touched : (b : ℕ) → int_eq row.ballot (pos b) ≡ false → touches b done ≡ false
-    touched b k = does.touching b ∙ (sym (same_ints does.ballot b) ∙ (ap (λ (z : ℤ). int_eq z (pos b)) (sym does.at) ∙ k))
+    touched b k = does.touching b ∙ (sym (int_eq-pos does.ballot b) ∙ (ap (λ (z : ℤ). int_eq z (pos b)) (sym does.at) ∙ k))
 
     here : (b : ℕ) → int_eq row.ballot (pos b) ≡ true → (does.ballot == b) ≡ true
-    here b k = sym (same_ints does.ballot b) ∙ (ap (λ (z : ℤ). int_eq z (pos b)) (sym does.at) ∙ k)
+    here b k = sym (int_eq-pos does.ballot b) ∙ (ap (λ (z : ℤ). int_eq z (pos b)) (sym does.at) ∙ k)
 
     by_test : (b : ℕ) (told : List ℕ) (t : Bool) → int_eq row.ballot (pos b) ≡ t → cond t (scan_said row) (scan_text (pos b) ballots) ≡ Some told
         → CastIn setup.plan (entry_for d done ∷ history) b

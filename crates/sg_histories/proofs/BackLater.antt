@@ -1,7 +1,9 @@
 -- Void rows, stages and claims are put behind the ballots of a history.
-use Rattle.std.proofs.Common.{◌≡◌, ℕ, ◌==◌, Bool, true, false, ◌||◌, not, List, [], ◌∷◌, length, None, refl, ap, sym, ◌∙◌, subst}
+use Rattle.std.proofs.Common.{◌≡◌, ℕ, ◌==◌, true, false, List, [], ◌∷◌, length, None, refl, ap, sym, ◌∙◌, subst}
 use Rattle.std.specs.Ordering.{int_eq}
 use Rattle.std.specs.Prelude.{pos}
+use Rattle.sg_lists.proofs.Bools.{not_or_parts}
+use Rattle.sg_lists.proofs.Integers.{int_eq-pos}
 use Rattle.sg_plan.specs.declared.plan.Draw.{Draw}
 use Rattle.sg_plan.specs.declared.plan.Fate.{Fate}
 use Rattle.sg_plan.specs.declared.plan.Fate.TheVariants as fate
@@ -28,7 +30,6 @@ use Rattle.sg_histories.specs.declared.kept.Claim.{Claim}
 use Rattle.sg_histories.proofs.Accepted.{voids}
 use Rattle.sg_histories.proofs.Back.{accepted, dones_differ, entry_for, nat_of, new_before, new_out, row_back, voids_differ}
 use Rattle.sg_histories.proofs.BackBallots.{Voted}
-use Rattle.sg_histories.proofs.OutDones.{same_ints}
 use Rattle.sg_histories.proofs.OutVoids.{fate_else, void_act, void_of}
 use Rattle.sg_histories.proofs.Pairing.{Rises, put_first}
 
@@ -64,10 +65,6 @@ pub record Closing (setup : Setup) (text : List ℕ) (base : List Entry) (ballot
   pub fates : (ballot : ℕ) → is_new void_is (record { ballot = pos ballot }) voids ≡ true → fate_of history ballot ≡ fate_of base ballot
   pub scanners : (ballot : ℕ) → scanner_of history ballot ≡ scanner_of base ballot
 
-none_of : (a b : Bool) → not (a || b) ≡ true → (a ≡ false) × (not b ≡ true)
-none_of true b e = cc
-none_of false b e = (refl, e)
-
 void_passes : (plan : Plan) (now : Stage) (told : Fate) (scanner station ballot : ℕ) (marks : List Mark) → now ≡ stage.Voting → told ≡ fate.Cast marks → is_ballot plan ballot ≡ true → (station == scanner) ≡ false
     → void_refusal plan (phase_word now) (fate_word told) scanner station ballot ≡ None
 void_passes plan now told scanner station ballot marks v c known other =
@@ -85,7 +82,7 @@ closing_more setup text base row d ballots voids dones history old does stamp up
   dones_are = ap (λ (r : DoneRow). put done_before r (rows_of setup text history).dones) (row_back setup d (act.Void (void_number row)) (length setup.secrets) stamp words) ∙ ap (put done_before d) old.dones_are;
   voting = old.voting;
   no_claims = old.no_claims;
-  fates = λ b k. (let parts = none_of _ _ k in fate_else b (act.Void (void_number row)) (fate_of history b) (touched b parts.0) ∙ old.fates b parts.1);
+  fates = λ b k. (let parts = not_or_parts _ _ k in fate_else b (act.Void (void_number row)) (fate_of history b) (touched b parts.0) ∙ old.fates b parts.1);
   scanners = old.scanners;
 }
   where
@@ -110,7 +107,7 @@ closing_more setup text base row d ballots voids dones history old does stamp up
         (old.fates does.ballot fresh ∙ does.cast) does.known (ap (λ (n : ℕ). nat_of d.station == n) (old.scanners does.ballot) ∙ does.other))
 
     touched : (b : ℕ) → int_eq row.ballot (pos b) ≡ false → (void_number row == b) ≡ false
-    touched b k = sym (same_ints (void_number row) b) ∙ (ap (λ (r : VoidRow). int_eq r.ballot (pos b)) again ∙ k)
+    touched b k = sym (int_eq-pos (void_number row) b) ∙ (ap (λ (r : VoidRow). int_eq r.ballot (pos b)) again ∙ k)
 
 pub closing_start : (setup : Setup) (text : List ℕ) (base : List Entry) (ballots : List BallotRow) (dones : List DoneRow) → Voted setup text ballots dones base → Closing setup text base ballots [] dones base
 closing_start setup text base ballots dones old = record {

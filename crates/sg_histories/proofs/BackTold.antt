@@ -8,6 +8,8 @@ use Rattle.std.proofs.lemmas.Bool.{and_parts}
 use Rattle.std.proofs.lemmas.Bool.Decides.{nat_tests}
 use Rattle.std.proofs.lemmas.Int.{ints}
 use Rattle.std.proofs.lemmas.List.{length-append}
+use Rattle.std.proofs.lemmas.Option.{same_Some}
+use Rattle.sg_lists.proofs.Bools.{one_if}
 use Rattle.sg_plan.specs.Limits.{each_keeps, first_bad}
 use Rattle.sg_plan.specs.declared.plan.Draw.{Draw}
 use Rattle.sg_plan.specs.declared.plan.Stage.{Stage}
@@ -36,7 +38,7 @@ use Rattle.sg_histories.proofs.BackBallots.{RowActs}
 use Rattle.sg_histories.proofs.BackClaims.{StageFits, claim_acts, claim_of, stage_acts}
 use Rattle.sg_histories.proofs.BackLater.{void_number}
 use Rattle.sg_histories.proofs.BackVoids.{differ_none, void_acts}
-use Rattle.sg_histories.proofs.OutDones.{claim_row, claim_rows, close_row, count_cons, draw_row, is_said, one}
+use Rattle.sg_histories.proofs.OutDones.{claim_row, claim_rows, close_row, count_cons, draw_row, is_said}
 use Rattle.sg_histories.proofs.OutRows.{stage_rows}
 use Rattle.sg_histories.proofs.OutVoids.{void_of}
 
@@ -44,7 +46,7 @@ use Rattle.sg_histories.proofs.OutVoids.{void_of}
 abbrev pub texts : ℕ → List Act → List (List ℕ)
 texts version acts = map (act_text version) acts
 
-pub count_text : (version : ℕ) (text : List ℕ) (a : Act) (acts : List Act) → count_told text (texts version (a ∷ acts)) ≡ one (bytes_eq (act_text version a) text) + count_told text (texts version acts)
+pub count_text : (version : ℕ) (text : List ℕ) (a : Act) (acts : List Act) → count_told text (texts version (a ∷ acts)) ≡ one_if (bytes_eq (act_text version a) text) + count_told text (texts version acts)
 count_text version text a acts = count_cons (λ (w : List ℕ). bytes_eq w text) (act_text version a) (texts version acts)
 
 -- BALLOTS
@@ -86,8 +88,8 @@ acts_from setup read reads rows (r ∷ ballots) e =
           let a = count_text setup.plan.version text t.done rest.acts in
           let b = count_cons (λ (x : BallotRow). is_said text (ballot_text x)) r ballots in
           let c = rest.counts text in
-          let d : one (is_said text (ballot_text r)) ≡ one (bytes_eq (act_text setup.plan.version t.done) text)
-          = ap (λ (o : Option (List ℕ)). one (is_said text o)) t.is ∙ ap (λ (w : List ℕ). one (bytes_eq w text)) (sym only.1) in
+          let d : one_if (is_said text (ballot_text r)) ≡ one_if (bytes_eq (act_text setup.plan.version t.done) text)
+          = ap (λ (o : Option (List ℕ)). one_if (is_said text o)) t.is ∙ ap (λ (w : List ℕ). one_if (bytes_eq w text)) (sym only.1) in
           omega (arith, a, b, c, d));
     }
 
@@ -128,13 +130,10 @@ pub record DrawOf (setup : Setup) (row : StageRow) : Type 0 where
 second_stage : (setup : Setup) (read : List ℕ → Option Act) → ReadsActs setup read → ReadsRows setup read → (row : StageRow) → int_eq row.step (pos 2) ≡ true → tells_fit setup.plan read (Some (stage_text row)) ≡ true → DrawOf setup row
 second_stage setup read reads rows row two told =
     let t = told_from setup read (Some (stage_text row)) told in
-    let same : stage_text row ≡ t.text = some_text (stage_text row) t.text t.is in
+    let same : stage_text row ≡ t.text = same_Some (stage_text row) t.text t.is in
     let read_is : read (stage_text row) ≡ Some t.done = ap read same ∙ t.reads_as in
     by_act t.done (reads.only t.text t.done t.reads_as t.fit).0 t.fit (rows.draws row t.done (same_int row.step 2 two) read_is t.fit 0)
   where
-    some_text : (a b : List ℕ) → Some a ≡ Some b → a ≡ b
-    some_text a b e = cc
-
     by_act : (done : Act) → IsAskable setup done → fits setup.plan done ≡ true → row_of_act setup.plan.version 0 done ≡ change.Stage row → DrawOf setup row
     by_act (act.Draw drawn) is fit e = record { drawn = drawn; act_is = is; fit = fit; row_is = sym (stage_same (record { step = pos 2; detail = draw_word drawn }) row e) }
     by_act act.Close is fit e =
@@ -173,8 +172,8 @@ stages_from setup read reads rows (a ∷ b ∷ []) e =
           let y = count_text setup.plan.version text act.Close [] in
           let z = count_cons (λ (s : StageRow). bytes_eq (stage_text s) text) a (b ∷ []) in
           let w = count_cons (λ (s : StageRow). bytes_eq (stage_text s) text) b [] in
-          let c : one (bytes_eq (stage_text a) text) ≡ one (bytes_eq (act_text setup.plan.version act.Close) text) = ap (λ (s : StageRow). one (bytes_eq (stage_text s) text)) one_is ∙ ap (λ (v : List ℕ). one (bytes_eq v text)) (close_row setup.plan.version) in
-          let f : one (bytes_eq (stage_text b) text) ≡ one (bytes_eq (act_text setup.plan.version (act.Draw d.drawn)) text) = ap (λ (s : StageRow). one (bytes_eq (stage_text s) text)) d.row_is ∙ ap (λ (v : List ℕ). one (bytes_eq v text)) (draw_row setup.plan.version d.drawn) in
+          let c : one_if (bytes_eq (stage_text a) text) ≡ one_if (bytes_eq (act_text setup.plan.version act.Close) text) = ap (λ (s : StageRow). one_if (bytes_eq (stage_text s) text)) one_is ∙ ap (λ (v : List ℕ). one_if (bytes_eq v text)) (close_row setup.plan.version) in
+          let f : one_if (bytes_eq (stage_text b) text) ≡ one_if (bytes_eq (act_text setup.plan.version (act.Draw d.drawn)) text) = ap (λ (s : StageRow). one_if (bytes_eq (stage_text s) text)) d.row_is ∙ ap (λ (v : List ℕ). one_if (bytes_eq v text)) (draw_row setup.plan.version d.drawn) in
           omega (arith, x, y, z, w, c, f));
     }
 stages_from setup read reads rows (a ∷ b ∷ c ∷ more) e =
@@ -246,7 +245,7 @@ claims_from setup drawn (r ∷ rows) earlier before long low e =
           let a = rest.counts text (claim_of fact.claim ∷ acts) in
           let b = count_text setup.plan.version text (claim_of fact.claim) acts in
           let c = count_cons (λ (x : ClaimRow). is_said text (claim_text setup.plan.version x)) r rows in
-          let d : one (is_said text (claim_text setup.plan.version r)) ≡ one (bytes_eq (act_text setup.plan.version (claim_of fact.claim)) text) = ap (λ (x : ClaimRow). one (is_said text (claim_text setup.plan.version x))) fact.row_is in
+          let d : one_if (is_said text (claim_text setup.plan.version r)) ≡ one_if (bytes_eq (act_text setup.plan.version (claim_of fact.claim)) text) = ap (λ (x : ClaimRow). one_if (is_said text (claim_text setup.plan.version x))) fact.row_is in
           omega (arith, a, b, c, d));
     }
   where
@@ -277,5 +276,5 @@ void_counts setup all scan (r ∷ voids) e text acts =
     let a = count_text setup.plan.version text (act.Void (void_number r)) (void_acts voids ++ acts) in
     let b = count_cons (λ (x : VoidRow). is_said text (void_text setup.plan.version x)) r voids in
     let c = void_counts setup all scan voids parts.1 text acts in
-    let d : one (is_said text (void_text setup.plan.version r)) ≡ one (bytes_eq (void_of setup (void_number r)) text) = ap (λ (o : Option (List ℕ)). one (is_said text o)) (void_said setup all (scan r) r parts.0) in
+    let d : one_if (is_said text (void_text setup.plan.version r)) ≡ one_if (bytes_eq (void_of setup (void_number r)) text) = ap (λ (o : Option (List ℕ)). one_if (is_said text o)) (void_said setup all (scan r) r parts.0) in
     omega (arith, a, b, c, d)

@@ -1,12 +1,13 @@
 -- Valid void rows are put behind the ballots of a history.
-use Rattle.std.proofs.Common.{◌≡◌, ℕ, ◌+◌, ◌≤◌, ◌==◌, ◌^◌, nat_lt, Bool, true, false, ◌&&◌, not, cond, List, [], ◌∷◌, ◌++◌, length, map, bytes_eq, Option, Some, None, refl, ap, sym, ◌∙◌, arith, subst}
+use Rattle.std.proofs.Common.{◌≡◌, ℕ, ◌+◌, ◌≤◌, ◌==◌, ◌^◌, nat_lt, Bool, true, false, ◌&&◌, cond, List, [], ◌∷◌, ◌++◌, length, map, bytes_eq, Option, Some, None, refl, ap, sym, ◌∙◌, arith, subst}
 use Rattle.std.specs.List.{list_all}
 use Rattle.std.specs.Ordering.{int_eq}
 use Rattle.std.specs.Prelude.{pos, int_lt, ℤ, negsuc}
-use Rattle.std.proofs.lemmas.Bool.{and_parts}
+use Rattle.std.proofs.lemmas.Bool.{and_parts, not-true}
 use Rattle.std.proofs.lemmas.Bool.Decides.{nat_tests}
 use Rattle.std.proofs.lemmas.Int.{ints}
 use Rattle.std.proofs.lemmas.Slice.Eq.{bytes_eq-Decides}
+use Rattle.std.proofs.lemmas.Option.{same_Some}
 use Rattle.sg_plan.specs.declared.plan.Fate.{Fate}
 use Rattle.sg_plan.specs.declared.plan.Fate.TheVariants as fate
 use Rattle.sg_plan.specs.declared.plan.Mark.{Mark}
@@ -95,18 +96,8 @@ MatchVoids setup [] (d ∷ ds) = ⊥
 MatchVoids setup (r ∷ rows) [] = ⊥
 MatchVoids setup (r ∷ rows) (d ∷ ds) = (d.act ≡ void_of setup (void_number r)) × MatchVoids setup rows ds
 
-some_same : (a b : ℤ) → Some a ≡ Some b → a ≡ b
-some_same a b e = cc
-
-texts_same : (a b : List ℕ) → Some a ≡ Some b → a ≡ b
-texts_same a b e = cc
-
 void_same : (a b : ℕ) → act.Void a ≡ act.Void b → a ≡ b
 void_same a b e = cc
-
-not_eq : (b : Bool) → not b ≡ true → b ≡ false
-not_eq true e = cc
-not_eq false e = refl
 
 apart_numbers : (a b : ℕ) → int_eq (pos a) (pos b) ≡ false → (b == a) ≡ false
 apart_numbers a b e = grind (arith, ints, nat_tests, e)
@@ -172,7 +163,7 @@ voids_on setup read reads text base all ballots dones voted (r ∷ voids) (d ∷
         let told : Tell setup (rows_of setup text history).ballots (rows_of setup text history).dones b (scanner_of history b) (fate.Cast marks)
         = subst (λ (f : Fate). Tell setup (rows_of setup text history).ballots (rows_of setup text history).dones b (scanner_of history b) f) fate_is (tells_out setup read text history reads old.lawful b fact.cast.known) in
         let scanned : Scanned setup (rows_of setup text history).ballots (rows_of setup text history).dones b (scanner_of history b) marks = told.1 in
-        let text_is : fact.told ≡ scan_of setup b marks = texts_same fact.told (scan_of setup b marks) (sym fact.scan_is ∙ (ap (scan_text (pos b)) (sym old.ballots_are) ∙ scanned.told)) in
+        let text_is : fact.told ≡ scan_of setup b marks = same_Some fact.told (scan_of setup b marks) (sym fact.scan_is ∙ (ap (scan_text (pos b)) (sym old.ballots_are) ∙ scanned.told)) in
         let scan_station : station_of fact.told all ≡ Some (pos (scanner_of base b))
         = ap (λ (w : List ℕ). station_of w all) text_is ∙ (scan_rest b marks scanned.act_is scanned.fit ∙ (ap (station_of (scan_of setup b marks)) (sym old.dones_are) ∙ (scanned.doer ∙ ap (λ (n : ℕ). Some (pos n)) (old.scanners b)))) in
         let none : count_done (void_of setup b) (put_on ds dones) ≡ 0 = ap (count_done (void_of setup b)) (sym old.dones_are) ∙ told.0 in
@@ -190,7 +181,7 @@ voids_on setup read reads text base all ballots dones voted (r ∷ voids) (d ∷
           known = fact.cast.known;
           marks = marks;
           cast = fact.cast.fate_is;
-          other = apart_numbers (scanner_of base b) (nat_of d.station) (not_eq _ test);
+          other = apart_numbers (scanner_of base b) (nat_of d.station) (not-true _ test);
           words = words;
         }
 

@@ -6,6 +6,7 @@ use Rattle.std.proofs.lemmas.Bool.{and_parts}
 use Rattle.std.proofs.lemmas.Bool.Decides.{nat_tests}
 use Rattle.std.proofs.lemmas.List.{append_assoc}
 use Rattle.std.proofs.lemmas.Map.Steps.{length-le_from_distinct_below}
+use Rattle.sg_lists.proofs.Options.{is_none-true}
 use Rattle.sg_plan.specs.Ballots.{ballot_has, candidates_of}
 use Rattle.sg_plan.specs.Fates.{has_mark}
 use Rattle.sg_plan.specs.Limits.{each_keeps, fault_of, first_bad}
@@ -22,7 +23,6 @@ use Rattle.sg_histories.specs.Answers.{early_refusal, scan_refusal}
 use Rattle.sg_histories.specs.ValidRows.{fits}
 use Rattle.sg_histories.proofs.Accepted.{first_none}
 use Rattle.sg_histories.proofs.Back.{all_from, each_from}
-use Rattle.sg_histories.proofs.Rising.{none_is}
 
 abbrev pub key_of : Mark → ℕ
 key_of mark = mark.race * 16 + mark.candidate
@@ -97,7 +97,7 @@ mark_small plan mark e c =
 
 pub few_marks : (plan : Plan) (ballot : ℕ) (marks : List Mark) → fault_of plan ≡ None → fits plan (act.Scan ballot marks) ≡ true → length marks ≤ 512
 few_marks plan ballot marks kept f =
-    let one = first_none (early_refusal plan phase.Voting word.Unused ballot) _ (none_is (scan_refusal plan phase.Voting word.Unused ballot marks) f) in
+    let one = first_none (early_refusal plan phase.Voting word.Unused ballot) _ (is_none-true (scan_refusal plan phase.Voting word.Unused ballot marks) f) in
     let two = first_none (option_map reply.Race (first_bad (λ earlier mark. ballot_has plan ballot mark.race) [] marks)) _ one.1 in
     let three = first_none (option_map reply.Candidate (first_bad (λ earlier mark. nat_lt mark.candidate (candidates_of plan mark.race)) [] marks)) _ two.1 in
     let four = first_none (option_map reply.Twice (first_bad (λ earlier mark. not (has_mark earlier mark.race mark.candidate)) [] marks)) _ three.1 in

@@ -2,10 +2,11 @@
 use Rattle.std.proofs.Common.{◌≡◌, ℕ, zero, suc, ◌+◌, ◌<◌, ◌≤◌, ◌==◌, nat_lt, nat_le, Bool, true, false, ◌&&◌, ◌||◌, not, List, [], ◌∷◌, ◌++◌, length, map, filter, refl, ap, sym, if◌then◌else◌, ◌∙◌, arith, subst}
 use Rattle.std.specs.List.{All, list_all, range_with_len}
 use Rattle.std.specs.Option.{option_map}
-use Rattle.std.proofs.lemmas.Bool.{and_from, and_parts}
+use Rattle.std.proofs.lemmas.Bool.{and_from, and_parts, eqb-true}
 use Rattle.std.proofs.lemmas.Bool.Decides.{nat_tests}
-use Rattle.std.proofs.lemmas.List.{append_assoc}
+use Rattle.std.proofs.lemmas.List.{append_assoc, length-map}
 use Rattle.std.proofs.lemmas.List.Elements.{All-head, All-tail}
+use Rattle.sg_lists.proofs.Options.{is_none-true}
 use Rattle.sg_plan.specs.Ballots.{ballot_has, ballots_of, candidates_of, races_of_ballot}
 use Rattle.sg_plan.specs.Codes.{codes_of, is_code}
 use Rattle.sg_plan.specs.Fates.{are_codes, fate_fits, has_mark, is_in, mark_fits, marks_differ, paper_fits}
@@ -38,7 +39,7 @@ use Rattle.sg_histories.specs.Lawful.{IsAskable, Lawful}
 use Rattle.sg_histories.specs.Stories.{answered, is_unused_fate, told_fates, told_of}
 use Rattle.sg_histories.specs.ValidRows.{fits}
 use Rattle.sg_histories.specs.declared.kept.Claim.{Claim}
-use Rattle.sg_histories.proofs.Accepted.{early, first_none, none_is, passed}
+use Rattle.sg_histories.proofs.Accepted.{early, first_none, passed}
 use Rattle.sg_histories.proofs.Back.{all_from, each_from}
 use Rattle.sg_histories.proofs.FewMarks.{inside_not, map_none}
 use Rattle.sg_histories.proofs.Fitting.{audit_fits, fits_new}
@@ -80,7 +81,7 @@ both_all p q (x ∷ xs) a b =
 -- the candidates of a scan that fits are those of its races
 pub candidates_pass : (plan : Plan) (ballot : ℕ) (marks : List Mark) → fits plan (act.Scan ballot marks) ≡ true → list_all (λ mark. nat_lt mark.candidate (candidates_of plan mark.race)) marks ≡ true
 candidates_pass plan ballot marks f =
-    let one = first_none (early_refusal plan phase.Voting word.Unused ballot) _ (none_is (scan_refusal plan phase.Voting word.Unused ballot marks) f) in
+    let one = first_none (early_refusal plan phase.Voting word.Unused ballot) _ (is_none-true (scan_refusal plan phase.Voting word.Unused ballot marks) f) in
     let two = first_none (option_map reply.Race (first_bad (λ earlier mark. ballot_has plan ballot mark.race) [] marks)) _ one.1 in
     let three = first_none (option_map reply.Candidate (first_bad (λ earlier mark. nat_lt mark.candidate (candidates_of plan mark.race)) [] marks)) _ two.1 in
     all_from (λ earlier mark. nat_lt mark.candidate (candidates_of plan mark.race)) (λ mark. nat_lt mark.candidate (candidates_of plan mark.race)) (λ front (mark : Mark) k. k) [] marks
@@ -88,7 +89,7 @@ candidates_pass plan ballot marks f =
 
 scan_fate : (plan : Plan) (ballot : ℕ) (marks : List Mark) → fits plan (act.Scan ballot marks) ≡ true → fate_fits plan ballot (fate.Cast marks) ≡ true
 scan_fate plan ballot marks f =
-    let one = first_none (early_refusal plan phase.Voting word.Unused ballot) _ (none_is (scan_refusal plan phase.Voting word.Unused ballot marks) f) in
+    let one = first_none (early_refusal plan phase.Voting word.Unused ballot) _ (is_none-true (scan_refusal plan phase.Voting word.Unused ballot marks) f) in
     let two = first_none (option_map reply.Race (first_bad (λ earlier mark. ballot_has plan ballot mark.race) [] marks)) _ one.1 in
     let three = first_none (option_map reply.Candidate (first_bad (λ earlier mark. nat_lt mark.candidate (candidates_of plan mark.race)) [] marks)) _ two.1 in
     let four = first_none (option_map reply.Twice (first_bad (λ earlier mark. not (has_mark earlier mark.race mark.candidate)) [] marks)) _ three.1 in
@@ -122,7 +123,7 @@ paper_good plan (race ∷ races) (list ∷ paper) e all =
 
 audit_fate : (plan : Plan) (ballot : ℕ) (paper : List (List ℕ)) → fits plan (act.Audit ballot paper) ≡ true → All (All (IsCode plan.version)) paper → fate_fits plan ballot (fate.Audited paper) ≡ true
 audit_fate plan ballot paper f all =
-    let parts = audit_fits plan phase.Voting word.Unused ballot paper (none_is (audit_refusal plan phase.Voting word.Unused ballot paper) f) in
+    let parts = audit_fits plan phase.Voting word.Unused ballot paper (is_none-true (audit_refusal plan phase.Voting word.Unused ballot paper) f) in
     and_from (is_ballot plan ballot) (paper_fits plan (races_of_ballot plan ballot) paper) parts.0 (paper_good plan (races_of_ballot plan ballot) paper parts.1 all)
 
 -- FATES
@@ -135,10 +136,7 @@ fate_moves : (plan : Plan) (b ballot : ℕ) (new before : Fate) → fate_fits pl
 fate_moves plan b ballot new before good old = by_test (b == ballot) refl
   where
     by_test : (t : Bool) → (b == ballot) ≡ t → FitsBallot plan ballot (if t then new else before)
-    by_test true k used = subst (λ (n : ℕ). fate_fits plan n new ≡ true) (same b ballot k) good
-      where
-        same : (a c : ℕ) → (a == c) ≡ true → a ≡ c
-        same a c e = grind (arith, nat_tests, e)
+    by_test true k used = subst (λ (n : ℕ). fate_fits plan n new ≡ true) (eqb-true b ballot k) good
     by_test false k used = old used
 
 ballot_only : (a : Bool) → a ≡ true → (a && true) ≡ true
@@ -147,7 +145,7 @@ ballot_only a e = rw e refl
 fate_after_fits : (setup : Setup) (ballot : ℕ) (done : Act) (before : Fate) → IsAskable setup done → fits setup.plan done ≡ true → FitsBallot setup.plan ballot before → FitsBallot setup.plan ballot (fate_after ballot done before)
 fate_after_fits setup ballot (act.Scan b marks) before is f old = fate_moves setup.plan b ballot (fate.Cast marks) before (scan_fate setup.plan b marks f) old
 fate_after_fits setup ballot (act.Spoil b) before is f old =
-    fate_moves setup.plan b ballot fate.Spoiled before (ballot_only (is_ballot setup.plan b) (early setup.plan phase.Voting word.Unused b (none_is (early_refusal setup.plan phase.Voting word.Unused b) f)).ballot_is) old
+    fate_moves setup.plan b ballot fate.Spoiled before (ballot_only (is_ballot setup.plan b) (early setup.plan phase.Voting word.Unused b (is_none-true (early_refusal setup.plan phase.Voting word.Unused b) f)).ballot_is) old
 fate_after_fits setup ballot (act.Audit b paper) before is f old = fate_moves setup.plan b ballot (fate.Audited paper) before (audit_fate setup.plan b paper f is.codes) old
 fate_after_fits setup ballot (act.Void b) before is f old = fate_moves setup.plan b ballot fate.Voided before (ballot_only (is_ballot setup.plan b) f) old
 fate_after_fits setup ballot act.Close before is f old = old
@@ -189,10 +187,6 @@ claims_good plan seed fates (claim ∷ kept) all =
     let claim_good = and_parts (is_ballot plan claim.ballot) (ballot_has plan claim.ballot claim.race && nat_lt claim.code (codes_of plan.version)) parts.0 in
     and_from (claim_fits plan (answered plan seed fates claim)) (list_all (claim_fits plan) (map (answered plan seed fates) kept)) claim_good.1 (claims_good plan seed fates kept parts.1)
 
-map_long : {A B : Type 0} (f : A → B) (xs : List A) → length (map f xs) ≡ length xs
-map_long f [] = refl
-map_long f (x ∷ xs) = ap suc (map_long f xs)
-
 draw_same : (drawn : Draw) → fits_draw drawn ≡ is_draw drawn
 draw_same draw.Full = refl
 draw_same (draw.Public bytes) = refl
@@ -205,7 +199,7 @@ stage_good : (plan : Plan) (now : Stage) (kept : List Claim) (f : Claim → Clai
 stage_good plan stage.Voting kept f good drawn_good = none_kept f kept (good.early refl)
 stage_good plan stage.Closed kept f good drawn_good = none_kept f kept (good.early refl)
 stage_good plan (stage.Drawn drawn) kept f good drawn_good =
-    let long = map_long f kept in
+    let long = length-map kept f in
     let few = good.few in
     and_from (is_draw drawn) (nat_le (length (map f kept)) 10000) (sym (draw_same drawn) ∙ drawn_good drawn refl) (low (length (map f kept)) (omega (arith, long, few)))
   where

@@ -6,12 +6,14 @@ use Rattle.std.specs.Prelude.{pos}
 use Rattle.std.proofs.lemmas.Bool.{and_from}
 use Rattle.std.proofs.lemmas.Bool.Decides.{nat_tests}
 use Rattle.std.proofs.lemmas.Slice.Eq.{bytes_eq-Decides}
+use Rattle.sg_lists.proofs.Bools.{one_if}
+use Rattle.sg_lists.proofs.Counting.{count_by-append}
+use Rattle.sg_lists.proofs.Options.{is_none-true}
 use Rattle.sg_plan.specs.Limits.{first_bad}
 use Rattle.sg_plan.specs.declared.plan.Draw.{Draw}
 use Rattle.sg_plan.specs.declared.plan.Plan.{Plan}
 use Rattle.sg_plan.specs.declared.plan.Stage.{Stage}
 use Rattle.sg_plan.specs.declared.plan.Stage.TheVariants as stage
-use Rattle.sg_plan.proofs.Counting.{count_by-append}
 use Rattle.sg_plan.proofs.Lists.{first_bad-each}
 use Rattle.sg_keeper.specs.Rows.{ballot_before, done_before, void_before}
 use Rattle.sg_acts.specs.declared.asks.Act.{Act}
@@ -33,11 +35,11 @@ use Rattle.sg_histories.specs.declared.kept.Claim.{Claim}
 use Rattle.sg_histories.specs.inside.RowReading.{HasRaces, SmallBallots}
 use Rattle.sg_histories.proofs.Accepted.{passed}
 use Rattle.sg_histories.proofs.Fitting.{fits_new}
-use Rattle.sg_histories.proofs.OutDones.{ClaimsFit, Dones, claim_rows, claims_each, claims_fit, claims_out, count_cons, count_tables, counts_out, dones_out, one}
+use Rattle.sg_histories.proofs.OutDones.{ClaimsFit, Dones, claim_rows, claims_each, claims_fit, claims_out, count_cons, count_tables, counts_out, dones_out}
 use Rattle.sg_histories.proofs.OutRows.{Ballots, ballots_out, stage_rows, stages_out}
 use Rattle.sg_histories.proofs.OutVoids.{void_each, voids_out}
 use Rattle.sg_histories.proofs.Pairing.{Rises}
-use Rattle.sg_histories.proofs.Rising.{all_inside, none_bad, none_is}
+use Rattle.sg_histories.proofs.Rising.{all_inside, none_bad}
 
 ballots_good : (setup : Setup) (read : List ℕ → Option Act) (ballots : List BallotRow) → Ballots setup read ballots → first_bad (ballot_keeps setup.plan read) [] ballots ≡ None
 ballots_good setup read ballots good = none_bad ballot_before (ballot_keeps setup.plan read) ballots good.rise
@@ -92,7 +94,7 @@ drawn_count (stage.Drawn drawn) = refl
 
 claims_good : (plan : Plan) (now : Stage) (kept : List Claim) → ClaimsFit plan now kept → (b : Bool) → is_drawn (phase_word now) ≡ b → first_bad (claim_keeps plan b) [] (claim_rows 0 kept) ≡ None
 claims_good plan now kept good true e =
-    none_is (first_bad (claim_keeps plan true) [] (claim_rows 0 kept)) (first_bad-each (claim_keeps plan true) [] (claim_rows 0 kept) ∙ claims_each plan kept [] 0 refl (let f = good.few in omega (arith, f)) good.fit)
+    is_none-true (first_bad (claim_keeps plan true) [] (claim_rows 0 kept)) (first_bad-each (claim_keeps plan true) [] (claim_rows 0 kept) ∙ claims_each plan kept [] 0 refl (let f = good.few in omega (arith, f)) good.fit)
 claims_good plan now kept good false e = ap (λ (c : List Claim). first_bad (claim_keeps plan false) [] (claim_rows 0 c)) (good.early e)
 
 -- DONE ROWS
@@ -101,7 +103,7 @@ more_behind : (text : List ℕ) (front : List DoneRow) (row : DoneRow) (back : L
 more_behind text front row back e =
     let a = count_by-append (λ (r : DoneRow). bytes_eq r.act text) front (row ∷ back) in
     let b = count_cons (λ (r : DoneRow). bytes_eq r.act text) row back in
-    let c : one (bytes_eq row.act text) ≡ 1 = ap one e in
+    let c : one_if (bytes_eq row.act text) ≡ 1 = ap one_if e in
     omega (arith, a, b, c)
 
 all_same : (told some : List (List ℕ)) (rows : List DoneRow) → ((words : List ℕ) → count_told words told ≡ count_done words rows) → list_all (λ text. nat_le (count_told text told) (count_done text rows)) some ≡ true

@@ -1,5 +1,5 @@
 -- The rows of a lawful history: claims, and done rows, which are as many of each act as the other tables tell.
-use Rattle.std.proofs.Common.{◌≡◌, ℕ, zero, suc, ◌+◌, ◌<◌, ◌≤◌, ◌==◌, ◌^◌, nat_lt, Bool, true, false, ◌&&◌, cond, List, [], ◌∷◌, ◌++◌, length, map, count_by, bytes_eq, slice_get, Option, Some, None, refl, ap, sym, ◌∙◌, arith}
+use Rattle.std.proofs.Common.{◌≡◌, ℕ, zero, suc, ◌+◌, ◌<◌, ◌≤◌, ◌^◌, nat_lt, Bool, true, false, ◌&&◌, cond, List, [], ◌∷◌, ◌++◌, length, map, count_by, bytes_eq, slice_get, Option, Some, None, refl, ap, sym, ◌∙◌, arith}
 use Rattle.std.specs.List.{filter_map, join_with_byte, list_all}
 use Rattle.std.specs.Option.{option_map_or}
 use Rattle.std.specs.Ordering.{int_eq}
@@ -8,12 +8,16 @@ use Rattle.std.proofs.lemmas.Bool.Decides.{nat_tests}
 use Rattle.std.proofs.lemmas.Grind.{common_steps}
 use Rattle.std.proofs.lemmas.Int.{ints}
 use Rattle.std.proofs.lemmas.List.{length-append}
+use Rattle.std.proofs.lemmas.Bool.{both_ways}
+use Rattle.sg_lists.proofs.Bools.{one_if}
+use Rattle.sg_lists.proofs.Counting.{count_by-append}
+use Rattle.sg_lists.proofs.Integers.{int_eq-pos}
+use Rattle.sg_lists.proofs.Tests.{list_all-push}
 use Rattle.sg_plan.specs.Limits.{each_keeps}
 use Rattle.sg_plan.specs.declared.plan.Draw.{Draw}
 use Rattle.sg_plan.specs.declared.plan.Plan.{Plan}
 use Rattle.sg_plan.specs.declared.plan.Stage.{Stage}
 use Rattle.sg_plan.specs.declared.plan.Stage.TheVariants as stage
-use Rattle.sg_plan.proofs.Counting.{count_by-append}
 use Rattle.sg_keeper.specs.Rows.{ballot_before, claim_before, done_before, done_is, is_new, put, stage_before, void_before, with_row}
 use Rattle.sg_acts.specs.declared.asks.Act.{Act}
 use Rattle.sg_acts.specs.declared.asks.Act.TheVariants as act
@@ -86,17 +90,6 @@ pub record ClaimsFit (plan : Plan) (now : Stage) (kept : List Claim) : Type 0 wh
   pub few : length kept ≤ 10000
   pub early : is_drawn (phase_word now) ≡ false → kept ≡ []
 
-all_last : {A : Type 0} (p : A → Bool) (xs : List A) (x : A) → list_all p xs ≡ true → p x ≡ true → list_all p (xs ++ x ∷ []) ≡ true
-all_last p [] x all e = rw e refl
-all_last p (y ∷ ys) x all e = by_test (p y) all (λ rest. all_last p ys x rest e)
-  where
-    by_test : (b : Bool) → (b && list_all p ys) ≡ true → (list_all p ys ≡ true → list_all p (ys ++ x ∷ []) ≡ true) → (b && list_all p (ys ++ x ∷ [])) ≡ true
-    by_test true k ih = ih k
-    by_test false k ih = cc
-
-pub true_not_false : (b : Bool) → b ≡ true → b ≡ false → ⊥
-true_not_false b t f = cc
-
 pub claims_fit : (setup : Setup) (history : List Entry) → Lawful setup history → ClaimsFit setup.plan (stage_of history) (claims_of history)
 claims_fit setup [] lawful = record { fit = refl; few = omega arith; early = λ e. refl }
 claims_fit setup (entry ∷ history) lawful =
@@ -119,9 +112,9 @@ claims_fit setup (entry ∷ history) lawful =
         let f = fits_new setup history lawful.0.stamp.station (act.Claim ballot race code) is r in
         let few : nat_lt (length (claims_of history)) 10000 ≡ true = c.few in
         record {
-          fit = all_last (λ (k : Claim). fits setup.plan (act.Claim k.ballot k.race k.code)) (claims_of history) claim old.fit f;
+          fit = list_all-push (λ (k : Claim). fits setup.plan (act.Claim k.ballot k.race k.code)) (claims_of history) claim old.fit f;
           few = (let long = length-append (claims_of history) (claim ∷ []) in let few_is : length (claims_of history) < 10000 = grind (arith, nat_tests, few) in omega (arith, long, few_is));
-          early = λ e. absurd (true_not_false (is_drawn (phase_of history)) c.drawn e);
+          early = λ e. absurd (both_ways (is_drawn (phase_of history)) e c.drawn);
         }
 
 -- the claims' rows are judged good
@@ -147,11 +140,8 @@ claims_each plan (claim ∷ kept) earlier before many few all = by_test (fits pl
 
 -- DONE ROWS
 
-pub same_ints : (a b : ℕ) → int_eq (pos a) (pos b) ≡ (a == b)
-same_ints a b = grind (arith, ints, nat_tests)
-
 pub same_done : (version station number : ℕ) (text : List ℕ) (entry : Entry) → done_is (done_row version entry) (record { station = pos station; number = pos number; act = text }) ≡ is_stamped station number entry
-same_done version station number text entry = rw (same_ints entry.station station, same_ints entry.number number) refl
+same_done version station number text entry = rw (int_eq-pos entry.station station, int_eq-pos entry.number number) refl
 
 -- a stamp that is new in the history is new among the rows
 pub new_stamp : (setup : Setup) (text : List ℕ) (history : List Entry) (stamp : Stamp) (asked : Act) (words : List ℕ)
@@ -203,10 +193,6 @@ dones_out setup text (entry ∷ history) lawful =
     }
 
 -- COUNTS
-
--- one where the test holds
-abbrev pub one : Bool → ℕ
-one b = cond b 1 0
 
 -- a text is the one that is there
 abbrev pub is_said : List ℕ → Option (List ℕ) → Bool
@@ -260,14 +246,14 @@ on_ballot : (setup : Setup) (history : List Entry) (text words told : List ℕ) 
     → told_in setup.plan.version words (with_row (rows_of setup text history) (change.Ballot row)) ≡ cond (bytes_eq told words) 1 0 + told_in setup.plan.version words (rows_of setup text history)
 on_ballot setup history text words told row e =
     let k = count_put ballot_before (λ (b : BallotRow). is_said words (ballot_text b)) row (rows_of setup text history).ballots in
-    let f : cond (is_said words (ballot_text row)) 1 0 ≡ cond (bytes_eq told words) 1 0 = ap (λ (o : Option (List ℕ)). one (is_said words o)) e in
+    let f : cond (is_said words (ballot_text row)) 1 0 ≡ cond (bytes_eq told words) 1 0 = ap (λ (o : Option (List ℕ)). one_if (is_said words o)) e in
     omega (arith, k, f)
 
 on_stage : (setup : Setup) (history : List Entry) (text words told : List ℕ) (row : StageRow) → stage_text row ≡ told
     → told_in setup.plan.version words (with_row (rows_of setup text history) (change.Stage row)) ≡ cond (bytes_eq told words) 1 0 + told_in setup.plan.version words (rows_of setup text history)
 on_stage setup history text words told row e =
     let k = count_put stage_before (λ (b : StageRow). bytes_eq (stage_text b) words) row (rows_of setup text history).stages in
-    let f : one (bytes_eq (stage_text row) words) ≡ one (bytes_eq told words) = ap (λ (o : List ℕ). one (bytes_eq o words)) e in
+    let f : one_if (bytes_eq (stage_text row) words) ≡ one_if (bytes_eq told words) = ap (λ (o : List ℕ). one_if (bytes_eq o words)) e in
     omega (arith, k, f)
 
 pub void_row : (version ballot : ℕ) → ballot < 2 ^ 32 → void_text version (record { ballot = pos ballot }) ≡ Some (act_text version (act.Void ballot))
@@ -311,7 +297,7 @@ told_more setup history station text words (act.Void ballot) races small r =
     let row : VoidRow = record { ballot = pos ballot } in
     let said : void_text setup.plan.version row ≡ Some (act_text setup.plan.version (act.Void ballot)) = void_row setup.plan.version ballot (small ballot (voids setup.plan (phase_of history) (fate_word (fate_of history ballot)) (scanner_of history ballot) station ballot r).ballot_is) in
     let k = count_put void_before (λ (c : VoidRow). is_said words (void_text setup.plan.version c)) row (rows_of setup text history).voids in
-    let e = ap (λ (o : Option (List ℕ)). one (is_said words o)) said in
+    let e = ap (λ (o : Option (List ℕ)). one_if (is_said words o)) said in
     omega (arith, k, e)
 
 -- the tables tell each text as often as done rows have it

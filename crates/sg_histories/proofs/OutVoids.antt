@@ -1,11 +1,14 @@
 -- Voids of a lawful history: another station did each than the scan.
-use Rattle.std.proofs.Common.{◌≡◌, ℕ, ◌+◌, ◌==◌, Bool, true, false, ◌||◌, not, cond, List, [], ◌∷◌, ◌++◌, length, map, bytes_eq, Option, Some, None, refl, ap, sym, ◌∙◌, arith, subst}
+use Rattle.std.proofs.Common.{◌≡◌, ℕ, ◌+◌, ◌==◌, Bool, true, false, not, cond, List, [], ◌∷◌, ◌++◌, length, map, bytes_eq, Option, Some, None, refl, ap, sym, ◌∙◌, arith, subst}
 use Rattle.std.specs.List.{join_with_byte, list_any}
 use Rattle.std.specs.Ordering.{int_eq}
 use Rattle.std.specs.Prelude.{pos, ℤ}
 use Rattle.std.proofs.lemmas.Bool.Decides.{nat_tests}
 use Rattle.std.proofs.lemmas.Int.{ints}
 use Rattle.std.proofs.lemmas.Slice.Eq.{bytes_eq-Decides}
+use Rattle.std.proofs.lemmas.Bool.{both_ways}
+use Rattle.sg_lists.proofs.Bools.{not_or_parts, one_if}
+use Rattle.sg_lists.proofs.Integers.{int_eq-pos}
 use Rattle.sg_plan.specs.declared.plan.Fate.{Fate}
 use Rattle.sg_plan.specs.declared.plan.Fate.TheVariants as fate
 use Rattle.sg_plan.specs.declared.plan.Mark.{Mark}
@@ -29,7 +32,7 @@ use Rattle.sg_histories.specs.inside.RowReading.{SmallBallots}
 use Rattle.sg_histories.proofs.Accepted.{early, first_none, passed, unused_is, voids}
 use Rattle.sg_histories.proofs.Fitting.{fits_new, scan_row}
 use Rattle.sg_histories.proofs.NewKeys.{new_ballot, new_void}
-use Rattle.sg_histories.proofs.OutDones.{count_cons, one, same_ints, true_not_false, void_row}
+use Rattle.sg_histories.proofs.OutDones.{count_cons, void_row}
 use Rattle.sg_histories.proofs.Pairing.{Rises}
 use Rattle.sg_histories.proofs.Rising.{count_put, put_rises, void_order}
 
@@ -69,14 +72,10 @@ scan_put ballot row (x ∷ xs) e = by_order (ballot_before row x) (scan_put ball
     by_order true ih = ap (λ b. cond b (scan_said row) (scan_text ballot (x ∷ xs))) e
     by_order false ih = ap (λ o. cond (int_eq x.ballot ballot) (scan_said x) o) ih
 
-none_of_two : (a b : Bool) → not (a || b) ≡ true → (a ≡ false) × (not b ≡ true)
-none_of_two true b e = cc
-none_of_two false b e = (refl, e)
-
 pub scan_new : (row : BallotRow) (rows : List BallotRow) → int_eq row.ballot row.ballot ≡ true → is_new ballot_is row rows ≡ true → scan_text row.ballot (put ballot_before row rows) ≡ scan_said row
 scan_new row [] same new = ap (λ b. cond b (scan_said row) None) same
 scan_new row (x ∷ xs) same new =
-    let parts = none_of_two (ballot_is x row) (list_any (λ kept. ballot_is kept row) xs) new in
+    let parts = not_or_parts (ballot_is x row) (list_any (λ kept. ballot_is kept row) xs) new in
     by_order (ballot_before row x) parts.0 (scan_new row xs same parts.1)
   where
     by_order : (b : Bool) → int_eq x.ballot row.ballot ≡ false → scan_text row.ballot (put ballot_before row xs) ≡ scan_said row → scan_text row.ballot (cond b (row ∷ x ∷ xs) (x ∷ put ballot_before row xs)) ≡ scan_said row
@@ -114,9 +113,9 @@ scanner_else ballot station (act.Claim b race code) before e = refl
 
 pub rows_else : (version kept ballot : ℕ) (rows : Rows) (done : Act) → touches ballot done ≡ false
     → scan_text (pos ballot) (with_row rows (row_of_act version kept done)).ballots ≡ scan_text (pos ballot) rows.ballots
-rows_else version kept ballot rows (act.Scan b marks) e = scan_put (pos ballot) (record { ballot = pos b; fate = pos 1; detail = join_with_byte 32 (map mark_word marks) }) rows.ballots (same_ints b ballot ∙ e)
-rows_else version kept ballot rows (act.Spoil b) e = scan_put (pos ballot) (record { ballot = pos b; fate = pos 2; detail = [] }) rows.ballots (same_ints b ballot ∙ e)
-rows_else version kept ballot rows (act.Audit b paper) e = scan_put (pos ballot) (record { ballot = pos b; fate = pos 3; detail = join_with_byte 32 (map (codes_word version) paper) }) rows.ballots (same_ints b ballot ∙ e)
+rows_else version kept ballot rows (act.Scan b marks) e = scan_put (pos ballot) (record { ballot = pos b; fate = pos 1; detail = join_with_byte 32 (map mark_word marks) }) rows.ballots (int_eq-pos b ballot ∙ e)
+rows_else version kept ballot rows (act.Spoil b) e = scan_put (pos ballot) (record { ballot = pos b; fate = pos 2; detail = [] }) rows.ballots (int_eq-pos b ballot ∙ e)
+rows_else version kept ballot rows (act.Audit b paper) e = scan_put (pos ballot) (record { ballot = pos b; fate = pos 3; detail = join_with_byte 32 (map (codes_word version) paper) }) rows.ballots (int_eq-pos b ballot ∙ e)
 rows_else version kept ballot rows (act.Void b) e = refl
 rows_else version kept ballot rows act.Close e = refl
 rows_else version kept ballot rows (act.Draw drawn) e = refl
@@ -179,7 +178,7 @@ Tell setup ballots dones ballot scanner fate.Voided = Unscanned setup ballots do
 count_else : (text : List ℕ) (row : DoneRow) (rows : List DoneRow) → bytes_eq row.act text ≡ false → count_done text rows ≡ 0 → count_done text (put done_before row rows) ≡ 0
 count_else text row rows e none =
     let k = count_put done_before (λ (r : DoneRow). bytes_eq r.act text) row rows in
-    let z : one (bytes_eq row.act text) ≡ 0 = ap one e in
+    let z : one_if (bytes_eq row.act text) ≡ 0 = ap one_if e in
     omega (arith, k, z, none)
 
 -- a row of another text
@@ -231,7 +230,7 @@ scan_here setup read text history ballot station row marks reads words by is fit
       record {
         act_is = is;
         fit = fit;
-        told = scan_new brow (rows_of setup text history).ballots (same_ints ballot ballot ∙ self ballot) (new_ballot setup text history ballot brow refl u) ∙ scan_row setup.plan.version ballot marks;
+        told = scan_new brow (rows_of setup text history).ballots (int_eq-pos ballot ballot ∙ self ballot) (new_ballot setup text history ballot brow refl u) ∙ scan_row setup.plan.version ballot marks;
         doer = station_new (scan_of setup ballot marks) row (rows_of setup text history).dones (told.1 marks is fit) same ∙ ap (λ (s : ℤ). Some s) by;
       },
     )
@@ -313,10 +312,10 @@ tells_out setup read text (entry ∷ history) reads lawful ballot known =
     differs other is f apart = texts_differ setup read reads entry.act other lawful.0.act_is is fit f apart
 
     touched_void : touches ballot entry.act ≡ false → entry.act ≡ act.Void ballot → ⊥
-    touched_void e is = true_not_false (touches ballot entry.act) (ap (touches ballot) is ∙ self ballot) e
+    touched_void e is = both_ways (touches ballot entry.act) e (ap (touches ballot) is ∙ self ballot)
 
     touched_scan : touches ballot entry.act ≡ false → (marks : List Mark) → entry.act ≡ act.Scan ballot marks → ⊥
-    touched_scan e marks is = true_not_false (touches ballot entry.act) (ap (touches ballot) is ∙ self ballot) e
+    touched_scan e marks is = both_ways (touches ballot entry.act) e (ap (touches ballot) is ∙ self ballot)
 
     by_touch : (b : Bool) → touches ballot entry.act ≡ b
         → Tell setup rows.ballots rows.dones ballot (scanner_of history ballot) (fate_of history ballot)

@@ -4,6 +4,9 @@ use Rattle.std.specs.List.{list_all}
 use Rattle.std.specs.Option.{option_map_or}
 use Rattle.std.proofs.lemmas.Bool.{and_parts}
 use Rattle.std.proofs.lemmas.Bool.Decides.{nat_tests}
+use Rattle.std.proofs.lemmas.Option.{same_Some}
+use Rattle.sg_lists.proofs.Lists.{slice_get_there}
+use Rattle.sg_lists.proofs.Tests.{list_all-slice_get}
 use Rattle.sg_plan.specs.Ballots.{ballot_styles, ballots_of, races_of_ballot, races_of_style, style_of_ballot}
 use Rattle.sg_plan.specs.Limits.{fault_of, run_keeps, style_fits, style_keeps}
 use Rattle.sg_plan.specs.declared.plan.Plan.{Plan}
@@ -28,10 +31,7 @@ small_ballots plan e ballot known =
 -- an item among equal ones and others
 repeated : (n s : ℕ) (rest : List ℕ) (place found : ℕ) → slice_get (replicate n s ++ rest) place ≡ Some found → (s ≡ found → ⊥) → (at : ℕ) × (slice_get rest at ≡ Some found)
 repeated zero s rest place found e apart = (place, e)
-repeated (suc n) s rest zero found e apart = absurd (apart (same s found e))
-  where
-    same : (a b : ℕ) → Some a ≡ Some b → a ≡ b
-    same a b k = cc
+repeated (suc n) s rest zero found e apart = absurd (apart (same_Some s found e))
 repeated (suc n) s rest (suc place) found e apart = repeated n s rest place found e apart
 
 -- the style of each ballot is one of the plan's
@@ -46,20 +46,6 @@ styles_below count (run ∷ runs) place found all e =
     by_test false k low ih =
         let r = repeated run.count run.style (ballot_styles runs) place found e (λ s. (let z : nat_lt found count ≡ true = ap (λ n. nat_lt n count) (sym s) ∙ low in (cc))) in
         ih r.0 r.1
-
--- a place within has an item
-there : {A : Type 0} (xs : List A) (at : ℕ) → at < length xs → (x : A) × (slice_get xs at ≡ Some x)
-there [] at h = absurd (omega (arith, h))
-there (x ∷ xs) zero h = (x, refl)
-there (x ∷ xs) (suc at) h = there xs at (omega (arith, h))
-
-all_there : {A : Type 0} (p : A → Bool) (xs : List A) (at : ℕ) (x : A) → list_all p xs ≡ true → slice_get xs at ≡ Some x → p x ≡ true
-all_there p [] at x all e = cc
-all_there {A} p (y ∷ ys) zero x all e = subst (λ (z : A). p z ≡ true) (same y x e) (and_parts (p y) (list_all p ys) all).0
-  where
-    same : (a b : A) → Some a ≡ Some b → a ≡ b
-    same a b k = cc
-all_there p (y ∷ ys) (suc at) x all e = all_there p ys at x (and_parts (p y) (list_all p ys) all).1 e
 
 style_long : (races : ℕ) (earlier : List Style) (style : Style) → style_fits races earlier style ≡ true → nat_le 1 (length style.races) ≡ true
 style_long races earlier style e =
@@ -78,10 +64,10 @@ has_races plan e ballot known =
     let parts = and_parts (nat_le 1 ballot) (nat_le ballot (ballots_of plan)) known in
     let first : 1 ≤ ballot = (let k = parts.0 in grind (arith, nat_tests, k)) in
     let within : ballot ≤ ballots_of plan = (let k = parts.1 in grind (arith, nat_tests, k)) in
-    let style = there (ballot_styles plan.runs) (ballot - 1) (omega (arith, first, within)) in
+    let style = slice_get_there (ballot_styles plan.runs) (ballot - 1) (omega (arith, first, within)) in
     let low = styles_below (length plan.styles) plan.runs (ballot - 1) style.0 all_runs style.1 in
-    let item = there plan.styles style.0 low in
-    let long : nat_le 1 (length item.0.races) ≡ true = all_there (λ (s : Style). nat_le 1 (length s.races)) plan.styles style.0 item.0 all_styles item.1 in
+    let item = slice_get_there plan.styles style.0 low in
+    let long : nat_le 1 (length item.0.races) ≡ true = list_all-slice_get (λ (s : Style). nat_le 1 (length s.races)) plan.styles style.0 item.0 all_styles item.1 in
     let some : (ballot == 0) ≡ false = grind (arith, nat_tests, first) in
     let style_is : style_of_ballot plan ballot ≡ Some style.0 = ap (λ b. cond b None (slice_get (ballot_styles plan.runs) (ballot - 1))) some ∙ style.1 in
     let races_are : races_of_ballot plan ballot ≡ item.0.races

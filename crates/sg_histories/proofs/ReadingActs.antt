@@ -3,6 +3,7 @@ use Rattle.std.proofs.Common.{◌≡◌, ℕ, ◌<◌, ◌≤◌, ◌^◌, nat_l
 use Rattle.std.specs.List.{All, list_all}
 use Rattle.std.proofs.lemmas.Bool.{and_parts}
 use Rattle.std.proofs.lemmas.List.Elements.{All-cons, All-nil}
+use Rattle.sg_lists.proofs.Options.{is_none-true}
 use Rattle.sg_plan.specs.Ballots.{ballot_has, candidates_of}
 use Rattle.sg_plan.specs.Codes.{codes_of}
 use Rattle.sg_plan.specs.Limits.{fault_of}
@@ -23,7 +24,7 @@ use Rattle.sg_histories.specs.Answers.{audit_refusal, early_refusal, is_ballot, 
 use Rattle.sg_histories.specs.Lawful.{IsCounted}
 use Rattle.sg_histories.specs.RowLaws.{ActInReadsActs}
 use Rattle.sg_histories.specs.ValidRows.{fits}
-use Rattle.sg_histories.proofs.Accepted.{early, first_none, none_is}
+use Rattle.sg_histories.proofs.Accepted.{early, first_none}
 use Rattle.sg_histories.proofs.FewMarks.{few_marks, mark_small}
 use Rattle.sg_histories.proofs.Fitting.{audit_fits}
 use Rattle.sg_histories.proofs.FittingStories.{candidates_pass}
@@ -44,10 +45,10 @@ marks_small plan (mark ∷ marks) kept all =
 -- the numbers of an act that fits are in the ranges of their types
 pub numbers_fit : (plan : Plan) (done : Act) → fault_of plan ≡ None → IsCounted done → fits plan done ≡ true → HasNumbers done
 numbers_fit plan (act.Scan ballot marks) kept counted f =
-    let known = (early plan phase.Voting word.Unused ballot (first_none (early_refusal plan phase.Voting word.Unused ballot) _ (none_is (scan_refusal plan phase.Voting word.Unused ballot marks) f)).0).ballot_is in
+    let known = (early plan phase.Voting word.Unused ballot (first_none (early_refusal plan phase.Voting word.Unused ballot) _ (is_none-true (scan_refusal plan phase.Voting word.Unused ballot marks) f)).0).ballot_is in
     (small_ballots plan kept ballot known, marks_small plan marks kept (candidates_pass plan ballot marks f))
-numbers_fit plan (act.Spoil ballot) kept counted f = small_ballots plan kept ballot (early plan phase.Voting word.Unused ballot (none_is (early_refusal plan phase.Voting word.Unused ballot) f)).ballot_is
-numbers_fit plan (act.Audit ballot paper) kept counted f = small_ballots plan kept ballot (audit_fits plan phase.Voting word.Unused ballot paper (none_is (audit_refusal plan phase.Voting word.Unused ballot paper) f)).0
+numbers_fit plan (act.Spoil ballot) kept counted f = small_ballots plan kept ballot (early plan phase.Voting word.Unused ballot (is_none-true (early_refusal plan phase.Voting word.Unused ballot) f)).ballot_is
+numbers_fit plan (act.Audit ballot paper) kept counted f = small_ballots plan kept ballot (audit_fits plan phase.Voting word.Unused ballot paper (is_none-true (audit_refusal plan phase.Voting word.Unused ballot paper) f)).0
 numbers_fit plan act.Close kept counted f = tt
 numbers_fit plan (act.Draw draw.Full) kept counted f = tt
 numbers_fit plan (act.Draw (draw.Public bytes)) kept counted f = bytes_in_list bytes counted

@@ -1,6 +1,7 @@
 -- An act that comes again is answered as at first.
 use Rattle.std.proofs.Common.{◌≡◌, Bool, true, false, cond, List, [], ◌∷◌, ◌++◌, Option, Some, None, refl, ◌∙◌}
 use Rattle.std.proofs.lemmas.Slice.Eq.{bytes_eq-Decides}
+use Rattle.sg_lists.proofs.Options.{cond_none}
 use Rattle.sg_acts.specs.declared.asks.Act.{Act}
 use Rattle.sg_acts.specs.declared.asks.Stamp.{Stamp}
 use Rattle.sg_acts.specs.declared.replies.Reply.{Reply}
@@ -13,7 +14,7 @@ use Rattle.sg_histories.specs.HistoryLaws.{RepeatsAreAnswered}
 use Rattle.sg_histories.specs.Lawful.{Lawful}
 use Rattle.sg_histories.proofs.Accepted.{next_early}
 use Rattle.sg_histories.proofs.DoneActs.{found_self, stamped_self}
-use Rattle.sg_histories.proofs.Stamps.{entry_new, passed_by}
+use Rattle.sg_histories.proofs.Stamps.{entry_new}
 
 -- an entry's number is there, whatever stands before it
 stands_in : (later history : List Entry) (stamp : Stamp) (asked : Act) → act_of_stamp (later ++ entry_of stamp asked ∷ history) stamp.station stamp.number ≡ None → ⊥
@@ -22,7 +23,7 @@ stands_in [] history stamp asked none = clash (act_of_stamp (entry_of stamp aske
     clash : (o : Option Act) → o ≡ Some asked → o ≡ None → ⊥
     clash o some e = cc
 stands_in (entry ∷ later) history stamp asked none =
-    stands_in later history stamp asked (passed_by (is_stamped stamp.station stamp.number entry) entry.act (act_of_stamp (later ++ entry_of stamp asked ∷ history) stamp.station stamp.number) none).1
+    stands_in later history stamp asked (cond_none (is_stamped stamp.station stamp.number entry) entry.act (act_of_stamp (later ++ entry_of stamp asked ∷ history) stamp.station stamp.number) none).1
 
 -- the entry's own act is found at its number
 repeat_here : (setup : Setup) (history : List Entry) (stamp : Stamp) (asked : Act) → repeat_of setup (entry_of stamp asked ∷ history) stamp asked ≡ Some (reply.Done (body_of setup history asked))

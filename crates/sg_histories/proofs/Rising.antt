@@ -1,12 +1,14 @@
 -- Rows that rise, where new ones are put among them, and where they are judged one by one.
-use Rattle.std.proofs.Common.{◌≡◌, ◌+◌, Bool, true, false, ◌&&◌, ◌||◌, not, cond, List, [], ◌∷◌, ◌++◌, count_by, Option, Some, None, refl, sym, ◌∙◌, arith, subst}
+use Rattle.std.proofs.Common.{◌≡◌, ◌+◌, Bool, true, false, ◌&&◌, cond, List, [], ◌∷◌, ◌++◌, count_by, None, refl, sym, ◌∙◌, arith, subst}
 use Rattle.std.specs.List.{list_all, list_any}
-use Rattle.std.specs.Option.{is_none}
 use Rattle.std.specs.Ordering.{int_eq}
 use Rattle.std.specs.Prelude.{ℤ, int_lt}
 use Rattle.std.proofs.lemmas.Grind.{common_steps}
 use Rattle.std.proofs.lemmas.Int.{ints}
 use Rattle.std.proofs.lemmas.List.{append_assoc}
+use Rattle.sg_lists.proofs.Bools.{not_or_parts}
+use Rattle.sg_lists.proofs.Integers.{pairs_total, pairs_trans}
+use Rattle.sg_lists.proofs.Options.{is_none-true}
 use Rattle.sg_plan.specs.Limits.{each_keeps, first_bad}
 use Rattle.sg_plan.proofs.Lists.{first_bad-each}
 use Rattle.sg_keeper.specs.Rows.{ballot_before, ballot_is, done_before, done_is, is_new, put, void_before, void_is}
@@ -42,16 +44,10 @@ void_order = record {
     ints_other : (a b : ℤ) → int_eq b a ≡ false → int_lt a b ≡ false → int_lt b a ≡ true
     ints_other a b h k = grind (arith, ints, h, k)
 
-pairs_trans : (a b c n m o : ℤ) → (int_lt a b || (int_eq a b && int_lt n m)) ≡ true → (int_lt b c || (int_eq b c && int_lt m o)) ≡ true → (int_lt a c || (int_eq a c && int_lt n o)) ≡ true
-pairs_trans a b c n m o h k = grind (arith, ints, h, k)
-
-pairs_other : (a b n m : ℤ) → (int_eq b a && int_eq m n) ≡ false → (int_lt a b || (int_eq a b && int_lt n m)) ≡ false → (int_lt b a || (int_eq b a && int_lt m n)) ≡ true
-pairs_other a b n m h k = grind (arith, ints, h, k)
-
 pub done_order : IsOrder done_before done_is
 done_order = record {
   trans = λ a b c h k. pairs_trans a.station b.station c.station a.number b.number c.number h k;
-  other = λ a b h k. pairs_other a.station b.station a.number b.number h k;
+  other = λ a b h k. pairs_total a.station b.station a.number b.number k h;
 }
 
 -- PUT
@@ -68,15 +64,11 @@ before_put before x row (y ∷ ys) h k = by_order (before row y) (before_put bef
     by_order true ih = (h, k)
     by_order false ih = (k.0, ih)
 
-none_of : (a b : Bool) → not (a || b) ≡ true → (a ≡ false) × (not b ≡ true)
-none_of true b e = cc
-none_of false b e = (refl, e)
-
 -- a new row put into rows that rise
 pub put_rises : {A : Type 0} (before same : A → A → Bool) → IsOrder before same → (row : A) (rows : List A) → is_new same row rows ≡ true → Rises before rows → Rises before (put before row rows)
 put_rises before same order row [] new rises = (tt, tt)
 put_rises before same order row (x ∷ xs) new rises =
-    let parts = none_of (same x row) (list_any (λ kept. same kept row) xs) new in
+    let parts = not_or_parts (same x row) (list_any (λ kept. same kept row) xs) new in
     by_order (before row x) refl parts.0 (put_rises before same order row xs parts.1 rises.1)
   where
     by_order : (b : Bool) → before row x ≡ b → same x row ≡ false → Rises before (put before row xs) → Rises before (cond b (row ∷ x ∷ xs) (x ∷ put before row xs))
@@ -128,10 +120,6 @@ each_of before keeps rows earlier (x ∷ rest) is starts rises each =
     let ih = each_of before keeps rows (earlier ++ x ∷ []) rest next (starts_next before earlier x rest rises.0) rises.1 each in
     rw (here) ih
 
-pub none_is : {A : Type 0} (o : Option A) → is_none o ≡ true → o ≡ None
-none_is None e = refl
-none_is (Some x) e = cc
-
 starts_first : {A : Type 0} (before : A → A → Bool) (rows : List A) → Starts before [] rows
 starts_first before [] = tt
 starts_first before (x ∷ xs) = refl
@@ -140,7 +128,7 @@ pub none_bad : {A : Type 0} (before : A → A → Bool) (keeps : List A → A �
     → ((front : List A) (x : A) (back : List A) → rows ≡ front ++ x ∷ back → climbs before front x ≡ true → keeps front x ≡ true)
     → first_bad keeps [] rows ≡ None
 none_bad before keeps rows rises each =
-    none_is (first_bad keeps [] rows) (first_bad-each keeps [] rows ∙ each_of before keeps rows [] rows refl (starts_first before rows) rises each)
+    is_none-true (first_bad keeps [] rows) (first_bad-each keeps [] rows ∙ each_of before keeps rows [] rows refl (starts_first before rows) rises each)
 
 -- a test of all rows at one of them
 pub all_inside : {A : Type 0} (p : A → Bool) (rows front : List A) (x : A) (back : List A) → rows ≡ front ++ x ∷ back → list_all p rows ≡ true → p x ≡ true

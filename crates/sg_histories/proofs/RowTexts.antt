@@ -8,6 +8,9 @@ use Rattle.std.proofs.lemmas.Bool.{and_parts}
 use Rattle.std.proofs.lemmas.List.Elements.{All-weaker}
 use Rattle.std.proofs.lemmas.List.Sums.{list_all-from_AllPass}
 use Rattle.std.proofs.lemmas.Slice.Eq.{bytes_eq-Decides}
+use Rattle.std.proofs.lemmas.Option.{same_Some}
+use Rattle.sg_lists.proofs.Lists.{cons_parts}
+use Rattle.sg_lists.proofs.Options.{is_none-true}
 use Rattle.sg_plan.specs.declared.plan.Draw.{Draw}
 use Rattle.sg_plan.specs.declared.plan.Mark.{Mark}
 use Rattle.sg_plan.specs.declared.plan.Plan.{Plan}
@@ -32,7 +35,6 @@ use Rattle.sg_histories.proofs.Accepted.{early}
 use Rattle.sg_histories.proofs.BackBallots.{scan_known}
 use Rattle.sg_histories.proofs.BackTold.{no_detail, same_int, stage_back}
 use Rattle.sg_histories.proofs.Fitting.{audit_fits}
-use Rattle.sg_histories.proofs.Rising.{none_is}
 
 -- the byte is no space
 abbrev pub free : ℕ → Bool
@@ -44,28 +46,22 @@ free_is byte e = rw e refl
 pub no_spaces : (w : List ℕ) → HasNoSpace w → list_all free w ≡ true
 no_spaces w h = list_all-from_AllPass free w (All-weaker (λ byte. (byte == 32) ≡ false) (λ byte. free byte ≡ true) free_is w h)
 
-head_is : (x y : ℕ) (xs ys : List ℕ) → x ∷ xs ≡ y ∷ ys → x ≡ y
-head_is x y xs ys e = cc
-
-tail_is : (x y : ℕ) (xs ys : List ℕ) → x ∷ xs ≡ y ∷ ys → xs ≡ ys
-tail_is x y xs ys e = cc
-
 no_space_here : (c : ℕ) (xs : List ℕ) → list_all free (c ∷ xs) ≡ true → c ≡ 32 → ⊥
 no_space_here c xs all e = let k : free 32 ≡ true = ap free (sym e) ∙ (and_parts (free c) (list_all free xs) all).0 in (cc)
 
 pub split_two : (a b x y : List ℕ) → list_all free a ≡ true → list_all free b ≡ true → a ++ 32 ∷ x ≡ b ++ 32 ∷ y → (a ≡ b) × (x ≡ y)
-split_two [] [] x y fa fb e = (refl, tail_is 32 32 x y e)
-split_two [] (d ∷ b) x y fa fb e = absurd (no_space_here d b fb (sym (head_is 32 d x (b ++ 32 ∷ y) e)))
-split_two (c ∷ a) [] x y fa fb e = absurd (no_space_here c a fa (head_is c 32 (a ++ 32 ∷ x) y e))
+split_two [] [] x y fa fb e = (refl, (cons_parts e).1)
+split_two [] (d ∷ b) x y fa fb e = absurd (no_space_here d b fb (sym (cons_parts e).0))
+split_two (c ∷ a) [] x y fa fb e = absurd (no_space_here c a fa (cons_parts e).0)
 split_two (c ∷ a) (d ∷ b) x y fa fb e =
-    let rest = split_two a b x y (and_parts (free c) (list_all free a) fa).1 (and_parts (free d) (list_all free b) fb).1 (tail_is c d (a ++ 32 ∷ x) (b ++ 32 ∷ y) e) in
-    (ap (λ (h : ℕ). h ∷ a) (head_is c d (a ++ 32 ∷ x) (b ++ 32 ∷ y) e) ∙ ap (λ (l : List ℕ). d ∷ l) rest.0, rest.1)
+    let rest = split_two a b x y (and_parts (free c) (list_all free a) fa).1 (and_parts (free d) (list_all free b) fb).1 (cons_parts e).1 in
+    (ap (λ (h : ℕ). h ∷ a) (cons_parts e).0 ∙ ap (λ (l : List ℕ). d ∷ l) rest.0, rest.1)
 
 pub split_end : (a b y : List ℕ) → list_all free a ≡ true → a ≡ b ++ 32 ∷ y → ⊥
 split_end [] [] y fa e = cc
 split_end [] (d ∷ b) y fa e = cc
-split_end (c ∷ a) [] y fa e = no_space_here c a fa (head_is c 32 a y e)
-split_end (c ∷ a) (d ∷ b) y fa e = split_end a b y (and_parts (free c) (list_all free a) fa).1 (tail_is c d a (b ++ 32 ∷ y) e)
+split_end (c ∷ a) [] y fa e = no_space_here c a fa (cons_parts e).0
+split_end (c ∷ a) (d ∷ b) y fa e = split_end a b y (and_parts (free c) (list_all free a) fa).1 (cons_parts e).1
 
 apart_words : (a b : List ℕ) → bytes_eq a b ≡ false → a ≡ b → ⊥
 apart_words a b n e = let k : bytes_eq a b ≡ true = (bytes_eq-Decides a b).1 e in (cc)
@@ -149,9 +145,6 @@ scan_back version a b marks detail sa sb e = by_test (length detail == 0) refl e
         (w.0, ap (join_with_byte 32) w.1 ∙ sym (no_detail detail k))
     by_test false k f = with_detail a b (map mark_word marks) detail sa sb (scan_rest version a marks (decimal b ++ 32 ∷ detail) f)
 
-some_text : (a b : List ℕ) → Some a ≡ Some b → a ≡ b
-some_text a b e = cc
-
 no_text : (t : List ℕ) → ◌≡◌ {A = Option (List ℕ)} None (Some t) → ⊥
 no_text t e = cc
 
@@ -169,7 +162,7 @@ scan_of_row setup b row (act.Claim a race code) small sb at one fit e first f w 
 scan_of_row setup b row (act.Void a) small sb at one fit e first f w kept = absurd (apart_words (codes "void") (codes "scan") refl (sym f ∙ w))
 
 spoil_known : (plan : Plan) (ballot : ℕ) → fits plan (act.Spoil ballot) ≡ true → is_ballot plan ballot ≡ true
-spoil_known plan ballot f = (early plan phase.Voting word.Unused ballot (none_is (early_refusal plan phase.Voting word.Unused ballot) f)).ballot_is
+spoil_known plan ballot f = (early plan phase.Voting word.Unused ballot (is_none-true (early_refusal plan phase.Voting word.Unused ballot) f)).ballot_is
 
 spoil_of_row : (setup : Setup) (b : ℕ) (row : BallotRow) (done : Act) → SmallBallots setup.plan → b < 2 ^ 32 → row.ballot ≡ pos b → row.fate ≡ pos 2 → row.detail ≡ [] → fits setup.plan done ≡ true
     → act_text setup.plan.version done ≡ join_with_byte 32 (codes "spoil" ∷ decimal b ∷ [])
@@ -188,7 +181,7 @@ audit_of_row : (setup : Setup) (b : ℕ) (row : BallotRow) (done : Act) → Smal
     → act_text setup.plan.version done ≡ join_with_byte 32 (codes "audit" ∷ decimal b ∷ row.detail ∷ [])
     → (first : List ℕ) → first ≡ first_word done → first ≡ codes "audit" → (kept : ℕ) → row_of_act setup.plan.version kept done ≡ change.Ballot row
 audit_of_row setup b row (act.Audit a paper) small sb at three fit e first f w kept =
-    let known = (audit_fits setup.plan phase.Voting word.Unused a paper (none_is (audit_refusal setup.plan phase.Voting word.Unused a paper) fit)).0 in
+    let known = (audit_fits setup.plan phase.Voting word.Unused a paper (is_none-true (audit_refusal setup.plan phase.Voting word.Unused a paper) fit)).0 in
     let s = with_detail a b (map (codes_word setup.plan.version) paper) row.detail (small a known) sb (audit_rest setup.plan.version a paper (decimal b ++ 32 ∷ row.detail) e) in
     ap (λ (r : BallotRow). change.Ballot r) (ballot_back (pos a) (pos 3) (join_with_byte 32 (map (codes_word setup.plan.version) paper)) row.ballot row.fate row.detail (ap (λ n. pos n) s.0 ∙ sym at) (sym three) s.1)
 audit_of_row setup b row (act.Scan a marks) small sb at three fit e first f w kept = absurd (apart_words (codes "scan") (codes "audit") refl (sym f ∙ w))
@@ -230,13 +223,13 @@ reads_rows setup read reads small = record {
         by_audit : (t : Bool) → int_eq row.fate (pos 3) ≡ t → option_map (join_with_byte 32) (cond t (Some (codes "audit" ∷ decimal b ∷ row.detail ∷ [])) None) ≡ Some text → row_of_act setup.plan.version kept done ≡ change.Ballot row
         by_audit false k e = absurd (no_text text e)
         by_audit true k e =
-            let w : act_text setup.plan.version done ≡ join_with_byte 32 (codes "audit" ∷ decimal b ∷ row.detail ∷ []) = words ∙ sym (some_text _ text e) in
+            let w : act_text setup.plan.version done ≡ join_with_byte 32 (codes "audit" ∷ decimal b ∷ row.detail ∷ []) = words ∙ sym (same_Some _ text e) in
             audit_of_row setup b row done small sb at (same_int row.fate 3 k) fit w (first_word done) refl (first_is setup.plan.version done (codes "audit") _ refl w) kept
 
         by_empty : (t : Bool) → (length row.detail == 0) ≡ t → int_eq row.fate (pos 2) ≡ true → option_map (join_with_byte 32) (cond t (Some (codes "spoil" ∷ decimal b ∷ [])) None) ≡ Some text → row_of_act setup.plan.version kept done ≡ change.Ballot row
         by_empty false l k e = absurd (no_text text e)
         by_empty true l k e =
-            let w : act_text setup.plan.version done ≡ join_with_byte 32 (codes "spoil" ∷ decimal b ∷ []) = words ∙ sym (some_text _ text e) in
+            let w : act_text setup.plan.version done ≡ join_with_byte 32 (codes "spoil" ∷ decimal b ∷ []) = words ∙ sym (same_Some _ text e) in
             spoil_of_row setup b row done small sb at (same_int row.fate 2 k) (no_detail row.detail l) fit w (first_word done) refl (first_is setup.plan.version done (codes "spoil") _ refl w) kept
 
         by_spoil : (t : Bool) → int_eq row.fate (pos 2) ≡ t
@@ -250,6 +243,6 @@ reads_rows setup read reads small = record {
             (cond (int_eq row.fate (pos 2)) (cond (length row.detail == 0) (Some (codes "spoil" ∷ decimal b ∷ [])) None) (cond (int_eq row.fate (pos 3)) (Some (codes "audit" ∷ decimal b ∷ row.detail ∷ [])) None))) ≡ Some text
             → row_of_act setup.plan.version kept done ≡ change.Ballot row
         by_scan true k e =
-            let w : act_text setup.plan.version done ≡ join_with_byte 32 (codes "scan" ∷ decimal b ∷ cond (length row.detail == 0) [] (row.detail ∷ [])) = words ∙ sym (some_text _ text e) in
+            let w : act_text setup.plan.version done ≡ join_with_byte 32 (codes "scan" ∷ decimal b ∷ cond (length row.detail == 0) [] (row.detail ∷ [])) = words ∙ sym (same_Some _ text e) in
             scan_of_row setup b row done small sb at (same_int row.fate 1 k) fit w (first_word done) refl (first_is setup.plan.version done (codes "scan") _ refl w) kept
         by_scan false k e = by_spoil (int_eq row.fate (pos 2)) refl e

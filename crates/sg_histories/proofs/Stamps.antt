@@ -1,10 +1,11 @@
 -- A station's number stands once in a lawful history, and the done rows tell the act that has it.
-use Rattle.std.proofs.Common.{◌≡◌, ℕ, ◌+◌, ◌≤◌, ◌==◌, Bool, true, false, ◌&&◌, cond, List, [], ◌∷◌, count_by, Option, Some, None, refl, ap, sym, ◌∙◌, arith, subst, if◌then◌else◌}
+use Rattle.std.proofs.Common.{◌≡◌, ℕ, ◌+◌, ◌≤◌, ◌==◌, Bool, true, false, ◌&&◌, cond, List, [], ◌∷◌, count_by, Option, Some, None, refl, ap, sym, ◌∙◌, arith, subst}
 use Rattle.std.specs.Option.{option_map}
 use Rattle.std.specs.Ordering.{int_eq}
 use Rattle.std.specs.Prelude.{pos}
-use Rattle.std.proofs.lemmas.Bool.{and_parts}
-use Rattle.std.proofs.lemmas.Bool.Decides.{nat_tests}
+use Rattle.std.proofs.lemmas.Bool.{and_parts, eqb-true}
+use Rattle.sg_lists.proofs.Bools.{one_if}
+use Rattle.sg_lists.proofs.Options.{cond_none}
 use Rattle.sg_keeper.specs.Rows.{done_before, put}
 use Rattle.sg_acts.specs.declared.asks.Act.{Act}
 use Rattle.sg_acts.specs.declared.asks.Stamp.{Stamp}
@@ -18,24 +19,19 @@ use Rattle.sg_histories.specs.KeptRows.{done_row, rows_of}
 use Rattle.sg_histories.specs.Lawful.{Lawful}
 use Rattle.sg_histories.specs.Standing.{text_at}
 use Rattle.sg_histories.proofs.Accepted.{passed}
-use Rattle.sg_histories.proofs.OutDones.{count_cons, one, same_done}
+use Rattle.sg_histories.proofs.OutDones.{count_cons, same_done}
 
 -- NEW NUMBERS
-
--- where nothing is found, the test failed and nothing is found behind it
-pub passed_by : {A : Type 0} (test : Bool) (x : A) (rest : Option A) → (if test then Some x else rest) ≡ None → (test ≡ false) × (rest ≡ None)
-passed_by true x rest e = cc
-passed_by false x rest e = (refl, e)
 
 -- a number that is new is at no entry
 pub new_number : (setup : Setup) (history : List Entry) (stamp : Stamp) (asked : Act) → repeat_of setup history stamp asked ≡ None
     → (count_by (is_stamped stamp.station stamp.number) history ≡ 0) × (act_of_stamp history stamp.station stamp.number ≡ None)
 new_number setup [] stamp asked e = (refl, refl)
 new_number setup (entry ∷ history) stamp asked e =
-    let here = passed_by (is_stamped stamp.station stamp.number entry) _ (repeat_of setup history stamp asked) e in
+    let here = cond_none (is_stamped stamp.station stamp.number entry) _ (repeat_of setup history stamp asked) e in
     let rest = new_number setup history stamp asked here.1 in
     let count = count_cons (is_stamped stamp.station stamp.number) entry history in
-    let other : one (is_stamped stamp.station stamp.number entry) ≡ 0 = ap one here.0 in
+    let other : one_if (is_stamped stamp.station stamp.number entry) ≡ 0 = ap one_if here.0 in
     let none = rest.0 in (
       omega (arith, count, other, none),
       ap (λ b. cond b (Some entry.act) (act_of_stamp history stamp.station stamp.number)) here.0 ∙ rest.1,
@@ -47,20 +43,17 @@ pub entry_new : (setup : Setup) (entry : Entry) (history : List Entry) → Lawfu
 entry_new setup entry history lawful station number is =
     let new = new_number setup history lawful.0.stamp entry.act (passed setup history lawful.0.stamp entry.act lawful.0.accepted).new in
     let parts = and_parts (entry.station == station) (entry.number == number) is in
-    let station_is : lawful.0.stamp.station ≡ station = ap (λ (e : Entry). e.station) (sym lawful.0.is) ∙ same entry.station station parts.0 in
-    let number_is : lawful.0.stamp.number ≡ number = ap (λ (e : Entry). e.number) (sym lawful.0.is) ∙ same entry.number number parts.1 in
+    let station_is : lawful.0.stamp.station ≡ station = ap (λ (e : Entry). e.station) (sym lawful.0.is) ∙ eqb-true entry.station station parts.0 in
+    let number_is : lawful.0.stamp.number ≡ number = ap (λ (e : Entry). e.number) (sym lawful.0.is) ∙ eqb-true entry.number number parts.1 in
     subst (λ (s : ℕ). (count_by (is_stamped s number) history ≡ 0) × (act_of_stamp history s number ≡ None)) station_is
     (subst (λ (n : ℕ). (count_by (is_stamped lawful.0.stamp.station n) history ≡ 0) × (act_of_stamp history lawful.0.stamp.station n ≡ None)) number_is new)
-  where
-    same : (a b : ℕ) → (a == b) ≡ true → a ≡ b
-    same a b e = grind (arith, nat_tests, e)
 
 pub stamps_stand_once : StampsStandOnce
 stamps_stand_once setup [] lawful station number = omega arith
 stamps_stand_once setup (entry ∷ history) lawful station number =
     by_test (is_stamped station number entry) refl (count_cons (is_stamped station number) entry history) (stamps_stand_once setup history lawful.1 station number)
   where
-    by_test : (t : Bool) → is_stamped station number entry ≡ t → count_by (is_stamped station number) (entry ∷ history) ≡ one t + count_by (is_stamped station number) history
+    by_test : (t : Bool) → is_stamped station number entry ≡ t → count_by (is_stamped station number) (entry ∷ history) ≡ one_if t + count_by (is_stamped station number) history
         → count_by (is_stamped station number) history ≤ 1 → count_by (is_stamped station number) (entry ∷ history) ≤ 1
     by_test true is count ih = (let none = (entry_new setup entry history lawful station number is).0 in omega (arith, count, none))
     by_test false is count ih = omega (arith, count, ih)
@@ -81,7 +74,7 @@ pub put_here : (station number : ℕ) (row : DoneRow) (rows : List DoneRow) → 
     → text_at station number rows ≡ None → text_at station number (put done_before row rows) ≡ Some row.act
 put_here station number row [] e none = ap (λ b. cond b (Some row.act) None) e
 put_here station number row (x ∷ xs) e none =
-    let past = passed_by (int_eq x.station (pos station) && int_eq x.number (pos number)) x.act (text_at station number xs) none in
+    let past = cond_none (int_eq x.station (pos station) && int_eq x.number (pos number)) x.act (text_at station number xs) none in
     by_order (done_before row x) past.0 (put_here station number row xs e past.1)
   where
     by_order : (b : Bool) → (int_eq x.station (pos station) && int_eq x.number (pos number)) ≡ false → text_at station number (put done_before row xs) ≡ Some row.act

@@ -4,6 +4,7 @@ pub mod Histories
 pub mod HistoryLaws
 pub mod KeptRows
 pub mod Lawful
+pub mod Opens
 pub mod Reading
 pub mod RowLaws
 pub mod Standing

@@ -9,8 +9,9 @@ use Rattle.sg_desks.specs.ActReading.{act_in}
 use Rattle.sg_histories.specs.Histories.{Entry}
 use Rattle.sg_histories.specs.KeptRows.{rows_of}
 use Rattle.sg_histories.specs.Lawful.{Lawful}
+use Rattle.sg_histories.specs.Opens.{OpenTo, Opens, Whole}
 use Rattle.sg_histories.specs.Reading.{ReadsActs}
-use Rattle.sg_histories.specs.ValidRows.{Whole, damage_of, opening}
+use Rattle.sg_histories.specs.ValidRows.{damage_of}
 
 -- the rows of each lawful history are valid
 abbrev pub RowsAreValid : Setup → (List ℕ → Option Act) → Type 0
@@ -35,7 +36,7 @@ ActInReadsActs = (setup : Setup) → fault_of setup.plan ≡ None → ReadsActs 
 -- the rows of each lawful history of a setup, with the setup's own text, open whole
 abbrev pub LawfulRowsOpen : Type 0
 LawfulRowsOpen = (setup : Setup) (history : List Entry) → IsSetup setup → IsMadeOfBytes setup → Lawful setup history
-    → opening (rows_of setup (setup_text setup) history) ≡ Whole setup
+    → OpenTo (rows_of setup (setup_text setup) history) (Whole setup)
 
 -- the rows are those of a lawful history of the setup, with the setup's own text
 pub record AreRowsOf (setup : Setup) (rows : Rows) : Type 0 where
@@ -46,4 +47,8 @@ pub record AreRowsOf (setup : Setup) (rows : Rows) : Type 0 where
 
 -- rows that open whole are those of a lawful history
 abbrev pub OpenRowsAreLawful : Type 0
-OpenRowsAreLawful = (setup : Setup) (rows : Rows) → opening rows ≡ Whole setup → AreRowsOf setup rows
+OpenRowsAreLawful = (setup : Setup) (rows : Rows) → OpenTo rows (Whole setup) → AreRowsOf setup rows
+
+-- rows open to one thing at most
+abbrev pub RowsOpenOnce : Type 0
+RowsOpenOnce = (rows : Rows) (a b : Opens) → OpenTo rows a → OpenTo rows b → a ≡ b

@@ -11,7 +11,6 @@ use Rattle.sg_plan.specs.Limits.{first_bad, most_claims}
 use Rattle.sg_plan.specs.declared.plan.Plan.{Plan}
 use Rattle.sg_lines.specs.Words.{decimal}
 use Rattle.sg_keeper.specs.Rows.{ballot_before, done_before, void_before}
-use Rattle.sg_keeper.specs.SetupReading.{setup_in}
 use Rattle.sg_acts.specs.declared.asks.Act.{Act}
 use Rattle.sg_acts.specs.declared.asks.Act.TheVariants as act
 use Rattle.sg_acts.specs.declared.replies.FateWord.TheVariants as word
@@ -23,7 +22,6 @@ use Rattle.sg_keeper.specs.declared.rows.Rows.{Rows}
 use Rattle.sg_keeper.specs.declared.rows.StageRow.{StageRow}
 use Rattle.sg_keeper.specs.declared.rows.VoidRow.{VoidRow}
 use Rattle.sg_keeper.specs.declared.setup.Setup.{Setup}
-use Rattle.sg_desks.specs.ActReading.{act_in}
 use Rattle.sg_desks.specs.ActTexts.{act_text}
 use Rattle.sg_histories.specs.Answers.{audit_refusal, early_refusal, fits_draw, is_ballot, scan_refusal}
 
@@ -194,30 +192,3 @@ damage_of setup read rows = first_damage (
     ∷ at_table 5 (done_fault (length setup.secrets) (told_by setup.plan.version rows) rows.dones)
     ∷ at_table 6 (first_bad (void_keeps setup.plan.version rows) [] rows.voids)
     ∷ [])
-
--- what rows open to: nothing, damage, or a setup
-pub data Opens : Type 0 where
-  Empty : Opens
-  Damaged : (table row : ℕ) → Opens
-  Whole : (setup : Setup) → Opens
-
-abbrev pub opens_as : Setup → Option (ℕ × ℕ) → Opens
-opens_as setup None = Whole setup
-opens_as setup (Some damage) = Damaged damage.0 damage.1
-
--- behind a setup's text as it was read: `acts version` reads acts of a version
-abbrev pub opens_with : (ℕ → List ℕ → Option Act) → Rows → Option Setup → Opens
-opens_with acts rows None = Damaged 1 1
-opens_with acts rows (Some setup) = opens_as setup (damage_of setup (acts setup.plan.version) rows)
-
-abbrev pub opens_from : (List ℕ → Option Setup) → (ℕ → List ℕ → Option Act) → Rows → Option (List ℕ) → Opens
-opens_from setups acts rows None = Empty
-opens_from setups acts rows (Some text) = opens_with acts rows (setups text)
-
--- what rows open to, where setups and acts are read so
-unfoldable pub opening_of : (List ℕ → Option Setup) → (ℕ → List ℕ → Option Act) → Rows → Opens
-opening_of setups acts rows = opens_from setups acts rows rows.setup
-
--- what rows open to
-abbrev pub opening : Rows → Opens
-opening rows = opening_of setup_in act_in rows

@@ -1,6 +1,6 @@
 //! The laws of histories and of their rows. Each function does nothing, and its contract is proved.
 ghost use Rattle.sg_histories.specs.HistoryLaws.{ActsStay, AsksMakeLawful, DoneActsAreKept, DoneActsStand, LawfulComesFromAsks, RepeatsAreAnswered, StampsStandOnce, StoriesFit, TurnsStayLawful};
-ghost use Rattle.sg_histories.specs.RowLaws.{ActInReadsActs, HistoriesAreValid, LawfulRowsOpen, OpenRowsAreLawful, ValidRowsAreHistories};
+ghost use Rattle.sg_histories.specs.RowLaws.{ActInReadsActs, HistoriesAreValid, LawfulRowsOpen, OpenRowsAreLawful, RowsOpenOnce, ValidRowsAreHistories};
 
 /// The rows of each lawful history are valid, for each reader that reads just the acts that fit.
 pub fn histories_law()
@@ -30,6 +30,11 @@ pub fn opening_law()
 /// Rows that open whole are those of a lawful history.
 pub fn opened_law()
     ensures { OpenRowsAreLawful }
+{}
+
+/// Rows open to one thing at most.
+pub fn open_once_law()
+    ensures { RowsOpenOnce }
 {}
 
 /// Asks that can come make a lawful history.

@@ -1,5 +1,6 @@
 -- One list cut at two places.
-use Rattle.std.proofs.Common.{◌≡◌, ◌⊎◌, inl, inr, ℕ, List, [], ◌∷◌, ◌++◌, refl, sym, ap, subst}
+use Rattle.std.proofs.Common.{◌≡◌, ◌⊎◌, inl, inr, ℕ, List, [], ◌∷◌, ◌++◌, refl, sym, subst}
+use Rattle.sg_lists.proofs.Lists.{cons_parts}
 
 abbrev first_or : List ℕ → ℕ
 first_or [] = 0
@@ -8,12 +9,6 @@ first_or (x ∷ xs) = x
 abbrev rest_of : List ℕ → List ℕ
 rest_of [] = []
 rest_of (x ∷ xs) = xs
-
-pub tails : (x y : ℕ) (xs ys : List ℕ) → x ∷ xs ≡ y ∷ ys → xs ≡ ys
-tails x y xs ys e = ap rest_of e
-
-pub firsts : (x y : ℕ) (xs ys : List ℕ) → x ∷ xs ≡ y ∷ ys → x ≡ y
-firsts x y xs ys e = ap first_or e
 
 pub cons_same : (x y : ℕ) (xs ys : List ℕ) → x ≡ y → xs ≡ ys → x ∷ xs ≡ y ∷ ys
 cons_same x y xs ys p q = λ i. p i ∷ q i
@@ -24,7 +19,7 @@ pub front_or_behind : (a b c d : List ℕ) → a ++ b ≡ c ++ d
 front_or_behind a b [] d e = inl (a, refl, sym e)
 front_or_behind [] b (y ∷ c) d e = inr (y ∷ c, refl, e)
 front_or_behind (x ∷ a) b (y ∷ c) d e =
-    longer x y a b c d (firsts x y (a ++ b) (c ++ d) e) (front_or_behind a b c d (tails x y (a ++ b) (c ++ d) e))
+    longer x y a b c d (cons_parts e).0 (front_or_behind a b c d (cons_parts e).1)
   where
     longer : (x y : ℕ) (a b c d : List ℕ) → x ≡ y
         → ((m : List ℕ) × (a ≡ c ++ m) × (d ≡ m ++ b)) ⊎ ((m : List ℕ) × (c ≡ a ++ m) × (b ≡ m ++ d))
@@ -36,8 +31,8 @@ front_or_behind (x ∷ a) b (y ∷ c) d e =
 pub end_behind : (z : ℕ) (a m front : List ℕ) → a ++ m ≡ front ++ z ∷ []
     → (m ≡ []) ⊎ ((most : List ℕ) × (m ≡ most ++ z ∷ []))
 end_behind z [] m front e = inr (front, e)
-end_behind z (x ∷ []) m [] e = inl (tails x z m [] e)
-end_behind z (x ∷ x' ∷ a) m [] e = absurd (no_cons x' (a ++ m) (tails x z (x' ∷ a ++ m) [] e))
+end_behind z (x ∷ []) m [] e = inl (cons_parts e).1
+end_behind z (x ∷ x' ∷ a) m [] e = absurd (no_cons x' (a ++ m) (cons_parts e).1)
   where
     is_some : List ℕ → Type 0
     is_some [] = ⊥
@@ -45,4 +40,4 @@ end_behind z (x ∷ x' ∷ a) m [] e = absurd (no_cons x' (a ++ m) (tails x z (x
 
     no_cons : (x : ℕ) (xs : List ℕ) → x ∷ xs ≡ [] → ⊥
     no_cons x xs e = absurd (subst is_some e tt)
-end_behind z (x ∷ a) m (y ∷ front) e = end_behind z a m front (tails x y (a ++ m) (front ++ z ∷ []) e)
+end_behind z (x ∷ a) m (y ∷ front) e = end_behind z a m front (cons_parts e).1

@@ -1,6 +1,7 @@
 -- The digest of the line `seal 1`, with one more line.
 use Rattle.std.proofs.Common.{◌≡◌, ℕ, ◌+◌, true, List, [], ◌∷◌, ◌++◌, length, Option, Some, None, refl, sym, subst, ap, ◌∙◌}
 use Rattle.std.specs.Option.{is_some, option_map_or}
+use Rattle.sg_lists.proofs.Options.{is_some-true}
 use Rattle.sg_check.specs.declared.judged.Kind.TheVariants as kind
 use Rattle.sg_check.proofs.OneMore.{form_over}
 use Rattle.sg_grammar.specs.Lines.{placed_of}
@@ -15,7 +16,7 @@ use Rattle.sg_judge.proofs.Ending.{open_judges}
 use Rattle.sg_judge.specs.FirstSeal.{first_seal, first_seal_in, first_seal_on}
 use Rattle.sg_judge.specs.Pass.{Judges}
 use Rattle.sg_judge.specs.inside.Taking.{Advances, Stands, next_seal, or_seal}
-use Rattle.sg_grammar.proofs.Walking.{some_there, take_bytes-read, take_line-head, walk-empty, walk-push}
+use Rattle.sg_grammar.proofs.Walking.{take_bytes-read, take_line-head, walk-empty, walk-push}
 use Rattle.sg_grammar.specs.Head.{head_line}
 use Rattle.sg_grammar.specs.Placed.{Placed}
 use Rattle.sg_grammar.specs.Walk.{Next, Posted, Taken, Walked, headed, read_next, start, take_bytes, walk}
@@ -66,7 +67,7 @@ next_seal-at expect bytes t taken = ap (λ (o : Option Taken). option_map_or (λ
 pub next_seal-plan : (expect : Next) (bytes : List ℕ) (said : Said) (seal : Option Digest) → read_next expect bytes ≡ Some said → is_some (head_line expect.plan expect.head said) ≡ true
     → seal ≡ or_seal seal (next_seal expect bytes)
 next_seal-plan expect bytes said seal read named =
-    let there = some_there (head_line expect.plan expect.head said) named in
+    let there = is_some-true (head_line expect.plan expect.head said) named in
     let none : next_seal expect bytes ≡ None = next_seal-at expect bytes (headed said there.0) (take_bytes-read expect bytes said read ∙ take_line-head expect said there.0 there.1) in
     sym (ap (or_seal seal) none ∙ or_seal_none seal)
 

@@ -3,15 +3,15 @@ use Rattle.std.proofs.Common.{◌≡◌, ℕ, ◌<◌, true, false, List, Some, 
 use Rattle.std.specs.Option.{is_some, option_map}
 use Rattle.std.specs.Prelude.{option_and_then}
 use Rattle.std.proofs.lemmas.Option.{same_Some}
+use Rattle.sg_lists.proofs.Options.{is_some-true, option_map-some}
 use Rattle.sg_forms.specs.Reading.{line_of}
 use Rattle.sg_forms.specs.Said.{Said}
 use Rattle.sg_judge.proofs.Behind.{plan_before, runs_stand}
 use Rattle.sg_judge.specs.inside.Taking.{StandsAt}
 use Rattle.sg_plan.specs.Limits.{fault_of}
-use Rattle.sg_grammar.proofs.Claims.{option_map-some}
 use Rattle.sg_grammar.proofs.Counting.{take_line-falls}
 use Rattle.sg_grammar.proofs.FirstLines.{take_bytes-line}
-use Rattle.sg_grammar.proofs.Walking.{plan_keeps, some_there, take_line-head}
+use Rattle.sg_grammar.proofs.Walking.{plan_keeps, take_line-head}
 use Rattle.sg_grammar.specs.Coordinates.{placed, IsPlacedIn}
 use Rattle.sg_grammar.specs.Head.{Making, head_line, is_behind}
 use Rattle.sg_grammar.specs.Left.{lines_left}
@@ -29,7 +29,7 @@ use Rattle.sg_grammar.specs.declared.state.Head.TheVariants as head
 pub plan_stepped : (old new : Next) (said : Said) → is_some (head_line old.plan old.head said) ≡ true → option_map (λ (x : Taken). x.next) (take_line old said) ≡ Some new
     → (making : Making) × (head_line old.plan old.head said ≡ Some making) × (take_line old said ≡ Some (headed said making)) × ((headed said making).next ≡ new)
 plan_stepped old new said named stepped =
-    let there = some_there (head_line old.plan old.head said) named in
+    let there = is_some-true (head_line old.plan old.head said) named in
     let taken : take_line old said ≡ Some (headed said there.0) = take_line-head old said there.0 there.1 in
     (there.0, there.1, taken, same_Some (headed said there.0).next new (sym (ap (option_map (λ (x : Taken). x.next)) taken) ∙ stepped))
 

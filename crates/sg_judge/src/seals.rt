@@ -12,7 +12,7 @@ use sg_commit::{Digest, Sealer};
 use sg_grammar::PlacedLine;
 
 /// The line is a seal, and not the hash of the bytes before it.
-#[tactic(auto, using(crate::proofs::Sealing::seals))]
+#[tactic(auto, using(sg_lists::proofs::Lists::same_bytes_eq))]
 #[inline(always)]
 pub(crate) fn is_bad_seal(sealer: &Sealer, line: &PlacedLine) -> bool
     ensures { (before : List ℕ) → HasTaken sealer.now before → result ≡ bad_seal before (placed line.now) }
@@ -46,7 +46,7 @@ fn keep_first(seal: &mut Option<Digest>, number: u32, digest: Digest)
 }
 
 /// The digest is not the hash of the bytes that were taken in.
-#[tactic(auto, using(crate::proofs::Sealing::seals))]
+#[tactic(auto, using(sg_lists::proofs::Lists::same_bytes_eq))]
 fn is_other(sealer: &Sealer, digest: &Digest) -> bool
     ensures { (before : List ℕ) → HasTaken sealer.now before → result ≡ not (bytes_eq digest.now.0 (sha256 before)) }
 {
@@ -55,7 +55,7 @@ fn is_other(sealer: &Sealer, digest: &Digest) -> bool
 }
 
 /// The digests are the same.
-#[tactic(auto, using(crate::proofs::Sealing::seals))]
+#[tactic(auto, using(sg_lists::proofs::Lists::same_bytes_eq))]
 fn is_same(one: &Digest, other: &Digest) -> bool
     ensures { result ≡ bytes_eq one.now.0 other.now.0 }
 {

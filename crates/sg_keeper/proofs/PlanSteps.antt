@@ -4,20 +4,20 @@ use Rattle.std.proofs.lemmas.List.{drop_all}
 use Rattle.std.proofs.lemmas.Option.{same_Some}
 use Rattle.std.specs.Option.{is_some, option_map}
 use Rattle.std.specs.Prelude.{option_and_then}
+use Rattle.sg_lists.proofs.Options.{is_some-false, is_some-true, option_map-some}
 use Rattle.sg_outside.specs.TextLines.{lines_of}
 use Rattle.sg_plan.specs.declared.plan.Plan.{Plan}
 use Rattle.sg_forms.specs.Reading.{line_of}
 use Rattle.sg_forms.specs.Said.{Said}
 use Rattle.sg_forms.specs.Said.Said.{Ballots}
-use Rattle.sg_grammar.proofs.Claims.{option_map-some}
-use Rattle.sg_grammar.proofs.Walking.{none_there, read_next-some, some_there}
+use Rattle.sg_grammar.proofs.Walking.{read_next-some}
 use Rattle.sg_grammar.specs.Head.{Making, head_line}
 use Rattle.sg_grammar.specs.Walk.{Next, Taken, headed, read_next, take_at, take_line}
 use Rattle.sg_grammar.specs.declared.state.Head.{Head}
 use Rattle.sg_grammar.specs.declared.state.Head.TheVariants as head
 use Rattle.sg_grammar.specs.declared.state.Part.{Part}
 use Rattle.sg_grammar.specs.declared.state.Slot.{Slot}
-use Rattle.sg_keeper.specs.SetupReading.{no_line, read_plan, with_line}
+use Rattle.sg_keeper.specs.inside.SetupReading.{no_line, read_plan, with_line}
 use Rattle.sg_keeper.specs.inside.PlanLines.{making_of}
 
 -- ONE LINE
@@ -51,18 +51,18 @@ pub takes_none : (next : Next) (bytes : List ℕ) → read_next next bytes ≡ N
 unfolding read_next
 takes_none next bytes e =
     none_read next bytes (line_of next.plan.version bytes) (λ s. is_some (take_line next s))
-    (λ s none. not_taken next s (head_line next.plan next.head s) refl (none_there (take_line next s) none)) e
+    (λ s none. not_taken next s (head_line next.plan next.head s) refl (is_some-false (take_line next s) none)) e
 
 -- a line that may stand next and is none of the plan's
 pub takes_other : (next : Next) (bytes : List ℕ) (said : Said) → read_next next bytes ≡ Some said → is_some (head_line next.plan next.head said) ≡ false → with_line (making_of next) bytes ≡ None
 takes_other next bytes said read other =
-    ap (λ (o : Option Said). option_and_then (head_line next.plan next.head) o) (read_next-some next bytes said read).0 ∙ none_there (head_line next.plan next.head said) other
+    ap (λ (o : Option Said). option_and_then (head_line next.plan next.head) o) (read_next-some next bytes said read).0 ∙ is_some-false (head_line next.plan next.head said) other
 
 -- a line of the plan
 pub takes_plan : (old new : Next) (bytes : List ℕ) (said : Said) → read_next old bytes ≡ Some said → is_some (head_line old.plan old.head said) ≡ true
     → option_map (λ (t : Taken). t.next) (take_line old said) ≡ Some new → with_line (making_of old) bytes ≡ Some (making_of new)
 takes_plan old new bytes said read mine step =
-    let more = some_there (head_line old.plan old.head said) mine in
+    let more = is_some-true (head_line old.plan old.head said) mine in
     let taken = option_map-some (λ (t : Taken). t.next) (take_line old said) new step in
     let same : headed said more.0 ≡ taken.0 = same_Some (headed said more.0) taken.0 (sym (head_taken old said more.0 more.1) ∙ taken.1) in
     let is : more.0 ≡ making_of new = ap (λ (t : Taken). making_of t.next) same ∙ ap making_of taken.2 in

@@ -1,18 +1,14 @@
 -- Rows that rise by their keys still do so where a row with a new key is put in.
-use Rattle.std.proofs.Common.{◌≡◌, Bool, true, false, ◌&&◌, ◌||◌, not, cond, ℤ, int_lt, List, [], ◌∷◌, refl, arith}
+use Rattle.std.proofs.Common.{◌≡◌, Bool, true, false, cond, ℤ, int_lt, List, [], ◌∷◌, refl, arith}
 use Rattle.std.specs.List.{list_any}
 use Rattle.std.specs.Ordering.{int_eq}
 use Rattle.std.proofs.lemmas.Int.{ints}
-use Rattle.sg_keeper.specs.declared.rows.BallotRow.{BallotRow}
-use Rattle.sg_keeper.specs.declared.rows.StageRow.{StageRow}
-use Rattle.sg_keeper.specs.declared.rows.ClaimRow.{ClaimRow}
-use Rattle.sg_keeper.specs.declared.rows.VoidRow.{VoidRow}
-use Rattle.sg_keeper.specs.declared.rows.DoneRow.{DoneRow}
+use Rattle.sg_lists.proofs.Bools.{not_or_parts}
+use Rattle.sg_lists.proofs.Integers.{pairs_total, pairs_trans}
 use Rattle.sg_keeper.specs.declared.rows.Rows.{Rows}
-use Rattle.sg_keeper.specs.declared.rows.Change.{Change}
 use Rattle.sg_keeper.specs.declared.rows.ChangeRow.{ChangeRow}
 use Rattle.sg_keeper.specs.declared.rows.ChangeRow.TheVariants.{Ballot, Stage, Claim, Void}
-use Rattle.sg_keeper.specs.Rows.{IsNewChange, ballot_before, ballot_is, claim_before, claim_is, done_before, done_is, is_new, is_new_row, no_rows, put, stage_before, stage_is, void_before, void_is, with_change, with_row}
+use Rattle.sg_keeper.specs.Rows.{ballot_before, ballot_is, claim_before, claim_is, done_before, done_is, is_new, is_new_row, put, stage_before, stage_is, void_before, void_is, with_row}
 use Rattle.sg_keeper.specs.Laws.{BeforeAll, Rises, RowsRise, RisingIsKept}
 
 -- a strict order of keys, and its test for the same key
@@ -34,17 +30,13 @@ before_put before a row (x ∷ xs) h all = by_order (before row x) (before_put b
     by_order true later = (h, all)
     by_order false later = (all.0, later)
 
-first_new : (a b : Bool) → not (a || b) ≡ true → (a ≡ false) × (not b ≡ true)
-first_new true b e = absurd cc
-first_new false b e = (refl, e)
-
 -- a list that rises still does so with a row whose key is new
 pub put_rises : {A : Type 0} (before same : A → A → Bool) → IsKeyOrder before same → (row : A) (xs : List A) → is_new same row xs ≡ true → Rises before xs → Rises before (put before row xs)
 put_rises before same keys row [] new rises = (tt, tt)
 put_rises before same keys row (x ∷ xs) new rises = by_order (before row x) refl (put_rises before same keys row xs parts.1 rises.1)
   where
     parts : (same x row ≡ false) × (is_new same row xs ≡ true)
-    parts = first_new (same x row) (list_any (λ kept. same kept row) xs) new
+    parts = not_or_parts (same x row) (list_any (λ kept. same kept row) xs) new
 
     by_order : (b : Bool) → before row x ≡ b → Rises before (put before row xs) → Rises before (cond b (row ∷ x ∷ xs) (x ∷ put before row xs))
     by_order true e later = ((e, before_trans before same keys row x xs e rises.0), rises)
@@ -69,12 +61,6 @@ claim_keys = record { trans = λ a b c h g. lower_trans a.claim b.claim c.claim 
 
 pub void_keys : IsKeyOrder void_before void_is
 void_keys = record { trans = λ a b c h g. lower_trans a.ballot b.ballot c.ballot h g; total = λ a b h g. lower_total a.ballot b.ballot h g }
-
-pairs_trans : (s t u n m k : ℤ) → (int_lt s t || (int_eq s t && int_lt n m)) ≡ true → (int_lt t u || (int_eq t u && int_lt m k)) ≡ true → (int_lt s u || (int_eq s u && int_lt n k)) ≡ true
-pairs_trans s t u n m k h g = grind (arith, ints, h, g)
-
-pairs_total : (s t n m : ℤ) → (int_lt s t || (int_eq s t && int_lt n m)) ≡ false → (int_eq t s && int_eq m n) ≡ false → (int_lt t s || (int_eq t s && int_lt m n)) ≡ true
-pairs_total s t n m h g = grind (arith, ints, h, g)
 
 pub done_keys : IsKeyOrder done_before done_is
 done_keys = record { trans = λ a b c h g. pairs_trans a.station b.station c.station a.number b.number c.number h g; total = λ a b h g. pairs_total a.station b.station a.number b.number h g }

@@ -31,10 +31,10 @@ A byte = byte < 128
 
 -- WORDS
 
-literal_ascii : (word : List ℕ) → list_all (λ byte. nat_lt byte 128) word ≡ true → IsAscii word
+pub literal_ascii : (word : List ℕ) → list_all (λ byte. nat_lt byte 128) word ≡ true → IsAscii word
 literal_ascii word e = All-weaker (λ byte. nat_lt byte 128 ≡ true) A (λ byte small. ltb-true byte 128 small) word (AllPass-from_list_all (λ byte. nat_lt byte 128) word e)
 
-number_ascii : (number : ℕ) → IsNumber number → IsAscii (decimal number)
+pub number_ascii : (number : ℕ) → IsNumber number → IsAscii (decimal number)
 number_ascii number fits = All-weaker (λ byte. (48 ≤ byte) × (byte ≤ 57)) A (λ byte digit. omega arith) (decimal number) (decimal-digits_only number fits)
 
 name_ascii : (name : List ℕ) → IsName name → IsAscii name
@@ -51,12 +51,12 @@ sign_ascii byte e =
     (λ digit. leb-true byte 57 (and_parts (nat_le 48 byte) (nat_le byte 57) digit).1)
     (λ letter. leb-true byte 102 (and_parts (nat_le 97 byte) (nat_le byte 102) letter).1) e
 
-hex_ascii : (bytes : List ℕ) → All (λ byte. byte < 256) bytes → IsAscii (encode_lower bytes)
+pub hex_ascii : (bytes : List ℕ) → All (λ byte. byte < 256) bytes → IsAscii (encode_lower bytes)
 hex_ascii bytes fit = All-weaker (λ byte. is_hex_sign byte ≡ true) A sign_ascii (encode_lower bytes) (AllPass-from_list_all is_hex_sign (encode_lower bytes) (hex_signs bytes fit))
 
 -- LINES
 
-abbrev AreAscii : List (List ℕ) → Type 0
+abbrev pub AreAscii : List (List ℕ) → Type 0
 AreAscii [] = Unit {0}
 AreAscii (word ∷ words) = IsAscii word × AreAscii words
 

@@ -5,13 +5,13 @@ use Rattle.std.specs.List.{concat}
 use Rattle.std.proofs.lemmas.Bool.{and_parts, le-leb, leb-true}
 use Rattle.std.proofs.lemmas.List.Folds.{concat-append}
 use Rattle.std.proofs.lemmas.Option.{cond_some, same_Some}
+use Rattle.sg_lists.proofs.Options.{option_and_then-some}
 use Rattle.sg_outside.proofs.LineLemmas.{AreLines-append, concat-lines_of, lines_of-concat}
 use Rattle.sg_outside.specs.TextLines.{AreLines, lines_of}
 use Rattle.sg_plan.specs.declared.memory.NoMemory.{NoMemory}
 use Rattle.sg_plan.specs.declared.plan.Plan.{Plan}
 use Rattle.sg_plan.specs.Limits.{fault_of}
 use Rattle.sg_forms.specs.Reading.{all_by, is_few}
-use Rattle.sg_grammar.proofs.Claims.{option_and_then-some}
 use Rattle.sg_grammar.specs.Head.{has_runs, made}
 use Rattle.sg_grammar.specs.declared.state.Head.TheVariants as head
 use Rattle.sg_record.proofs.TextLaw.{spelled_lines}
@@ -20,9 +20,9 @@ use Rattle.sg_keeper.proofs.PlanFound.{plan_found}
 use Rattle.sg_keeper.proofs.PlanOut.{plan_read}
 use Rattle.sg_keeper.proofs.PlanRange.{plan_in}
 use Rattle.sg_keeper.proofs.SetupLines.{secrets_are_lines, secrets_found, secrets_read, seed_found, seed_is_line, seed_read}
-use Rattle.sg_keeper.specs.Laws.{SetupsAreRead, SetupsAreSpelled, SetupsDiffer}
-use Rattle.sg_keeper.specs.SetupReading.{PlanRead, behind_plan, no_line, read_plan, secret_of, seed_of, setup_by, setup_in, with_secrets}
-use Rattle.sg_keeper.specs.SetupText.{IsMadeOfBytes, IsSetup, plan_texts, secret_line, seed_line, setup_lines, setup_text}
+use Rattle.sg_keeper.specs.Laws.{SetupsDiffer}
+use Rattle.sg_keeper.specs.inside.SetupReading.{PlanRead, behind_plan, no_line, read_plan, secret_of, seed_of, setup_by, setup_in, with_secrets}
+use Rattle.sg_keeper.specs.SetupText.{IsMadeOfBytes, IsSetup, IsSetupText, plan_texts, secret_line, seed_line, setup_lines, setup_text}
 use Rattle.sg_keeper.specs.declared.setup.Setup.{Setup}
 
 -- WHAT IS READ
@@ -76,7 +76,8 @@ lines_found lines setup e =
     has_some true o t e = (refl, e)
     has_some false o t e = cc
 
-pub setups_are_spelled : SetupsAreSpelled
+-- what is read is a setup, and the text is its text
+setups_are_spelled : (text : List ℕ) (setup : Setup) → setup_in text ≡ Some setup → IsSetupText text setup
 unfolding setup_in setup_text
 setups_are_spelled text setup e =
     let found = lines_found (lines_of text) setup e in
@@ -91,9 +92,9 @@ setup_are_lines setup is bytes =
     (spelled_lines setup.plan.version (plan_lines setup.plan) (plan_in setup.plan is.plan))
     (seed_is_line setup.seed.0 bytes.seed, secrets_are_lines setup.secrets bytes.secrets)
 
-pub setups_are_read : SetupsAreRead
+setup_is_read : (setup : Setup) → IsSetup setup → IsMadeOfBytes setup → setup_in (setup_text setup) ≡ Some setup
 unfolding setup_in setup_text
-setups_are_read setup is bytes =
+setup_is_read setup is bytes =
     let lines = lines_of-concat (setup_lines setup) (setup_are_lines setup is bytes) in
     let read = plan_read setup.plan setup.seed.0 (map secret_line setup.secrets) is.plan in
     let all : read_plan no_line (lines_of (concat (setup_lines setup))) ≡ record { so_far = made setup.plan head.Runs; left = seed_line setup.seed.0 ∷ map secret_line setup.secrets }
@@ -101,9 +102,12 @@ setups_are_read setup is bytes =
     ap setup_by all
     ∙ rw (seed_read setup.seed.0 bytes.seed, secrets_read setup.secrets bytes.secrets, le-leb 1 (length setup.secrets) is.some, le-leb (length setup.secrets) 32 is.few) refl
 
+-- each setup is read from its text
+setups_are_read : (text : List ℕ) (setup : Setup) → IsSetupText text setup → setup_in text ≡ Some setup
+setups_are_read text setup its = ap setup_in its.2 ∙ setup_is_read setup its.0 its.1
+
 pub setups_differ : SetupsDiffer
-setups_differ a b a_is b_is a_bytes b_bytes same =
-    same_Some a b (sym (setups_are_read a a_is a_bytes) ∙ (ap setup_in same ∙ setups_are_read b b_is b_bytes))
+setups_differ text a b of_a of_b = same_Some a b (sym (setups_are_read text a of_a) ∙ setups_are_read text b of_b)
 
 -- the parts follow one another
 pub setup_whole : (setup : Setup) → (concat (plan_texts setup.plan) ++ seed_line setup.seed.0) ++ concat (map secret_line setup.secrets) ≡ setup_text setup
@@ -126,16 +130,16 @@ unfolding setup_in
 behind_read text read plan (Ok found) is runs same at = rw (is, runs) (at ∙ ap (λ (p : Plan). behind_plan p read.left) same)
 behind_read text read plan (Err fault) is runs same at = tt
 
-found_if : (text : List ℕ) (found : Option Setup) → found ≡ setup_in text → IfSome found (λ setup. IsSetup setup × IsMadeOfBytes setup × (text ≡ setup_text setup))
+found_if : (text : List ℕ) (found : Option Setup) → found ≡ setup_in text → IfSome found (λ setup. IsSetupText text setup)
 found_if text None is = tt
 found_if text (Some setup) is = setups_are_spelled text setup (sym is)
 
 pub found_setup : (text : List ℕ) (result : Result (Option Setup) NoMemory) → IfOk result (λ found. found ≡ setup_in text)
-    → IfOk result (λ found. IfSome found (λ setup. IsSetup setup × IsMadeOfBytes setup × (text ≡ setup_text setup)))
+    → IfOk result (λ found. IfSome found (λ setup. IsSetupText text setup))
 found_setup text (Ok found) is = found_if text found is
 found_setup text (Err fault) is = tt
 
 pub only_setup : (text : List ℕ) (result : Result (Option Setup) NoMemory) → IfOk result (λ found. found ≡ setup_in text)
-    → (setup : Setup) → IsSetup setup → IsMadeOfBytes setup → text ≡ setup_text setup → IfOk result (λ found. found ≡ Some setup)
-only_setup text (Ok found) is setup fits bytes same = is ∙ (ap setup_in same ∙ setups_are_read setup fits bytes)
-only_setup text (Err fault) is setup fits bytes same = tt
+    → (setup : Setup) → IsSetupText text setup → IfOk result (λ found. found ≡ Some setup)
+only_setup text (Ok found) is setup its = is ∙ setups_are_read text setup its
+only_setup text (Err fault) is setup its = tt

@@ -1,10 +1,9 @@
 -- The laws of an office's rows, and of the texts of setups.
-use Rattle.std.specs.Prelude.{◌≡◌, ℕ, Bool, true, List, [], ◌∷◌, Some}
+use Rattle.std.specs.Prelude.{◌≡◌, ℕ, Bool, true, List, [], ◌∷◌}
 use Rattle.sg_keeper.specs.declared.rows.Rows.{Rows}
 use Rattle.sg_keeper.specs.declared.rows.Change.{Change}
 use Rattle.sg_keeper.specs.declared.setup.Setup.{Setup}
-use Rattle.sg_keeper.specs.SetupReading.{setup_in}
-use Rattle.sg_keeper.specs.SetupText.{IsMadeOfBytes, IsSetup, setup_text}
+use Rattle.sg_keeper.specs.SetupText.{IsMadeOfBytes, IsSetup, IsSetupText, setup_text}
 use Rattle.sg_keeper.specs.Rows.{IsAscii, IsNewChange, ballot_before, claim_before, done_before, no_rows, stage_before, void_before, with_change}
 
 -- ROWS
@@ -34,17 +33,9 @@ pub record RisingIsKept : Type 0 where
 
 -- TEXTS OF SETUPS
 
--- what is read is a setup, and the text is its text
-abbrev pub SetupsAreSpelled : Type 0
-SetupsAreSpelled = (text : List ℕ) (setup : Setup) → setup_in text ≡ Some setup → IsSetup setup × IsMadeOfBytes setup × (text ≡ setup_text setup)
-
--- each setup is read from its text
-abbrev pub SetupsAreRead : Type 0
-SetupsAreRead = (setup : Setup) → IsSetup setup → IsMadeOfBytes setup → setup_in (setup_text setup) ≡ Some setup
-
 -- different setups have different texts
 abbrev pub SetupsDiffer : Type 0
-SetupsDiffer = (a b : Setup) → IsSetup a → IsSetup b → IsMadeOfBytes a → IsMadeOfBytes b → setup_text a ≡ setup_text b → a ≡ b
+SetupsDiffer = (text : List ℕ) (a b : Setup) → IsSetupText text a → IsSetupText text b → a ≡ b
 
 -- the text of each setup is ASCII
 abbrev pub SetupsAreAscii : Type 0

@@ -2,6 +2,5 @@
 pub mod Keeping
 pub mod Laws
 pub mod Rows
-pub mod SetupReading
 pub mod SetupText
 pub mod inside

@@ -2,3 +2,4 @@
 pub mod Calls
 pub mod Later
 pub mod PlanLines
+pub mod SetupReading

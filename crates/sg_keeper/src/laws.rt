@@ -1,20 +1,10 @@
 //! Laws of an office's rows and of the texts of setups: what follows from the definitions alone. Each function does
 //! nothing, and its contract is proved.
-ghost use Rattle.sg_keeper.specs.Laws.{RisingIsKept, SetupsAreAscii, SetupsAreRead, SetupsAreSpelled, SetupsDiffer};
+ghost use Rattle.sg_keeper.specs.Laws.{RisingIsKept, SetupsAreAscii, SetupsDiffer};
 
 /// No rows rise by their keys, and rows that rise still do so with a change whose keys are new.
 pub fn rising_law()
     ensures { RisingIsKept }
-{}
-
-/// What is read is a setup, and the text that it is read from is its text.
-pub fn setup_spelling_law()
-    ensures { SetupsAreSpelled }
-{}
-
-/// Each setup is read from its text.
-pub fn setup_read_law()
-    ensures { SetupsAreRead }
 {}
 
 /// Different setups have different texts.

@@ -7,7 +7,7 @@ ghost use Rattle.sg_forms.specs.Reading.{all_by, is_few};
 ghost use Rattle.sg_forms.specs.Spelling.{AreBytes};
 ghost use Rattle.sg_grammar.specs.Walk.{Next};
 ghost use Rattle.sg_keeper.specs.inside.PlanLines.{making_of};
-ghost use Rattle.sg_keeper.specs.SetupReading.{behind_plan, no_line, read_plan, secret_of, seed_of, setup_in, with_line};
+ghost use Rattle.sg_keeper.specs.inside.SetupReading.{behind_plan, no_line, read_plan, secret_of, seed_of, setup_in, with_line};
 ghost use Rattle.sg_keeper.specs.SetupText.{secret_line, seed_line};
 
 use crate::setup::Setup;

@@ -5,12 +5,14 @@ use Rattle.std.proofs.lemmas.Nat.{div-add-mod'}
 use Rattle.std.proofs.lemmas.Option.{slice_get_past}
 use Rattle.std.specs.List.{list_any}
 use Rattle.std.specs.Option.{option_or}
+use Rattle.std.proofs.Math.Bool.{or-false}
+use Rattle.sg_lists.proofs.Options.{is_some-cond}
 use Rattle.sg_grammar.specs.Lines.{is_audit}
 use Rattle.sg_check.specs.Facts.{audited_entries, audits_entry, audits_race, both_rows, is_audited, is_both, opens_both, opens_pointer, paper_code, shows_paper}
 use Rattle.sg_forms.specs.declared.line.CodeLine.{CodeLine}
 use Rattle.sg_forms.specs.declared.line.RowOpening.TheVariants as row
 use Rattle.sg_ledger.proofs.KeptSteps.{count-one, count-push, count-skip}
-use Rattle.sg_ledger.proofs.Lists.{any-push, given-push, given-skip, or-false}
+use Rattle.sg_ledger.proofs.Lists.{any-push, given-push, given-skip}
 use Rattle.sg_ledger.proofs.Places.{entry_other, entry_place-end, entry_same, first-set, length-first, tells-set}
 use Rattle.sg_ledger.specs.inside.Steps.{audit_counts_after, audited_after, both_counts_after, papers_after}
 use Rattle.sg_ledger.specs.inside.Tables.{most_marks, with_first, with_firsts}
@@ -33,17 +35,13 @@ some_or : (a b : Option ℕ) → is_some (option_or a b) ≡ (is_some a || is_so
 some_or None b = refl
 some_or (Some x) b = refl
 
-some_if : (test : Bool) (x : ℕ) → is_some (if test then Some x else None) ≡ test
-some_if true x = refl
-some_if false x = refl
-
 audited-push : (plan : Plan) (r e : ℕ) (lines : List Placed) (block : Block) (ballot race column : ℕ) (code : CodeLine)
     → is_audited plan r e (lines ++ CodeAt block ballot race column code ∷ []) ≡ (is_audited plan r e lines || (is_audit block && (race == r && entry_at plan race ballot column == e)))
 audited-push plan r e lines block ballot race column code =
     let line = CodeAt block ballot race column code in
     ap (λ (o : Option ℕ). is_some o) (given-push (audits_entry plan r e) lines line)
     ∙ (some_or _ (audits_entry plan r e line)
-    ∙ ap (λ (b : Bool). is_audited plan r e lines || b) (some_if (is_audit block && (race == r && entry_at plan race ballot column == e)) code.code))
+    ∙ ap (λ (b : Bool). is_audited plan r e lines || b) (is_some-cond (is_audit block && (race == r && entry_at plan race ballot column == e)) code.code))
 
 pub audited_step : (plan : Plan) (table : List Bool) (lines : List Placed) (line : Placed) → IsPlacedIn plan line → length table ≡ all_entries plan
     → TellsAudited plan table lines → TellsAudited plan (audited_after plan table line) (lines ++ line ∷ [])

@@ -1,8 +1,9 @@
 -- A line of bits in a table of bits and in a table of counts.
 use Rattle.std.proofs.Common.{◌≡◌, ◌≢◌, ℕ, zero, suc, ◌+◌, ◌-◌, ◌%◌, ◌<◌, ◌≤◌, ◌==◌, nat_le, min, inl, inr, Bool, true, false, ◌&&◌, ◌||◌, List, [], ◌∷◌, length, get_or, set, refl, sym, ap, ◌∙◌, arith, length-set, get_or-set_same, get_or-set_other, eq-eqb, ne_eqb, zero-add, le-leb}
 use Rattle.std.proofs.lemmas.Bool.{and_left, and_right, cases_Bool, cases_eq, cases_lt, lt-leb}
+use Rattle.std.proofs.Math.Bool.{or-false, or-true}
+use Rattle.std.proofs.Math.Nat.{min-le_right}
 use Rattle.sg_check.specs.Facts.{bit_at, votes_in}
-use Rattle.sg_ledger.proofs.Lists.{or-false, or-true}
 use Rattle.sg_ledger.specs.inside.Tables.{most_votes, with_bits, with_one_more, with_votes}
 
 pub length-bits : (table : List Bool) (at : ℕ) (bits : List ℕ) → length (with_bits table at bits) ≡ length table
@@ -75,9 +76,6 @@ length-votes candidates first votes place (bit ∷ bits) =
       | inr none ↦ rw none (length-votes candidates first votes (place + 1) bits)
     ]
 
-min_right : (a b : ℕ) → min a b ≤ b
-min_right a b = omega arith
-
 -- one more, and then more, up to the most
 pub min-twice : (most a b : ℕ) → min (min (a + 1) most + b) most ≡ min (a + (1 + b)) most
 min-twice most a b = omega arith
@@ -101,7 +99,7 @@ votes-at candidates first votes place (bit ∷ bits) candidate some within below
         | inl same ↦
             let within' : first + place % candidates < length votes = rw same (omega arith) in
             let there : get_or more (first + candidate) 0 ≡ min (old + 1) most_votes = rw (← same) (get_or-set_same votes at (min (get_or votes at 0 + 1) most_votes) 0 within') in
-            let rest = votes-at candidates first more (place + 1) bits candidate some (rw sized within) below (rw there (min_right (old + 1) most_votes)) in
+            let rest = votes-at candidates first more (place + 1) bits candidate some (rw sized within) below (rw there (min-le_right (old + 1) most_votes)) in
             rw (one, eq-eqb (place % candidates) candidate same) (rest ∙ (ap (λ (k : ℕ). min (k + behind) most_votes) there ∙ min-twice most_votes old behind))
         | inr other ↦
             let apart : first + candidate ≢ at = λ e. other (omega (arith, e)) in

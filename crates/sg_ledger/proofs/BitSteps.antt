@@ -3,6 +3,7 @@ use Rattle.std.proofs.Common.{◌≡◌, ◌≢◌, ℕ, ◌+◌, ◌-◌, ◌*�
 use Rattle.std.proofs.lemmas.Bool.{and_from, and_left, and_parts, and_right, both_ways, cases_Bool, cases_eq, cases_lt, lt-leb}
 use Rattle.std.proofs.lemmas.List.Sums.{sum_by_push}
 use Rattle.std.proofs.lemmas.Nat.{mod_below}
+use Rattle.std.proofs.Math.Nat.{min-le_right}
 use Rattle.sg_check.specs.Facts.{bit_at, flags_row, is_flagged, is_set, sets_place, votes_for, votes_in, votes_on}
 use Rattle.sg_ledger.proofs.BitLists.{bit_at-past, bits-at, is_one, votes-at}
 use Rattle.sg_ledger.proofs.Lists.{any-push, any-skip}
@@ -110,10 +111,7 @@ votes-apart candidates first votes place (bit ∷ bits) other some apart =
 min-join : (most a b : ℕ) → min (min a most + b) most ≡ min (a + b) most
 min-join most a b = omega arith
 
-min-few : (most a : ℕ) → min a most ≤ most
-min-few most a = omega arith
-
-min-zero : (most a : ℕ) → min (a + 0) most ≡ min a most
+pub min-zero : (most a : ℕ) → min (a + 0) most ≡ min a most
 min-zero most a = omega arith
 
 votes-push : (plan : Plan) (r c : ℕ) (lines : List Placed) (line : Placed) → min (votes_for plan r c (lines ++ line ∷ [])) most_votes ≡ min (votes_for plan r c lines + votes_on plan r c line) most_votes
@@ -137,7 +135,7 @@ votes_step plan table lines (PlacesAt race from bits) some few placed sized told
           let place : candidate_place r c ≡ first + c = omega (arith, same) in
           let was : get_or table (first + c) 0 ≡ min v most_votes = rw (← place) (told r c r_in c_in) in
           let within : first + n ≤ length table = omega (arith, sized, few race, placed.0) in
-          let now = votes-at n first table from bits c (some race placed.0) within c_in' (rw was (min-few most_votes v)) in
+          let now = votes-at n first table from bits c (some race placed.0) within c_in' (rw was (min-le_right v most_votes)) in
           let on : votes_on plan r c line ≡ votes_in n c from bits = rw (eq-eqb race r same, same) refl in
           rw place (now ∙ (ap (λ (k : ℕ). min (k + votes_in n c from bits) most_votes) was ∙ (min-join most_votes v (votes_in n c from bits)
           ∙ sym (votes-push plan r c lines line ∙ ap (λ (k : ℕ). min (v + k) most_votes) on))))

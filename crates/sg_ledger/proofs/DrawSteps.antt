@@ -1,9 +1,10 @@
 -- What is kept of the draw and of the last claim tells one more line, where it told the lines before.
 use Rattle.std.proofs.Common.{◌≡◌, ℕ, Bool, false, List, [], ◌∷◌, ◌++◌, Option, Some, None, is_some, refl, sym, ap, ◌∙◌}
 use Rattle.std.specs.Option.{option_map, option_map_or, option_or}
+use Rattle.std.proofs.Math.Bool.{or-true}
 use Rattle.sg_check.specs.Facts.{DisputedCode, draws_digits, draws_full, first_given, is_full_draw, last_claim, public_bytes, shows_disputed}
 use Rattle.sg_forms.specs.Reading.{bytes_of_digits}
-use Rattle.sg_ledger.proofs.Lists.{any-push, any-skip, given-push, given-skip, or-true}
+use Rattle.sg_ledger.proofs.Lists.{any-push, any-skip, given-push, given-skip}
 use Rattle.sg_ledger.specs.inside.Steps.{claim_after, coins_after, full_after, with_shown}
 use Rattle.sg_ledger.specs.Tells.{kept_of}
 use Rattle.sg_ledger.specs.declared.claims.Claimed.{Claimed}

@@ -5,9 +5,10 @@ use Rattle.std.proofs.lemmas.Nat.{div-add-mod', div-mul-add, mod_below}
 use Rattle.std.specs.List.{list_any}
 use Rattle.std.specs.Option.{option_map_or}
 use Rattle.sg_grammar.specs.Lines.{is_cast}
+use Rattle.sg_check.proofs.AllKinds.{none_bad}
 use Rattle.sg_check.specs.Facts.{marks_ballot, opens_pointer}
-use Rattle.sg_check.specs.Kinds.{clashes_with, differ, first_bad, shows_against}
-use Rattle.sg_check.specs.inside.ByKind.{bad_dispute, bad_flag, bad_opening, bad_path, bad_pointer, bad_pointer_on, bad_print, bad_rule, bad_side}
+use Rattle.sg_check.specs.Kinds.{bad_placed, clashes_with, differ, first_bad, shows_against}
+use Rattle.sg_check.specs.inside.BySide.{bad_pointer_on}
 use Rattle.sg_check.specs.declared.judged.Kind.TheVariants as kind
 use Rattle.sg_commit.specs.declared.Opening.{Opening}
 use Rattle.sg_forms.specs.declared.line.CodeLine.{CodeLine}
@@ -17,7 +18,6 @@ use Rattle.sg_ledger.proofs.KeptSteps.{AgreesWith, TellsKnown, TellsMarks}
 use Rattle.sg_ledger.proofs.Lists.{any-along, any-none}
 use Rattle.sg_ledger.proofs.PathSteps.{are_small}
 use Rattle.sg_ledger.proofs.Places.{column_below, entry_one}
-use Rattle.sg_ledger.specs.inside.Reads.{code_kind, row_kind}
 use Rattle.sg_ledger.specs.inside.Tables.{leads_another, most_marks, shows_another}
 use Rattle.sg_ledger.specs.Tells.{ArePlacedIn, TellsPaths, is_value, leads_entry, shows_entry}
 use Rattle.sg_plan.proofs.PlanLaws.{entry_tells}
@@ -123,7 +123,7 @@ pub rule_judged : (plan : Plan) (known : List (Option ℕ)) (marks : List ℕ) (
     → many ≡ (is_cast block && nat_le (votes_of plan race) (get_or marks first 0))
     → (some ≡ true → (at : ℕ) × (at < candidates_of plan race) × (shows_another column code.code at (get_or known (first + at) None) ≡ true))
     → (some ≡ false → (at : ℕ) → at < candidates_of plan race → shows_another column code.code at (get_or known (first + at) None) ≡ false)
-    → (many || some) ≡ bad_rule plan lines (CodeAt block ballot race column code)
+    → (many || some) ≡ bad_placed kind.Rule plan lines (CodeAt block ballot race column code)
 rule_judged plan known marks lines block ballot race column code first many some in_plan has few placed told counted first_is many_is found none =
     let marks_are : get_or marks first 0 ≡ min (count_by (marks_ballot ballot race) lines) most_marks = rw first_is (counted race ballot in_plan has) in
     let many' : many ≡ (is_cast block && nat_le (votes_of plan race) (count_by (marks_ballot ballot race) lines)) =
@@ -256,27 +256,13 @@ total_kind false = refl
 
 -- WHERE NOTHING IS BAD
 
-code_kind-none : (opening rule dispute : Bool) → code_kind opening rule dispute ≡ None → rule ≡ false
-code_kind-none true rule dispute none = absurd (cc)
-code_kind-none false true dispute none = absurd (cc)
-code_kind-none false false dispute none = refl
-
-row_kind-none : (opening side pointer flag path print : Bool) → row_kind opening side pointer flag path print ≡ None → (pointer ≡ false) × (path ≡ false)
-row_kind-none true side pointer flag path print none = absurd (cc)
-row_kind-none false true pointer flag path print none = absurd (cc)
-row_kind-none false false true flag path print none = absurd (cc)
-row_kind-none false false false true path print none = absurd (cc)
-row_kind-none false false false false true print none = absurd (cc)
-row_kind-none false false false false false print none = (refl, refl)
-
 -- a line in which nothing is bad agrees with the lines before it
 pub agrees : (plan : Plan) (lines : List Placed) (line : Placed) → first_bad plan lines line ≡ None → AgreesWith plan line lines
 agrees plan lines (CodeAt block ballot race column code) none =
     (or_parts (is_cast block && nat_le (votes_of plan race) (count_by (marks_ballot ballot race) lines)) (list_any (shows_against ballot race column code.code) lines)
-    (code_kind-none (bad_opening plan lines (CodeAt block ballot race column code)) (bad_rule plan lines (CodeAt block ballot race column code)) (bad_dispute plan lines (CodeAt block ballot race column code)) none)).1
+    (none_bad plan lines (CodeAt block ballot race column code) none kind.Rule)).1
 agrees plan lines (RowAt race instance number (row.Both left right)) none = λ small.
-    let line = RowAt race instance number (row.Both left right) in
-    let path = (row_kind-none (bad_opening plan lines line) (bad_side plan lines line) (bad_pointer plan lines line) (bad_flag plan lines line) (bad_path plan lines line) (bad_print plan lines line) none).1 in
+    let path = none_bad plan lines (RowAt race instance number (row.Both left right)) none kind.Path in
     rw small at path
 agrees plan lines (RowAt race instance number (row.Left opening)) none = tt
 agrees plan lines (RowAt race instance number (row.Right opening)) none = tt
@@ -285,8 +271,7 @@ agrees plan lines line none = tt
 -- the left pointer of a row in which nothing is bad is below n, and no row of its instance opens it
 pub freshness : (plan : Plan) (lines : List Placed) (line : Placed) → first_bad plan lines line ≡ None → HasFresh plan lines line
 freshness plan lines (RowAt race instance number (row.Both left right)) none =
-    let line = RowAt race instance number (row.Both left right) in
-    let pointer = (row_kind-none (bad_opening plan lines line) (bad_side plan lines line) (bad_pointer plan lines line) (bad_flag plan lines line) (bad_path plan lines line) (bad_print plan lines line) none).0 in
+    let pointer = none_bad plan lines (RowAt race instance number (row.Both left right)) none kind.Pointer in
     let left_fine = (or_parts (bad_pointer_on side.Left plan lines race instance (Some left)) (bad_pointer_on side.Right plan lines race instance (Some right)) pointer).0 in
     let parts = or_parts (nat_le (entries_of plan race) left.value) (list_any (opens_pointer side.Left race instance left.value) lines) left_fine in
     record { below = leb-false (entries_of plan race) left.value parts.0; fresh = parts.1 }

@@ -3,13 +3,15 @@ use Rattle.std.proofs.Common.{◌≡◌, ◌≢◌, ℕ, ◌+◌, ◌<◌, ◌�
 use Rattle.std.proofs.lemmas.Bool.{and_from, and_left, and_parts, and_right, both_ways, cases_Bool, false_from_ne_true, false≢true, or_right}
 use Rattle.std.proofs.lemmas.List.Sums.{sum_by_push}
 use Rattle.std.specs.List.{list_any}
+use Rattle.std.proofs.Math.Bool.{or-false, or-true}
+use Rattle.sg_ledger.proofs.BitSteps.{min-zero}
 use Rattle.sg_grammar.specs.Lines.{is_cast}
 use Rattle.sg_check.specs.Facts.{code_commitment, commits_code, commits_half, is_marked, half_commitment, opened_on, marks_ballot, marks_entry, opens_pointer, points_to}
 use Rattle.sg_check.specs.Kinds.{clashes_with, shows_against}
 use Rattle.sg_commit.specs.declared.Digest.{Digest}
 use Rattle.sg_commit.specs.declared.Opening.{Opening}
 use Rattle.sg_forms.specs.declared.line.RowOpening.TheVariants as row
-use Rattle.sg_ledger.proofs.Lists.{any-along, any-push, any-skip, given-push, given-skip, or-false, or-true}
+use Rattle.sg_ledger.proofs.Lists.{any-along, any-push, any-skip, given-push, given-skip}
 use Rattle.sg_ledger.proofs.Places.{entry_one, entry_other, entry_same, first-set, row_other, row_same, tells-set}
 use Rattle.sg_ledger.specs.inside.Steps.{codes_after, known_after, lefts_after, marked_after, marks_after, rights_after, seen_after, seen_lefts_after, seen_rights_after}
 use Rattle.sg_ledger.specs.inside.Tables.{most_marks}
@@ -142,15 +144,12 @@ TellsMarks plan table lines = AtBallots plan table (λ race ballot count. count 
 min-more : (most a : ℕ) → min (min a most + 1) most ≡ min (a + 1) most
 min-more most a = omega arith
 
-count_none : (most a : ℕ) → min (a + 0) most ≡ min a most
-count_none most a = omega arith
-
 pub count-push : (p : Placed → Bool) (lines : List Placed) (line : Placed) → count_by p (lines ++ line ∷ []) ≡ count_by p lines + (if p line then 1 else 0)
 count-push p lines line = sum_by_push (λ x. cond (p x) 1 0) lines line
 
 pub count-skip : (p : Placed → Bool) (lines : List Placed) (line : Placed) → p line ≡ false → min (count_by p (lines ++ line ∷ [])) most_marks ≡ min (count_by p lines) most_marks
 count-skip p lines line fails =
-    ap (λ (n : ℕ). min n most_marks) (count-push p lines line ∙ ap (λ (b : Bool). count_by p lines + (if b then 1 else 0)) fails) ∙ count_none most_marks (count_by p lines)
+    ap (λ (n : ℕ). min n most_marks) (count-push p lines line ∙ ap (λ (b : Bool). count_by p lines + (if b then 1 else 0)) fails) ∙ min-zero most_marks (count_by p lines)
 
 pub count-one : (p : Placed → Bool) (lines : List Placed) (line : Placed) → p line ≡ true → min (min (count_by p lines) most_marks + 1) most_marks ≡ min (count_by p (lines ++ line ∷ [])) most_marks
 count-one p lines line passes =

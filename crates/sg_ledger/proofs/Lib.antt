@@ -10,4 +10,3 @@ pub mod Made
 pub mod PathSteps
 pub mod Places
 pub mod ShownJudged
-pub mod Texts

@@ -5,6 +5,8 @@ use Rattle.std.proofs.lemmas.List.Folds.{list_any-append}
 use Rattle.std.proofs.lemmas.List.Sums.{sum_by-cons}
 use Rattle.std.specs.List.{list_any}
 use Rattle.std.specs.Option.{option_map_or, option_or}
+use Rattle.std.proofs.Math.Bool.{or-false}
+use Rattle.sg_lists.proofs.Options.{option_map_or-Some}
 use Rattle.sg_grammar.specs.Lines.{placed_of}
 use Rattle.sg_check.specs.Facts.{first_given}
 use Rattle.sg_check.specs.Verdict.{total_on, totals_in}
@@ -16,14 +18,6 @@ use Rattle.sg_grammar.specs.Placed.{Placed}
 use Rattle.sg_grammar.specs.Placed.Placed.{OfPlan}
 use Rattle.sg_grammar.specs.Coordinates.{IsPlacedIn}
 use Rattle.sg_grammar.specs.Walk.{Posted}
-
-pub or-false : (b : Bool) → (b || false) ≡ b
-or-false true = refl
-or-false false = refl
-
-pub or-true : (b : Bool) → (b || true) ≡ true
-or-true true = refl
-or-true false = refl
 
 pub option_or-none : {A : Type 0} (o : Option A) → option_or o None ≡ o
 option_or-none None = refl
@@ -37,16 +31,12 @@ any-push p xs y = list_any-append p xs (y ∷ []) ∙ ap (λ (b : Bool). list_an
 pub any-skip : {A : Type 0} (p : A → Bool) (xs : List A) (y : A) → p y ≡ false → list_any p (xs ++ y ∷ []) ≡ list_any p xs
 any-skip p xs y fails = any-push p xs y ∙ (ap (λ (b : Bool). list_any p xs || b) fails ∙ or-false (list_any p xs))
 
-given-one : {B : Type 0} (o : Option B) → option_map_or Some o None ≡ o
-given-one None = refl
-given-one (Some x) = refl
-
 given-behind : {B : Type 0} (o : Option B) (later more : Option B) → option_map_or Some o (option_or later more) ≡ option_or (option_map_or Some o later) more
 given-behind None later more = refl
 given-behind (Some x) later more = refl
 
 pub given-push : {A B : Type 0} (given : A → Option B) (xs : List A) (y : A) → first_given given (xs ++ y ∷ []) ≡ option_or (first_given given xs) (given y)
-given-push given [] y = given-one (given y)
+given-push given [] y = option_map_or-Some (given y)
 given-push {A} {B} given (x ∷ xs) y = ap (λ (o : Option B). option_map_or Some (given x) o) (given-push given xs y) ∙ given-behind (given x) (first_given given xs) (given y)
 
 pub given-skip : {A B : Type 0} (given : A → Option B) (xs : List A) (y : A) → given y ≡ None → first_given given (xs ++ y ∷ []) ≡ first_given given xs

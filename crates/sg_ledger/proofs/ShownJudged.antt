@@ -1,16 +1,17 @@
 -- What is looked up in the tables of codes and of print audits judges a row, an answer and a race that is over as the
 -- lines before do.
-use Rattle.std.proofs.Common.{◌≡◌, ℕ, ◌+◌, ◌/◌, ◌%◌, ◌<◌, ◌≤◌, ◌==◌, nat_lt, min, inl, inr, if◌then◌else◌, Bool, true, false, not, ◌&&◌, ◌||◌, List, [], ◌∷◌, length, get_or, take, Option, Some, None, is_some, count_by, refl, sym, ap, ap₂, ◌∙◌, arith, eqb-true, eq-eqb, ne_eqb, ltb-true, lt-ltb, le-ltb}
+use Rattle.std.proofs.Common.{◌≡◌, ℕ, ◌+◌, ◌/◌, ◌%◌, ◌<◌, ◌≤◌, ◌==◌, nat_lt, min, inl, inr, if◌then◌else◌, Bool, true, false, not, ◌&&◌, ◌||◌, List, length, get_or, take, Option, Some, None, is_some, count_by, refl, sym, ap, ap₂, ◌∙◌, arith, eqb-true, eq-eqb, ne_eqb, ltb-true, lt-ltb, le-ltb}
 use Rattle.std.proofs.lemmas.Bool.{and_from, and_parts, both_ways, cases_Bool, cases_eq, cases_lt, false_from_ne_true, false≢true}
 use Rattle.std.proofs.lemmas.List.{length-take, take_all}
-use Rattle.std.proofs.lemmas.List.Sums.{sum_by-cons}
 use Rattle.std.proofs.lemmas.Nat.{div-mul-add, mod-mul-add, mod_below}
 use Rattle.std.specs.List.{list_any}
 use Rattle.std.specs.Option.{option_map, option_map_or}
+use Rattle.std.proofs.lemmas.Option.{same_Some}
+use Rattle.sg_lists.proofs.Any.{any-count}
 use Rattle.sg_grammar.specs.Lines.{is_audit, is_cast, is_dispute}
 use Rattle.sg_check.specs.Facts.{DisputedCode, audited_code, audited_entries, audits_entry, both_rows, is_audited, is_both, last_claim, opened_on, marks_code, marks_entry, opens_pointer, paper_code}
-use Rattle.sg_check.specs.Kinds.{differ, is_right, is_there, wrong_audit, wrong_number, wrong_paper}
-use Rattle.sg_check.specs.inside.ByKind.{bad_dispute}
+use Rattle.sg_check.specs.Kinds.{bad_placed, differ, is_right, is_there, wrong_audit, wrong_number, wrong_paper}
+use Rattle.sg_check.specs.declared.judged.Kind.TheVariants as kind
 use Rattle.sg_commit.specs.declared.Opening.{Opening}
 use Rattle.sg_forms.specs.declared.line.CodeLine.{CodeLine}
 use Rattle.sg_forms.specs.declared.line.RowOpening.{RowOpening}
@@ -35,19 +36,6 @@ use Rattle.sg_grammar.specs.declared.state.Block.{Block}
 
 -- A RACE THAT IS OVER
 
--- a ballot has a mark exactly where some line marks it
-any-count : (p : Placed → Bool) (lines : List Placed) → nat_lt 0 (count_by p lines) ≡ list_any p lines
-any-count p [] = refl
-any-count p (line ∷ lines) =
-    elim (cases_Bool (p line)) [
-      | inl here ↦
-          let more : count_by p (line ∷ lines) ≡ 1 + count_by p lines = sum_by-cons (λ (x : Placed). if p x then 1 else 0) line lines ∙ ap (λ (b : Bool). (if b then 1 else 0) + count_by p lines) here in
-          lt-ltb 0 (count_by p (line ∷ lines)) (omega (arith, more)) ∙ sym (ap (λ (b : Bool). b || list_any p lines) here)
-      | inr other ↦
-          let same : count_by p (line ∷ lines) ≡ 0 + count_by p lines = sum_by-cons (λ (x : Placed). if p x then 1 else 0) line lines ∙ ap (λ (b : Bool). (if b then 1 else 0) + count_by p lines) other in
-          ap (λ (n : ℕ). nat_lt 0 n) (same ∙ omega arith) ∙ (any-count p lines ∙ sym (ap (λ (b : Bool). b || list_any p lines) other))
-    ]
-
 some-most : (most count : ℕ) → 0 < most → nat_lt 0 (min count most) ≡ nat_lt 0 count
 some-most most count some =
     elim (cases_eq count 0) [
@@ -55,8 +43,9 @@ some-most most count some =
       | inr more ↦ lt-ltb 0 (min count most) (omega arith) ∙ sym (lt-ltb 0 count (omega arith))
     ]
 
+-- a ballot has a mark exactly where some line marks it
 pub over_judged : (most found : ℕ) (p : Placed → Bool) (lines : List Placed) → 0 < most → found ≡ min (count_by p lines) most → nat_lt 0 found ≡ list_any p lines
-over_judged most found p lines some found_is = ap (λ (n : ℕ). nat_lt 0 n) found_is ∙ (some-most most (count_by p lines) some ∙ any-count p lines)
+over_judged most found p lines some found_is = ap (λ (n : ℕ). nat_lt 0 n) found_is ∙ (some-most most (count_by p lines) some ∙ sym (any-count p lines))
 
 -- A PAPER
 
@@ -106,14 +95,11 @@ audit_shows plan race entry code (CodeAt block ballot of column shown) audits =
       | inl passes ↦
           let found : Some shown.code ≡ Some code = rw passes at audits in
           let parts = and_parts (is_audit block) (of == race && entry_at plan of ballot column == entry) passes in
-          and_from (of == race && entry_at plan of ballot column == entry) (shown.code == code) parts.1 (eq-eqb shown.code code (same_some shown.code code found))
+          and_from (of == race && entry_at plan of ballot column == entry) (shown.code == code) parts.1 (eq-eqb shown.code code (same_Some shown.code code found))
       | inr fails ↦
           let none : None ≡ Some code = rw fails at audits in
           absurd (cc)
     ]
-  where
-    same_some : (a b : ℕ) → Some a ≡ Some b → a ≡ b
-    same_some a b same = ap (λ (o : Option ℕ). option_map_or (λ (x : ℕ). x) o 0) same
 audit_shows plan race entry code line audits = absurd (cc)
 
 -- the code of an audited entry is the one that is known
@@ -183,7 +169,7 @@ posted_up plan known lines ballot race column code has below told is line placed
 pub answer_judged : (plan : Plan) (lines : List Placed) (block : Block) (ballot race column : ℕ) (code : CodeLine) (claim : Option DisputedCode) (kept : Claimed) (marked wrong : Bool)
     → is_dispute block ≡ true → column + 1 ≡ candidates_of plan race → last_claim lines ≡ claim → Some kept ≡ option_map kept_of claim
     → marked ≡ list_any (marks_code ballot race kept.code) lines → wrong ≡ not (is_right kept.answer marked (kept.shown || code.code == kept.code))
-    → wrong ≡ bad_dispute plan lines (CodeAt block ballot race column code)
+    → wrong ≡ bad_placed kind.Dispute plan lines (CodeAt block ballot race column code)
 answer_judged plan lines block ballot race column code None kept marked wrong is last claim_is kept_is marked_is wrong_is = absurd (cc)
 answer_judged plan lines block ballot race column code (Some claim) kept marked wrong is last claim_is kept_is marked_is wrong_is =
     let same : kept ≡ kept_of claim = ap (λ (o : Option Claimed). option_map_or (λ (c : Claimed). c) o kept) kept_is in

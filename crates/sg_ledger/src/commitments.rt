@@ -2,7 +2,7 @@
 ghost use Rattle.std.specs.Prelude.{◌≡◌, ◌<◌, ◌^◌, ◌||◌, IfOk, not, length, replicate, slice_index_or};
 ghost use Rattle.sg_check.specs.Facts.{opened_on};
 ghost use Rattle.sg_check.specs.Kinds.{code_opening, opens_digest};
-ghost use Rattle.sg_check.specs.inside.ByKind.{bad_pointer_opening};
+ghost use Rattle.sg_check.specs.inside.BySide.{bad_pointer_opening};
 ghost use Rattle.sg_ledger.specs.inside.Tables.{with_first};
 ghost use Rattle.sg_plan.specs.declared.plan.Side.TheVariants as side;
 
@@ -93,7 +93,7 @@ impl Commitments {
 }
 
 /// The commitment is there, and this opens it.
-#[tactic(auto, using(crate::proofs::Texts::opened))]
+#[tactic(auto, using(sg_lists::proofs::Lists::same_bytes_eq))]
 #[inline(always)]
 fn opens_commitment(
     digest: Option<Digest>,

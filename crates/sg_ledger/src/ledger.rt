@@ -1,12 +1,10 @@
 //! The ledger: what its tables tell, what a line is judged by them, and how a line is kept in them.
 ghost use Rattle.std.specs.Prelude.{◌≡◌, ◌+◌, ◌<◌, ◌≤◌, ◌==◌, ◌&&◌, ◌||◌, if◌then◌else◌, None, true, List, ◌∷◌, [], ◌++◌, IfOk, length, take};
-ghost use Rattle.sg_check.specs.Kinds.{first_bad};
+ghost use Rattle.sg_check.specs.Kinds.{bad_placed, first_bad};
 ghost use Rattle.sg_check.specs.Verdict.{total_on};
-ghost use Rattle.sg_check.specs.inside.ByKind.{bad_dispute, bad_flag, bad_opening, bad_pointer, bad_print, bad_side};
 ghost use Rattle.sg_forms.specs.Spelling.{AreDigits};
 ghost use Rattle.sg_ledger.specs.inside.Blank.{ledger_with};
 ghost use Rattle.sg_ledger.specs.inside.Sizes.{AreSizes};
-ghost use Rattle.sg_ledger.specs.inside.Reads.{code_kind, row_kind, rule_kind};
 ghost use Rattle.sg_grammar.specs.Left.{most_totals};
 ghost use Rattle.sg_plan.specs.Ballots.{candidates_of, entry_at, entry_place, r_rows, row_place};
 ghost use Rattle.sg_plan.specs.declared.plan.Plan.{Plan as PlanOf};
@@ -177,7 +175,7 @@ impl Ledger {
         requires placed { IsPlacedIn self.now.book (CodeAt block ballot race column code.now) }
         requires sized { IsSized self.now.book self.now }
         requires at { at ≡ entry_place self.now.book race (entry_at self.now.book race ballot 0) }
-        ensures { (lines : List Placed) → Tells self.now.book self.now lines → result ≡ bad_dispute self.now.book lines (CodeAt block ballot race column code.now) }
+        ensures { (lines : List Placed) → Tells self.now.book self.now lines → result ≡ bad_placed Kind.Dispute self.now.book lines (CodeAt block ballot race column code.now) }
     {
         let _ = self.book.plan();
         if !is_dispute(block) {
@@ -265,7 +263,7 @@ impl Ledger {
     fn is_row_print_bad(&self, race: u32, instance: u32, row: u32, opening: &RowOpening) -> bool
         requires placed { IsPlacedIn self.now.book (RowAt race instance row opening.now) }
         requires sized { IsSized self.now.book self.now }
-        ensures { (lines : List Placed) → Tells self.now.book self.now lines → result ≡ bad_print self.now.book lines (RowAt race instance row opening.now) }
+        ensures { (lines : List Placed) → Tells self.now.book self.now lines → result ≡ bad_placed Kind.Print self.now.book lines (RowAt race instance row opening.now) }
     {
         let _ = self.book.plan();
         let is_both = are_both(opening);
@@ -303,7 +301,7 @@ impl Ledger {
         requires sized { IsSized self.now.book self.now }
         requires at { at ≡ row_place self.now.book race instance row }
         requires within { at < r_rows self.now.book }
-        ensures { (lines : List Placed) → Tells self.now.book self.now lines → result ≡ bad_opening self.now.book lines (RowAt race instance row opening.now) }
+        ensures { (lines : List Placed) → Tells self.now.book self.now lines → result ≡ bad_placed Kind.Opening self.now.book lines (RowAt race instance row opening.now) }
     {
         let _ = self.book.plan();
         let left = left_opening(opening);
@@ -317,7 +315,7 @@ impl Ledger {
     fn is_row_pointer_bad(&self, race: u32, instance: u32, row: u32, opening: &RowOpening) -> bool
         requires placed { IsPlacedIn self.now.book (RowAt race instance row opening.now) }
         requires sized { IsSized self.now.book self.now }
-        ensures { (lines : List Placed) → Tells self.now.book self.now lines → result ≡ bad_pointer self.now.book lines (RowAt race instance row opening.now) }
+        ensures { (lines : List Placed) → Tells self.now.book self.now lines → result ≡ bad_placed Kind.Pointer self.now.book lines (RowAt race instance row opening.now) }
     {
         let left = is_pointer_bad(
             &self.pointers.lefts,
@@ -350,7 +348,7 @@ impl Ledger {
         requires sized { IsSized self.now.book self.now }
         requires at { at ≡ row_place self.now.book race instance row }
         requires within { at < r_rows self.now.book }
-        ensures { (lines : List Placed) → Tells self.now.book self.now lines → result ≡ bad_flag self.now.book lines (RowAt race instance row opening.now) }
+        ensures { (lines : List Placed) → Tells self.now.book self.now lines → result ≡ bad_placed Kind.Flag self.now.book lines (RowAt race instance row opening.now) }
     {
         let flag = look(&self.bits.flagged, at);
         let left = is_flag_wrong(
@@ -620,7 +618,7 @@ fn is_either(left: bool, right: bool) -> bool
 /// The first kind in which a code is bad: it does not open its commitment, or there are too many marks, or a code is
 /// against it, or the answer to a claim is wrong.
 fn kind_of_code(opening: bool, many: bool, against: bool, dispute: bool) -> Option<Kind>
-    ensures { result ≡ code_kind opening (many || against) dispute }
+    ensures { result ≡ (if opening then Some Kind.Opening else (if many || against then Some Kind.Rule else (if dispute then Some Kind.Dispute else None))) }
 {
     if opening {
         Some(Kind::Opening)
@@ -635,7 +633,7 @@ fn kind_of_code(opening: bool, many: bool, against: bool, dispute: bool) -> Opti
 
 /// A rule is broken.
 fn kind_of_rule(rule: bool) -> Option<Kind>
-    ensures { result ≡ rule_kind rule }
+    ensures { result ≡ (if rule then Some Kind.Rule else None) }
 {
     if rule { Some(Kind::Rule) } else { None }
 }
@@ -668,7 +666,7 @@ fn kind_of_row(
     path: bool,
     print: bool,
 ) -> Option<Kind>
-    ensures { result ≡ row_kind opening side pointer flag path print }
+    ensures { result ≡ (if opening then Some Kind.Opening else (if side then Some Kind.Side else (if pointer then Some Kind.Pointer else (if flag then Some Kind.Flag else (if path then Some Kind.Path else (if print then Some Kind.Print else None)))))) }
 {
     if opening {
         Some(Kind::Opening)

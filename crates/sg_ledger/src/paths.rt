@@ -1,6 +1,7 @@
 //! Where rows lead the ballots' entries.
 ghost use Rattle.std.specs.Prelude.{◌≡◌, ℕ, ◌+◌, ◌<◌, ◌≤◌, ◌^◌, None, List, false, true, length, slice_index_or};
-ghost use Rattle.sg_check.specs.inside.ByKind.{bad_path};
+ghost use Rattle.sg_check.specs.Kinds.{bad_placed};
+ghost use Rattle.sg_check.specs.declared.judged.Kind.TheVariants as kind;
 ghost use Rattle.sg_ledger.specs.inside.Steps.{path_after};
 ghost use Rattle.sg_ledger.specs.inside.Tables.{leads_another};
 ghost use Rattle.sg_ledger.specs.Tells.{ArePlacedIn, TellsPaths};
@@ -18,7 +19,7 @@ use sg_plan::Items;
 pub fn is_path_bad(paths: &Items<Option<u32>>, book: &Book, race: u32, opening: &RowOpening) -> bool
     requires paths { length paths.now ≡ all_entries book.now }
     requires race { race < length book.now.races }
-    ensures { (instance row : ℕ) (lines : List Placed) → ArePlacedIn book.now lines → TellsPaths book.now paths.now lines → result ≡ bad_path book.now lines (RowAt race instance row opening.now) }
+    ensures { (instance row : ℕ) (lines : List Placed) → ArePlacedIn book.now lines → TellsPaths book.now paths.now lines → result ≡ bad_placed kind.Path book.now lines (RowAt race instance row opening.now) }
 {
     let _ = book.plan();
     let RowOpening::Both(left, right) = *opening else {

@@ -7,14 +7,15 @@ use Rattle.hex.specs.Hex.{decode_of, encode_with, lower_digits, IsBytes}
 use Rattle.hex.specs.declared.error.FromHexError.{FromHexError}
 use Rattle.hex.proofs.HexLemmas.{decode_of-encode_lower, decode_of-ok, decode_of-same, length-encode_with}
 use Rattle.hex.proofs.Pairs.{drop-pair, encode_with-drop}
+use Rattle.sg_lists.proofs.Options.{same_Options}
 use Rattle.sg_lines.specs.Words.{encode_lower, bytes_of, key_of, digest_of, hex_of}
 use Rattle.sg_lines.specs.Laws.{KeysAreSpelled, KeysAreRead, DigestsAreSpelled, DigestsAreRead, HexIsSpelled, HexIsRead, BytesDiffer}
-use Rattle.sg_lines.proofs.Spelled.{where_spelled-found, where_spelled-only, same_reading}
+use Rattle.sg_lines.proofs.Spelled.{where_spelled-found, where_spelled-only}
 
 -- ---- the laws
 
 -- what the kit's decoder gives is bytes
-decoded_bytes : (word : List ℕ) (result : Result (List ℕ) FromHexError) → decode_of word ≡ result → IsBytes (result_unwrap_or result [])
+pub decoded_bytes : (word : List ℕ) (result : Result (List ℕ) FromHexError) → decode_of word ≡ result → IsBytes (result_unwrap_or result [])
 decoded_bytes word (Ok bytes) is = (decode_of-ok word bytes is).3
 decoded_bytes word (Err e) is = λ i. omega arith
 
@@ -77,7 +78,7 @@ hex_of-some word bytes fits is = sym (ap hex_of is ∙ hex_is_read bytes fits)
 -- where the word spells no bytes, nothing is read
 pub hex_of-none : (word : List ℕ) → ((bytes : List ℕ) → IsBytes bytes → word ≡ encode_lower bytes → ⊥) → None ≡ hex_of word
 hex_of-none word none =
-    same_reading None (hex_of word) (λ bytes read. cc read)
+    same_Options None (hex_of word) (λ bytes read. cc read)
     (λ bytes read. let found = hex_is_spelled word bytes read in absurd (none bytes found.0 found.1))
 
 -- an odd number of digits spells none
@@ -100,13 +101,13 @@ digest_of-some word digest count fits is = sym (ap digest_of is ∙ digests_are_
 -- where the word spells no key, nothing is read
 pub key_of-none : (word : List ℕ) → ((key : List ℕ) → length key ≡ 16 → IsBytes key → word ≡ encode_lower key → None ≡ Some key) → None ≡ key_of word
 key_of-none word only =
-    same_reading None (key_of word) (λ key none. cc none)
+    same_Options None (key_of word) (λ key none. cc none)
     (λ key read. let found = keys_are_spelled word key read in only key found.0 found.1 found.2)
 
 -- where the word spells no digest, nothing is read
 pub digest_of-none : (word : List ℕ) → ((digest : List ℕ) → length digest ≡ 32 → IsBytes digest → word ≡ encode_lower digest → None ≡ Some digest) → None ≡ digest_of word
 digest_of-none word only =
-    same_reading None (digest_of word) (λ digest none. cc none)
+    same_Options None (digest_of word) (λ digest none. cc none)
     (λ digest read. let found = digests_are_spelled word digest read in only digest found.0 found.1 found.2)
 
 -- ---- the steps of the loop

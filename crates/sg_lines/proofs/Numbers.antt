@@ -10,9 +10,10 @@ use Rattle.std.specs.List.{All}
 use Rattle.std.specs.Char.{digit_value}
 use Rattle.std.specs.Prelude.{nat_lt, IfSome, IfNone}
 use Rattle.std.specs.Str.Parse.{AllDigits, digits_value, digits_value_after}
+use Rattle.sg_lists.proofs.Options.{same_Options}
 use Rattle.sg_lines.specs.Words.{decimal, decimal_of}
 use Rattle.sg_lines.specs.Laws.{DecimalsAreSpelled, DecimalsAreRead, DecimalsDiffer}
-use Rattle.sg_lines.proofs.Spelled.{where_spelled-found, where_spelled-only, same_reading}
+use Rattle.sg_lines.proofs.Spelled.{where_spelled-found, where_spelled-only}
 
 -- the digits of a number have its value
 pub digits_value-decimal : (n : ℕ) → n < 2 ^ 32 → digits_value 10 (decimal n) ≡ n
@@ -60,7 +61,7 @@ pub decimal_of-is : (word : List ℕ) (result : Option ℕ)
     → ((n : ℕ) → n < 2 ^ 32 → word ≡ decimal n → result ≡ Some n)
     → result ≡ decimal_of word
 decimal_of-is word None found only =
-    same_reading None (decimal_of word) (λ n none. cc none) (λ n read. let spelled = decimals_are_spelled word n read in only n spelled.0 spelled.1)
+    same_Options None (decimal_of word) (λ n none. cc none) (λ n read. let spelled = decimals_are_spelled word n read in only n spelled.0 spelled.1)
 decimal_of-is word (Some n) found only = sym (ap decimal_of found.1 ∙ decimals_are_read n found.0)
 
 -- what reading the digits of a word finds

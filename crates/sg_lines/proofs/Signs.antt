@@ -5,10 +5,11 @@ use Rattle.std.proofs.Math.Nat.{zero-mul}
 use Rattle.std.proofs.lemmas.Bool.Decides.{nat_tests}
 use Rattle.std.specs.List.{position_or_len}
 use Rattle.std.specs.Prelude.{nat_lt, IfSome, ◌≢◌}
+use Rattle.sg_lists.proofs.Options.{same_Options}
 use Rattle.sg_plan.specs.Codes.{codes_of}
 use Rattle.sg_lines.specs.Words.{digit_of, signs, sign_of, three_places, code_word, number_in, code_number, code_of}
 use Rattle.sg_lines.specs.Laws.{CodesAreSpelled, CodesAreRead, CodesDiffer}
-use Rattle.sg_lines.proofs.Spelled.{where_spelled-found, where_spelled-only, same_reading}
+use Rattle.sg_lines.proofs.Spelled.{where_spelled-found, where_spelled-only}
 
 -- ---- the signs
 
@@ -174,7 +175,7 @@ pub code_of-is : (version : ℕ) (word : List ℕ) (result : Option ℕ)
     → ((code : ℕ) → code < codes_of version → word ≡ code_word version code → result ≡ Some code)
     → result ≡ code_of version word
 code_of-is version word None found only =
-    same_reading None (code_of version word) (λ code none. cc none)
+    same_Options None (code_of version word) (λ code none. cc none)
     (λ code read. let spelled = codes_are_spelled version word code read in only code spelled.0 spelled.1)
 code_of-is version word (Some code) found only = code_of-some version word code found.0 found.1
 

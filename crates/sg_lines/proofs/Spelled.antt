@@ -1,6 +1,6 @@
 -- A reading that is defined by the spelling.
 use Rattle.std.specs.Prelude.{if◌then◌else◌}
-use Rattle.std.proofs.Common.{◌≡◌, Bool, true, false, ◌&&◌, List, ℕ, Option, Some, None, refl, sym, ap, ◌∙◌}
+use Rattle.std.proofs.Common.{◌≡◌, Bool, true, false, ◌&&◌, List, ℕ, Some, None, refl, ap, ◌∙◌}
 use Rattle.std.proofs.lemmas.Bool.{and_parts}
 use Rattle.std.proofs.lemmas.Slice.Eq.{bytes_eq-Decides}
 use Rattle.std.specs.Str.{bytes_eq}
@@ -25,9 +25,3 @@ pub where_spelled-only : {A : Type 0} (spelling : A → List ℕ) (word : List �
     → is_in_range ≡ true → word ≡ spelling value → where_spelled spelling word value is_in_range ≡ Some value
 where_spelled-only spelling word value is_in_range in_range same =
     rw (in_range, (bytes_eq-Decides word (spelling value)).1 same) refl
-
--- two readings are the same where each finds what the other finds
-pub same_reading : {A : Type 0} (a b : Option A) → ((x : A) → a ≡ Some x → b ≡ Some x) → ((x : A) → b ≡ Some x → a ≡ Some x) → a ≡ b
-same_reading None None there back = refl
-same_reading None (Some x) there back = back x refl
-same_reading (Some x) b there back = sym (there x refl)

@@ -1,16 +1,12 @@
 -- A text is cut at the first byte of one value, and then again behind it.
-use Rattle.std.proofs.Common.{◌≡◌, ℕ, suc, ◌+◌, ◌-◌, ◌<◌, ◌≤◌, ◌==◌, Bool, true, false, List, [], ◌∷◌, All, length, take, drop, get_or, None, Some, refl, sym, ap, ◌∙◌, arith, add-one, length-drop, length-take}
+use Rattle.std.proofs.Common.{◌≡◌, ℕ, suc, ◌+◌, ◌-◌, ◌<◌, ◌≤◌, ◌==◌, true, false, List, [], ◌∷◌, All, length, take, drop, get_or, None, Some, sym, ap, ◌∙◌, arith, add-one, length-drop, length-take}
 use Rattle.std.specs.List.{slice_split}
 use Rattle.std.proofs.Math.Seq.{split_at}
 use Rattle.std.proofs.lemmas.List.{take_all, get_or-take}
 use Rattle.std.proofs.lemmas.List.Elements.{All-from_get_or}
 use Rattle.std.proofs.lemmas.List.Splits.{slice_split_at, slice_split_none}
+use Rattle.std.proofs.lemmas.Bool.{false_from_ne_true}
 use Rattle.memchr.specs.Find.{IsFirstByte, is_byte}
-
--- a test that does not hold fails
-fails : (b : Bool) → (b ≡ true → ⊥) → b ≡ false
-fails true no_test = absurd (no_test refl)
-fails false no_test = refl
 
 -- before the first separator no byte is one
 none_before : (separator : ℕ) (text : List ℕ) (at : ℕ) → at ≤ length text → ((k : ℕ) → 0 ≤ k → k < at → is_byte separator (get_or text k 0) ≡ true → ⊥)
@@ -19,7 +15,7 @@ none_before separator text at within none =
     All-from_get_or (λ byte. (byte == separator) ≡ false) (take at text) 0
     (λ k l.
     let below : k < at = omega (arith, length-take at text) in
-    rw (get_or-take at text k 0 below) (fails (get_or text k 0 == separator) (none k (omega arith) below)))
+    rw (get_or-take at text k 0 below) (false_from_ne_true (get_or text k 0 == separator) (none k (omega arith) below)))
 
 -- at the first separator ends the first part
 pub cut_at : (separator : ℕ) (text : List ℕ) (at : ℕ) → IsFirstByte (is_byte separator) text (Some at)
@@ -35,5 +31,5 @@ cut_at separator text at first =
 pub cut_nowhere : (separator : ℕ) (text : List ℕ) → IsFirstByte (is_byte separator) text None → slice_split (λ byte. byte == separator) text ≡ text ∷ []
 cut_nowhere separator text none =
     let all : All (λ byte. (byte == separator) ≡ false) text =
-    All-from_get_or (λ byte. (byte == separator) ≡ false) text 0 (λ k l. fails (get_or text k 0 == separator) (none k (omega arith) l)) in
+    All-from_get_or (λ byte. (byte == separator) ≡ false) text 0 (λ k l. false_from_ne_true (get_or text k 0 == separator) (none k (omega arith) l)) in
     slice_split_none (λ byte. byte == separator) text all

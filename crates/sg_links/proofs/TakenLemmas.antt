@@ -4,11 +4,8 @@ use Rattle.std.specs.Prelude.{Option, option_map, ◌||◌, IfSome, ◌==◌, �
 use Rattle.std.proofs.lemmas.Bool.{false≢true}
 use Rattle.std.proofs.lemmas.Bool.Decides.{nat_tests}
 use Rattle.std.proofs.lemmas.List.{drop-drop}
+use Rattle.std.proofs.Math.Bool.{or-false}
 use Rattle.sg_links.specs.Board.{Board, Come, ComeNext, Conn, Taken, on_current, takes}
-
-or-false : (b : Bool) → (b || false) ≡ b
-or-false true = refl
-or-false false = refl
 
 or-twice : (b c : Bool) → ((b || false) || c) ≡ (b || c)
 or-twice true c = refl

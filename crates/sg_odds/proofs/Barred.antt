@@ -1,5 +1,5 @@
 -- A row that is opened on the side of its coin has the right flag there.
-use Rattle.std.proofs.Common.{◌≡◌, ℕ, ◌==◌, nat_lt, Bool, true, false, ◌&&◌, cond, List, ◌∷◌, ◌++◌, Option, Some, None, refl, sym, subst, ap, ◌∙◌}
+use Rattle.std.proofs.Common.{◌≡◌, ℕ, ◌==◌, nat_lt, Bool, true, false, ◌&&◌, cond, List, Option, Some, None, refl, sym, subst, ap, ◌∙◌}
 use Rattle.std.specs.Option.{is_none, option_map_or}
 use Rattle.std.proofs.lemmas.Bool.{and_from, eq-eqb, or_parts}
 use Rattle.sg_commit.specs.declared.Opening.{Opening}
@@ -16,11 +16,13 @@ use Rattle.sg_grammar.specs.Placed.Placed.{RowAt}
 use Rattle.sg_grammar.specs.declared.state.Slot.{Slot}
 use Rattle.sg_grammar.specs.declared.state.Slot.TheVariants as slot
 use Rattle.sg_check.proofs.BoundLaws.{given_there}
+use Rattle.sg_check.proofs.Late.{Fails}
 use Rattle.sg_check.proofs.Rows.{one_row, posted_row}
 use Rattle.sg_check.specs.Completions.{Completion, OpensNoneTwice, posted_half, posts_half}
 use Rattle.sg_check.specs.Facts.{flags_row, is_flagged, is_marked, is_set, opened_on, marks_entry, sets_place}
 use Rattle.sg_check.specs.Kinds.{differ, is_on_side}
-use Rattle.sg_check.specs.inside.ByKind.{bad_flag, wrong_flag_on}
+use Rattle.sg_check.specs.inside.BySide.{wrong_flag_on}
+use Rattle.sg_check.specs.declared.judged.Kind.TheVariants as kind
 use Rattle.sg_odds.specs.Coins.{before_draw}
 use Rattle.sg_odds.specs.Odds.{half_of, no_opening}
 use Rattle.sg_odds.proofs.Sections.{flags_early, front_same, marks_early, sets_early}
@@ -64,7 +66,7 @@ posted_is lines apart on race instance row opening o among of = at_value (posted
         e ∙ (sym found.2 ∙ (ap (opened_on on) (sym same) ∙ of))
 
 module _ (plan : Plan) (lines : List Placed) (completion : Completion) (apart : Apart clash lines) (opens : OpensNoneTwice lines completion)
-    (flags : (front rest : List Placed) (line : Placed) → lines ≡ front ++ line ∷ rest → bad_flag plan front line ≡ false) where
+    (flags : Fails kind.Flag plan lines) where
   -- it is what the completion has there
   half_is : (on : Side) (race instance row : ℕ) (opening : RowOpening) (o : Opening) → IsAmong lines (RowAt race instance row opening) → opened_on on opening ≡ Some o → half_of completion on race instance row ≡ o
   half_is on race instance row opening o among of =

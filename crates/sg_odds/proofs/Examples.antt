@@ -1,11 +1,9 @@
 -- A small record: the definitions are computed.
 use Rattle.std.proofs.Common.{refl}
-use Rattle.sg_grammar.specs.Due.{numbered}
 use Rattle.sg_commit.specs.declared.Key.{Key}
 use Rattle.sg_odds.specs.Examples.{AreOddsShown, OddsAreShown}
 
 shown : (key : Key) → AreOddsShown key
-unfolding numbered
 shown key = record {
   rows = refl;
   sections = refl;

@@ -24,8 +24,9 @@ use Rattle.sg_grammar.specs.declared.state.Slot.{Slot}
 use Rattle.sg_grammar.specs.declared.state.Slot.TheVariants as slot
 use Rattle.sg_check.specs.Facts.{is_both}
 use Rattle.sg_check.specs.Kinds.{is_on_side}
-use Rattle.sg_odds.specs.Coins.{are_on_coins, rows_due}
+use Rattle.sg_odds.specs.Coins.{are_on_coins}
 use Rattle.sg_odds.proofs.Halving.{Misses, hits}
+use Rattle.sg_odds.proofs.Rows.{rows_due}
 
 -- LINES WITHOUT ROWS
 

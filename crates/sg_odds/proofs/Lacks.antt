@@ -4,6 +4,7 @@ use Rattle.std.specs.Option.{option_map_or}
 use Rattle.std.specs.Prelude.{slice_get}
 use Rattle.std.proofs.lemmas.Bool.{cases_eq, cases_lt, le-leb}
 use Rattle.std.proofs.lemmas.List.{length-replicate}
+use Rattle.sg_lists.proofs.Lists.{slice_get-replicate}
 use Rattle.sg_commit.specs.declared.Opening.{Opening}
 use Rattle.sg_plan.specs.Ballots.{entries_of}
 use Rattle.sg_plan.specs.declared.plan.Plan.{Plan}
@@ -14,14 +15,13 @@ use Rattle.sg_check.specs.Facts.{points_to}
 use Rattle.sg_odds.specs.Odds.{is_half_lacking, is_lacking}
 use Rattle.sg_odds.specs.inside.Lacking.{IsFullBefore, is_earlier, lacks_in}
 use Rattle.sg_odds.specs.inside.Values.{HasValues}
-use Rattle.sg_facts.proofs.Tabling.{fill_get}
 
 -- LISTS OF ONE VALUE
 
 pub values_filled : {A : Type 0} (n : ℕ) (x : A) (list : List A) → list ≡ replicate n x → HasValues n (λ at. x) list
 values_filled n x list is = record {
   long = ap length is ∙ length-replicate n x;
-  are = λ at less. ap (λ l. slice_get l at) is ∙ fill_get x n at less;
+  are = λ at less. ap (λ l. slice_get l at) is ∙ slice_get-replicate n at x less;
 }
 
 -- THE POINTERS OF A SIDE

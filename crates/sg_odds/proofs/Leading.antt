@@ -3,6 +3,7 @@
 use Rattle.std.proofs.Common.{◌≡◌, ℕ, zero, suc, ◌+◌, ◌%◌, ◌<◌, ◌≤◌, ◌==◌, nat_le, nat_lt, Bool, true, false, ◌&&◌, ◌||◌, inl, inr, not, List, Option, Some, None, refl, sym, subst, ap, ◌∙◌, arith}
 use Rattle.std.specs.Option.{option_map_or}
 use Rattle.std.proofs.lemmas.Bool.{cases_eq, cases_lt, eq-eqb, leb-false, lt-ltb, or_parts}
+use Rattle.sg_lists.proofs.Bools.{one_if}
 use Rattle.sg_commit.specs.declared.Opening.{Opening}
 use Rattle.sg_plan.specs.Ballots.{candidates_of, entries_of}
 use Rattle.sg_plan.specs.declared.plan.Plan.{Plan}
@@ -12,7 +13,7 @@ use Rattle.sg_grammar.specs.Placed.{Placed}
 use Rattle.sg_grammar.specs.declared.state.Slot.TheVariants as slot
 use Rattle.sg_check.specs.Facts.{is_flagged, is_marked, is_set, points_to}
 use Rattle.sg_check.specs.Kinds.{differ}
-use Rattle.sg_check.proofs.Counting.{IsOneToOne, count-into, count-not, one_if}
+use Rattle.sg_check.proofs.Counting.{IsOneToOne, count-into, count-not}
 use Rattle.sg_check.proofs.Rows.{any_below-none, same_bits}
 use Rattle.sg_check.proofs.Votes.{is_vote}
 use Rattle.sg_check.specs.Bounds.{DifferByAtMost}

@@ -5,13 +5,13 @@ use Rattle.std.specs.Prelude.{slice_get}
 use Rattle.std.proofs.lemmas.Bool.{cases_eq}
 use Rattle.std.proofs.lemmas.List.{length_push}
 use Rattle.std.proofs.lemmas.Option.{same_Some, slice_get_within}
+use Rattle.sg_lists.proofs.Lists.{slice_get-push, slice_get-push_last}
 use Rattle.sg_plan.specs.Ballots.{candidates_of}
 use Rattle.sg_plan.specs.declared.plan.Plan.{Plan}
 use Rattle.sg_plan.specs.declared.plan.Side.TheVariants as side
 use Rattle.sg_grammar.specs.Placed.{Placed}
 use Rattle.sg_check.specs.Completions.{Completion}
 use Rattle.sg_check.specs.Facts.{is_marked}
-use Rattle.sg_facts.proofs.Tabling.{push_get, push_last}
 use Rattle.sg_facts.specs.Items.{item_in}
 use Rattle.sg_recount.proofs.Counting.{count_most}
 use Rattle.sg_odds.proofs.Lacks.{values_filled}
@@ -55,11 +55,11 @@ table_more plan lines completion race instance table new counts has here is = re
     | inl same ↦
         ap (λ (l : List (List ℕ)). item_in l at candidate) is
         ∙ (ap (λ (n : ℕ). item_in (table ++ counts ∷ []) n candidate) (same ∙ sym has.long)
-        ∙ (ap (option_and_then (λ (l : List ℕ). slice_get l candidate)) (push_last table counts (length table) refl)
+        ∙ (ap (option_and_then (λ (l : List ℕ). slice_get l candidate)) (slice_get-push_last table counts (length table) refl)
         ∙ (here.are candidate within ∙ ap (λ (n : ℕ). Some (led plan lines completion race n candidate)) (sym same))))
     | inr other ↦
         ap (λ (l : List (List ℕ)). item_in l at candidate) is
-        ∙ (ap (option_and_then (λ (l : List ℕ). slice_get l candidate)) (push_get table counts at (omega (arith, less, other, has.long)))
+        ∙ (ap (option_and_then (λ (l : List ℕ). slice_get l candidate)) (slice_get-push table counts at (omega (arith, less, other, has.long)))
         ∙ has.are at candidate (omega (arith, less, other)) within)
   ];
 }

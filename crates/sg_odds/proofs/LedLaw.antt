@@ -10,7 +10,6 @@ use Rattle.sg_plan.specs.declared.plan.Plan.{Plan}
 use Rattle.sg_plan.specs.declared.plan.Side.TheVariants as side
 use Rattle.sg_grammar.specs.Placed.{Placed}
 use Rattle.sg_check.specs.Facts.{is_marked}
-use Rattle.sg_grammar.specs.Lines.{placed_of}
 use Rattle.sg_check.proofs.Bounding.{marked_is}
 use Rattle.sg_check.proofs.Counting.{count-same}
 use Rattle.sg_check.specs.Completions.{Completion, is_row_misprinted}
@@ -73,5 +72,5 @@ module _ (plan : Plan) (lines : List Placed) (completion : Completion) (printing
         ∙ count-onto (pointer plan completion race instance full side.Left) (entries_of plan race) (is_posted_for plan lines printing race candidate) (pointers_once plan completion race instance full side.Left)
 
 pub led_is_posted : LedIsPosted
-led_is_posted lines walked walks completion full printing differ race instance candidate race_in instance_in candidate_in none =
-    led_posted walked.next.plan (placed_of walked.posted) completion printing differ race instance candidate race_in candidate_in (full.full race instance race_in instance_in) none
+led_is_posted plan lines completion full printing differ race instance candidate race_in instance_in candidate_in none =
+    led_posted plan lines completion printing differ race instance candidate race_in candidate_in (full.full race instance race_in instance_in) none

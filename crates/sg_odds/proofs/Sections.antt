@@ -1,17 +1,23 @@
 -- The lines before the draw: all marks, flags, places and totals of a record stand there.
-use Rattle.std.proofs.Common.{◌≡◌, ℕ, Bool, true, false, ◌||◌, List, [], ◌∷◌, ◌++◌, refl, sym, subst, ap, ◌∙◌, append_assoc}
+use Rattle.std.proofs.Common.{◌≡◌, ◌≢◌, ℕ, Bool, true, false, ◌||◌, List, [], ◌∷◌, ◌++◌, refl, sym, subst, ap, ◌∙◌, append_assoc, append-nil, arith}
 use Rattle.std.specs.List.{list_any}
 use Rattle.std.proofs.lemmas.Bool.{and_left, or_from, or_parts}
 use Rattle.sg_forms.specs.declared.line.RowOpening.{RowOpening}
+use Rattle.sg_plan.specs.declared.plan.Draw.{Draw}
+use Rattle.sg_plan.specs.declared.plan.Draw.TheVariants as drawn
 use Rattle.sg_plan.specs.declared.plan.Plan.{Plan}
 use Rattle.sg_grammar.specs.Placed.{Placed}
 use Rattle.sg_grammar.specs.Placed.Placed.{CodeAt, DrawnFull, DrawnPublic, FlagsAt, PlacesAt, RowAt, TotalAt}
+use Rattle.sg_record.specs.Places.{commit_places, draw_place, places_in, result_places}
+use Rattle.sg_record.specs.declared.record.Record.{Record}
 use Rattle.sg_check.proofs.Rows.{none_behind_row}
 use Rattle.sg_check.specs.Facts.{flags_row, is_marked, marks_entry, sets_place}
 use Rattle.sg_grammar.specs.Lines.{IsAmong, is_cast}
 use Rattle.sg_grammar.specs.Left.{is_total_line}
 use Rattle.sg_grammar.specs.Parting.{Apart, None_of, clash, is_before_rows}
 use Rattle.sg_grammar.proofs.Lists.{none-left, none-weaken}
+use Rattle.sg_lists.proofs.Each.{EachOf, of-into}
+use Rattle.sg_facts.proofs.Rising.{IsPart, behind_ballots, behind_commits, behind_results, blocks, blocks_are, commits_are, head, head_is, part_of, results_are}
 use Rattle.sg_odds.specs.Coins.{before_draw}
 
 -- the first of all lines
@@ -95,3 +101,52 @@ total_early race candidate count (DrawnPublic digits ∷ front) rest apart = abs
 total_early race candidate count (line ∷ front) rest apart =
     let more = total_early race candidate count front rest apart.1 in
     (line ∷ more.0, more.1, ap (λ (l : List Placed). line ∷ l) more.2)
+
+-- THE FIRST TWO SECTIONS OF A RECORD
+
+abbrev IsNoDraw : Placed → Type 0
+IsNoDraw DrawnFull = ⊥
+IsNoDraw (DrawnPublic digits) = ⊥
+IsNoDraw line = Unit {0}
+
+before_behind : (xs ys : List Placed) → EachOf IsNoDraw xs → before_draw (xs ++ ys) ≡ xs ++ before_draw ys
+before_behind [] ys none = refl
+before_behind (DrawnFull ∷ xs) ys none = absurd none.0
+before_behind (DrawnPublic digits ∷ xs) ys none = absurd none.0
+before_behind (line ∷ xs) ys none = ap (λ (l : List Placed). line ∷ l) (before_behind xs ys none.1)
+
+no_draw : (line : Placed) → part_of line ≢ 5 → IsNoDraw line
+no_draw DrawnFull other = absurd (other refl)
+no_draw (DrawnPublic digits) other = absurd (other refl)
+no_draw line other = tt
+
+of_part : (part : ℕ) (lines : List Placed) → part ≢ 5 → EachOf (IsPart part) lines → EachOf IsNoDraw lines
+of_part part lines other all = of-into (IsPart part) IsNoDraw lines (λ line is. no_draw line (λ e. other (let same : part ≡ 5 = omega (arith, is, e) in same))) all
+
+drawn_first : (draw : Draw) (rest : List Placed) → before_draw (draw_place draw ∷ rest) ≡ []
+drawn_first drawn.Full rest = refl
+drawn_first (drawn.Public bytes) rest = refl
+
+module _ (posted : Record) where
+  -- behind the plan: the commitments, the ballots and the results
+  abbrev pub behind_head : List Placed
+  behind_head = commit_places posted ++ (blocks posted ++ result_places posted)
+
+  abbrev pub sections : List Placed
+  sections = head posted ++ behind_head
+
+  pub sections_are : before_draw (places_in posted) ≡ sections
+  unfolding places_in
+  sections_are =
+      before_behind (head posted) (commit_places posted ++ behind_commits posted) (of_part 0 (head posted) (λ e. omega (arith, e)) (head_is posted))
+      ∙ ap (λ (l : List Placed). head posted ++ l) (before_behind (commit_places posted) (behind_commits posted) (of_part 2 (commit_places posted) (λ e. omega (arith, e)) (commits_are posted))
+      ∙ ap (λ (l : List Placed). commit_places posted ++ l) (before_behind (blocks posted) (behind_ballots posted) (of_part 3 (blocks posted) (λ e. omega (arith, e)) (blocks_are posted))
+      ∙ ap (λ (l : List Placed). blocks posted ++ l) (before_behind (result_places posted) (behind_results posted) (of_part 4 (result_places posted) (λ e. omega (arith, e)) (results_are posted))
+      ∙ (ap (λ (l : List Placed). result_places posted ++ l) (drawn_first posted.draw _) ∙ append-nil (result_places posted)))))
+
+  pub all_are : places_in posted ≡ sections ++ behind_results posted
+  unfolding places_in
+  all_are =
+      sym (append_assoc (head posted) behind_head (behind_results posted)
+      ∙ ap (λ (l : List Placed). head posted ++ l) (append_assoc (commit_places posted) (blocks posted ++ result_places posted) (behind_results posted)
+      ∙ ap (λ (l : List Placed). commit_places posted ++ l) (append_assoc (blocks posted) (result_places posted) (behind_results posted))))

@@ -7,25 +7,26 @@ use Rattle.sg_forms.specs.Reading.{bytes_of_digits}
 use Rattle.sg_forms.specs.declared.line.RowOpening.{RowOpening}
 use Rattle.sg_plan.specs.declared.plan.Side.{Side}
 use Rattle.sg_grammar.proofs.Lists.{apart-behind}
-use Rattle.sg_grammar.proofs.Parting.{parted}
-use Rattle.sg_grammar.proofs.Wholes.{lines_stand_apart}
-use Rattle.sg_grammar.specs.Lines.{IsAmong, placed_of}
+use Rattle.sg_grammar.specs.Lines.{IsAmong}
 use Rattle.sg_grammar.specs.Parting.{Apart, None_of, clash, is_before_rows, is_row_at}
 use Rattle.sg_grammar.specs.Placed.{Placed}
 use Rattle.sg_grammar.specs.Placed.Placed.{DrawnFull, DrawnPublic, RowAt}
-use Rattle.sg_grammar.specs.Walk.{Walked, is_whole, start}
-use Rattle.sg_check.proofs.Accepted.{yes_is_sound}
+use Rattle.sg_record.specs.Lines.{texts_in}
+use Rattle.sg_record.specs.Places.{behind_record, places_in, walk_of}
+use Rattle.sg_record.specs.declared.record.Record.{Record}
 use Rattle.sg_check.proofs.FineLines.{sides_are_drawn}
 use Rattle.sg_check.proofs.Fronts.{given-before}
 use Rattle.sg_check.proofs.Rows.{none_behind_row}
 use Rattle.sg_check.specs.Completions.{Completion, OpensNoneTwice}
 use Rattle.sg_check.specs.Facts.{draws_digits, draws_full, first_given, is_both, is_full_draw, public_bytes}
-use Rattle.sg_check.specs.Laws.{AreSidesDrawn, IsAccepted, IsFineWalk}
-use Rattle.sg_check.specs.Verdict.{IsGood}
-use Rattle.sg_check.specs.declared.judged.Total.{Total}
+use Rattle.sg_check.specs.Laws.{AreSidesDrawn}
+use Rattle.sg_fronts.proofs.OfRecord.{apart, parts, placed}
+use Rattle.sg_parts.proofs.Accepting.{agree, fine}
+use Rattle.sg_parts.specs.Given.{IsAccepted}
 use Rattle.sg_odds.specs.Coins.{GetsYes, are_on_coins, before_draw, coins_of}
 use Rattle.sg_odds.specs.Odds.{FullGetsYes, YesGetsYes}
 use Rattle.sg_odds.proofs.InOrder.{coins_fit}
+use Rattle.sg_odds.proofs.Rows.{rows_long}
 
 -- no draw stands behind a row
 no_draw : (line : Placed) → is_before_rows line ≡ false → draws_digits line ≡ None
@@ -60,47 +61,38 @@ not_full : (line : Placed) → is_before_rows line ≡ false → draws_full line
 not_full DrawnFull e = cc
 not_full line e = refl
 
-module _ (texts : List (List ℕ)) (totals : List Total) (walked : Walked) (accepted : IsAccepted texts totals walked) where
-  abbrev placed : List Placed
-  placed = placed_of walked.posted
+module _ (posted : Record) (accepted : IsAccepted posted) where
+  abbrev lines : List Placed
+  lines = places_in posted
 
-  good : IsGood texts totals
-  good = accepted.yes
+  apart_lines : Apart clash (places_in posted)
+  apart_lines = apart posted accepted.words accepted.formed
 
-  fine : IsFineWalk texts walked
-  fine = record { walks = accepted.walks; fine = good.fine }
+  drawn_sides : AreSidesDrawn (places_in posted)
+  drawn_sides = subst (λ (l : List Placed). AreSidesDrawn l) (placed posted accepted.words accepted.formed) (sides_are_drawn (texts_in posted) (walk_of posted) (fine posted accepted))
 
-  whole : is_whole walked.next ≡ true
-  whole = sym (ap (λ (o : Option Walked). option_map_or (λ (w : Walked). is_whole w.next) o false) accepted.walks) ∙ good.whole
+  gets : (completion : Completion) (coins : List Side) → OpensNoneTwice (places_in posted) completion → are_on_coins (places_in posted) coins ≡ true → GetsYes (before_draw (places_in posted)) completion coins
+  gets completion coins opens on = record {
+    posted = posted;
+    words = accepted.words;
+    formed = accepted.formed;
+    begins = refl;
+    opens = opens;
+    keeps = λ k other. agree posted accepted k;
+    sides = on;
+  }
 
-  apart_lines : Apart clash placed
-  apart_lines = lines_stand_apart texts walked accepted.walks
-
-  gets : (completion : Completion) (coins : List Side) → OpensNoneTwice placed completion → are_on_coins placed coins ≡ true → GetsYes (before_draw placed) completion coins
-  gets completion coins opens on =
-      let sound = yes_is_sound texts totals accepted.yes in
-      record {
-        lines = texts;
-        walked = walked;
-        walks = accepted.walks;
-        whole = whole;
-        begins = refl;
-        opens = opens;
-        keeps = λ k other. sound.agree k;
-        sides = on;
-      }
-
-  pub all_both : is_full_draw placed ≡ true → (race instance row : ℕ) (opening : RowOpening) → IsAmong placed (RowAt race instance row opening) → is_both opening ≡ true
+  pub all_both : is_full_draw lines ≡ true → (race instance row : ℕ) (opening : RowOpening) → IsAmong lines (RowAt race instance row opening) → is_both opening ≡ true
   all_both full race instance row opening (front, rest, is) =
       let before = sym (none_behind_row draws_full front rest race instance row opening (subst (λ (l : List Placed). Apart clash l) is apart_lines) not_full) in
-      (sides_are_drawn texts walked fine).full front rest race instance row opening is (before ∙ (sym (ap (list_any draws_full) is) ∙ full))
+      drawn_sides.full front rest race instance row opening is (before ∙ (sym (ap (list_any draws_full) is) ∙ full))
 
 pub yes_gets_yes : YesGetsYes
-yes_gets_yes texts totals walked accepted public is_public completion opens =
-    gets texts totals walked accepted completion (coins_of public (placed_of walked.posted)) opens
-    (on_coins (placed_of walked.posted) (apart_lines texts totals walked accepted) (sides_are_drawn texts walked (fine texts totals walked accepted)) public is_public [] (placed_of walked.posted) refl)
+yes_gets_yes posted accepted public is_public completion opens =
+    gets posted accepted completion (coins_of public (places_in posted)) opens
+    (on_coins (places_in posted) (apart_lines posted accepted) (drawn_sides posted accepted) public is_public [] (places_in posted) refl)
 
 pub full_gets_yes : FullGetsYes
-full_gets_yes texts totals walked accepted full completion opens coins long =
-    gets texts totals walked accepted completion coins opens
-    (coins_fit (placed_of walked.posted) walked.next (parted start texts walked tt accepted.walks) (whole texts totals walked accepted) (all_both texts totals walked accepted full) coins long)
+full_gets_yes posted accepted full completion opens coins long =
+    gets posted accepted completion coins opens
+    (coins_fit (places_in posted) (behind_record posted) (parts posted accepted.words accepted.formed) refl (all_both posted accepted full) coins (long ∙ sym (rows_long posted.plan)))

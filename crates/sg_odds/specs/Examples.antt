@@ -1,16 +1,17 @@
 -- The definitions at work on a small record. An example says nothing that the definitions don't; it shows that they say what
 -- they should (this project's rules for the record).
-use Rattle.std.specs.Prelude.{◌≡◌, ℕ, true, false, List, [], ◌∷◌, ◌++◌, length, map, Some}
+use Rattle.std.specs.Prelude.{◌≡◌, ℕ, true, false, List, [], ◌∷◌, ◌++◌, map, Some}
 use Rattle.sg_commit.specs.declared.Key.{Key}
 use Rattle.sg_commit.specs.declared.Opening.{Opening}
 use Rattle.sg_forms.specs.declared.line.RowOpening.TheVariants as opened
+use Rattle.sg_plan.specs.Ballots.{r_rows}
 use Rattle.sg_plan.specs.declared.plan.Plan.{Plan}
 use Rattle.sg_plan.specs.declared.plan.Side.TheVariants as side
 use Rattle.sg_grammar.specs.Placed.{Placed}
 use Rattle.sg_grammar.specs.Placed.Placed.{CodeAt, DrawnPublic, FlagsAt, PlacesAt, RowAt, TotalAt}
 use Rattle.sg_grammar.specs.declared.state.Block.TheVariants as block
 use Rattle.sg_check.specs.Completions.{Completion}
-use Rattle.sg_odds.specs.Coins.{are_on_coins, before_draw, rows_due}
+use Rattle.sg_odds.specs.Coins.{are_on_coins, before_draw}
 use Rattle.sg_odds.specs.Odds.{exponent, is_lacking, led}
 
 -- one race of two candidates, one ballot, and one instance of two rows
@@ -67,7 +68,7 @@ abbrev pub opened_rows : Key → List Placed
 opened_rows key = RowAt 0 0 0 (opened.Left (opening key 0)) ∷ RowAt 0 0 1 (opened.Both (opening key 1) (opening key 1)) ∷ []
 
 pub record AreOddsShown (key : Key) : Type 0 where
-  pub rows : length (rows_due small) ≡ 2
+  pub rows : r_rows small ≡ 2
   pub sections : before_draw (honest key ++ DrawnPublic [] ∷ opened_rows key) ≡ honest key
   -- two of the four lists have a left coin for row 0; a list with a coin more, or less, is none of these rows
   pub sides : map (are_on_coins (opened_rows key)) ((side.Left ∷ side.Left ∷ []) ∷ (side.Left ∷ side.Right ∷ []) ∷ (side.Right ∷ side.Left ∷ []) ∷ (side.Right ∷ side.Right ∷ []) ∷ [])

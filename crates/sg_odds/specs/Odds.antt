@@ -2,22 +2,24 @@
 use Rattle.std.specs.Prelude.{◌≡◌, ◌≢◌, ℕ, zero, suc, ◌+◌, ◌-◌, ◌*◌, ◌%◌, ◌<◌, ◌≤◌, ◌==◌, ◌⊎◌, nat_le, min, max, Bool, true, false, ◌&&◌, ◌||◌, List, [], length, Some}
 use Rattle.std.specs.Option.{option_map_or}
 use Rattle.sg_commit.specs.declared.Opening.{Opening}
-use Rattle.sg_plan.specs.Ballots.{candidates_of, entries_of}
+use Rattle.sg_plan.specs.Ballots.{candidates_of, entries_of, r_rows}
 use Rattle.sg_plan.specs.declared.plan.Plan.{Plan}
 use Rattle.sg_plan.specs.declared.plan.Side.{Side}
 use Rattle.sg_plan.specs.declared.plan.Side.TheVariants as side
 use Rattle.sg_grammar.specs.Placed.{Placed}
 use Rattle.sg_grammar.specs.Placed.Placed.{TotalAt}
-use Rattle.sg_grammar.specs.Walk.{Walked, is_whole, start, walk}
-use Rattle.sg_grammar.specs.Lines.{IsAmong, placed_of}
+use Rattle.sg_grammar.specs.Lines.{IsAmong}
+use Rattle.sg_record.specs.Formed.{is_formed}
+use Rattle.sg_record.specs.Laws.{HasWords}
+use Rattle.sg_record.specs.Places.{places_in}
+use Rattle.sg_record.specs.declared.record.Record.{Record}
 use Rattle.sg_check.specs.Completions.{Completion, IsCompletion, OpensNoneTwice, any_below, is_row_misprinted}
 use Rattle.sg_check.specs.Facts.{is_full_draw, is_marked, points_to, public_bytes, half_commitment}
 use Rattle.sg_check.specs.Kinds.{opens_digest, half_kind}
-use Rattle.sg_check.specs.Laws.{IsAccepted}
 use Rattle.sg_check.specs.Printings.{AreCodesDifferent, Printing, count_below, posted_count}
-use Rattle.sg_check.specs.declared.judged.Total.{Total}
 use Rattle.sg_facts.specs.Totals.{total_of}
-use Rattle.sg_odds.specs.Coins.{FewGetYes, GetsYes, before_draw, coins_of, rows_due}
+use Rattle.sg_parts.specs.Given.{IsAccepted}
+use Rattle.sg_odds.specs.Coins.{FewGetYes, GetsYes, before_draw, coins_of}
 
 -- the completion has no pointer at this half, or one of n or more, or one that an earlier row has on this side
 abbrev pub is_half_lacking : Plan → Completion → Side → ℕ → ℕ → ℕ → Bool
@@ -65,21 +67,20 @@ IsOffBy plan lines completion race candidate count least =
 -- with a full completion, where a total is off by so much in each instance, at most one in two to this power, for each
 -- instance, of all lists of coins gets yes
 abbrev pub OddsBound : Type 0
-OddsBound = (lines : List (List ℕ)) (walked : Walked) → walk start lines ≡ Some walked
-    → (completion : Completion) → IsFullCompletion walked.next.plan (placed_of walked.posted) completion
-    → (race candidate count least : ℕ) → IsAmong (placed_of walked.posted) (TotalAt race candidate count)
-    → IsOffBy walked.next.plan (placed_of walked.posted) completion race candidate count least
-    → FewGetYes walked.next.plan (before_draw (placed_of walked.posted)) completion (least * walked.next.plan.instances)
+OddsBound = (posted : Record) → HasWords posted → is_formed posted ≡ true
+    → (completion : Completion) → IsFullCompletion posted.plan (places_in posted) completion
+    → (race candidate count least : ℕ) → IsAmong (places_in posted) (TotalAt race candidate count)
+    → IsOffBy posted.plan (places_in posted) completion race candidate count least
+    → FewGetYes posted.plan (before_draw (places_in posted)) completion (least * posted.plan.instances)
 
 -- where each marked entry's code is printed beside the candidate that its row leads to, as many are led to a candidate as
 -- codes are posted for it
 abbrev pub LedIsPosted : Type 0
-LedIsPosted = (lines : List (List ℕ)) (walked : Walked) → walk start lines ≡ Some walked
-    → (completion : Completion) → IsFullCompletion walked.next.plan (placed_of walked.posted) completion
-    → (printing : Printing) → AreCodesDifferent walked.next.plan printing
-    → (race instance candidate : ℕ) → race < length walked.next.plan.races → instance < walked.next.plan.instances → candidate < candidates_of walked.next.plan race
-    → ((row : ℕ) → row < entries_of walked.next.plan race → is_row_misprinted walked.next.plan (placed_of walked.posted) completion printing race instance row ≡ false)
-    → led walked.next.plan (placed_of walked.posted) completion race instance candidate ≡ posted_count walked.next.plan (placed_of walked.posted) printing race candidate
+LedIsPosted = (plan : Plan) (lines : List Placed) (completion : Completion) → IsFullCompletion plan lines completion
+    → (printing : Printing) → AreCodesDifferent plan printing
+    → (race instance candidate : ℕ) → race < length plan.races → instance < plan.instances → candidate < candidates_of plan race
+    → ((row : ℕ) → row < entries_of plan race → is_row_misprinted plan lines completion printing race instance row ≡ false)
+    → led plan lines completion race instance candidate ≡ posted_count plan lines printing race candidate
 
 -- THE EXPONENT
 
@@ -107,25 +108,24 @@ exponent plan lines completion race = plan.instances * greatest_below (least_gap
 
 -- with a full completion at most one in two to this power of all lists of coins gets yes
 abbrev pub ExponentBound : Type 0
-ExponentBound = (lines : List (List ℕ)) (walked : Walked) → walk start lines ≡ Some walked → is_whole walked.next ≡ true
-    → (completion : Completion) → IsFullCompletion walked.next.plan (placed_of walked.posted) completion
-    → (race : ℕ) → race < length walked.next.plan.races
-    → FewGetYes walked.next.plan (before_draw (placed_of walked.posted)) completion (exponent walked.next.plan (placed_of walked.posted) completion race)
+ExponentBound = (posted : Record) → HasWords posted → is_formed posted ≡ true
+    → (completion : Completion) → IsFullCompletion posted.plan (places_in posted) completion
+    → (race : ℕ) → race < length posted.plan.races
+    → FewGetYes posted.plan (before_draw (places_in posted)) completion (exponent posted.plan (places_in posted) completion race)
 
 -- A VERDICT OF YES
 
 -- where the verdict on a record is yes and public bytes are drawn, their coins get yes, with each completion that it opens by
 abbrev pub YesGetsYes : Type 0
-YesGetsYes = (lines : List (List ℕ)) (totals : List Total) (walked : Walked) → IsAccepted lines totals walked
-    → (public : List ℕ) → public_bytes (placed_of walked.posted) ≡ Some public
-    → (completion : Completion) → OpensNoneTwice (placed_of walked.posted) completion
-    → GetsYes (before_draw (placed_of walked.posted)) completion (coins_of public (placed_of walked.posted))
+YesGetsYes = (posted : Record) → IsAccepted posted → (public : List ℕ) → public_bytes (places_in posted) ≡ Some public
+    → (completion : Completion) → OpensNoneTwice (places_in posted) completion
+    → GetsYes (before_draw (places_in posted)) completion (coins_of public (places_in posted))
 
 -- and where all is drawn, all lists of coins do
 abbrev pub FullGetsYes : Type 0
-FullGetsYes = (lines : List (List ℕ)) (totals : List Total) (walked : Walked) → IsAccepted lines totals walked → is_full_draw (placed_of walked.posted) ≡ true
-    → (completion : Completion) → OpensNoneTwice (placed_of walked.posted) completion
-    → (coins : List Side) → length coins ≡ length (rows_due walked.next.plan) → GetsYes (before_draw (placed_of walked.posted)) completion coins
+FullGetsYes = (posted : Record) → IsAccepted posted → is_full_draw (places_in posted) ≡ true
+    → (completion : Completion) → OpensNoneTwice (places_in posted) completion
+    → (coins : List Side) → length coins ≡ r_rows posted.plan → GetsYes (before_draw (places_in posted)) completion coins
 
 -- two openings of the commitment of one half
 pub record IsOpenedTwice (lines : List Placed) : Type 0 where
@@ -142,11 +142,10 @@ pub record IsOpenedTwice (lines : List Placed) : Type 0 where
 -- and a record with the first two sections of another, on which the verdict is yes, opens by each full completion of that one,
 -- or a commitment is opened twice
 abbrev pub YesOpensSo : Type 0
-YesOpensSo = (lines : List (List ℕ)) (walked : Walked) → walk start lines ≡ Some walked
-    → (completion : Completion) → IsFullCompletion walked.next.plan (placed_of walked.posted) completion
-    → (texts : List (List ℕ)) (totals : List Total) (other : Walked) → IsAccepted texts totals other
-    → before_draw (placed_of other.posted) ≡ before_draw (placed_of walked.posted)
-    → OpensNoneTwice (placed_of other.posted) completion ⊎ IsOpenedTwice (placed_of walked.posted)
+YesOpensSo = (posted : Record) → HasWords posted → is_formed posted ≡ true
+    → (completion : Completion) → IsFullCompletion posted.plan (places_in posted) completion
+    → (other : Record) → IsAccepted other → before_draw (places_in other) ≡ before_draw (places_in posted)
+    → OpensNoneTwice (places_in other) completion ⊎ IsOpenedTwice (places_in posted)
 
 -- all of these laws
 pub record OddsLaw : Type 0 where

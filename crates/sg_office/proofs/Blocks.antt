@@ -6,9 +6,11 @@ use Rattle.std.specs.List.{AllByRecursion, slice_get, slice_set}
 use Rattle.std.specs.List.Sorted.{IsStrictlySortedBy}
 use Rattle.std.specs.Map.{keys_of}
 use Rattle.std.specs.Ordering.{int_cmp, int_eq}
+use Rattle.std.proofs.lemmas.Option.{same_Some}
+use Rattle.sg_lists.proofs.Integers.{higher_differs}
 use Rattle.sg_office.specs.inside.Runs.{Act, IsOnlyIn, Rise, are_below, flat, text_of, without_number}
 use Rattle.sg_office.proofs.Gathered.{joined}
-use Rattle.sg_office.proofs.Numbers.{below_last, some_same}
+use Rattle.sg_office.proofs.Numbers.{below_last}
 
 -- PARTS
 
@@ -19,7 +21,7 @@ flat_both (x ∷ xs) rest = ap (λ l. x ++ l) (flat_both xs rest) ∙ sym (joine
 -- the acts before a block, its own, and those behind it
 pub flat_at : (blocks : List (List Act)) (at : ℕ) (block : List Act) → slice_get blocks at ≡ Some block → flat blocks ≡ flat (take at blocks) ++ (block ++ flat (drop (suc at) blocks))
 flat_at [] at block e = cc
-flat_at (b ∷ bs) zero block e = ap (λ l. l ++ flat bs) (some_same b block e)
+flat_at (b ∷ bs) zero block e = ap (λ l. l ++ flat bs) (same_Some b block e)
 flat_at (b ∷ bs) (suc at) block e = ap (λ l. b ++ l) (flat_at bs at block e) ∙ sym (joined b (flat (take at bs)) (block ++ flat (drop (suc at) bs)))
 
 -- the same with another block in its place
@@ -30,7 +32,7 @@ flat_set (b ∷ bs) (suc at) block new e = ap (λ l. b ++ l) (flat_set bs at blo
 
 drop_at : (blocks : List (List Act)) (at : ℕ) (block : List Act) → slice_get blocks at ≡ Some block → drop at blocks ≡ block ∷ drop (suc at) blocks
 drop_at [] at block e = cc
-drop_at (b ∷ bs) zero block e = ap (λ l. l ∷ bs) (some_same b block e)
+drop_at (b ∷ bs) zero block e = ap (λ l. l ∷ bs) (same_Some b block e)
 drop_at (b ∷ bs) (suc at) block e = drop_at bs at block e
 
 -- both parts of acts whose numbers rise
@@ -121,9 +123,6 @@ not_above a b e = grind (arith, ints, e)
 higher_not_equal : (a b c : ℤ) → int_lt c a ≡ true → int_cmp a b ≡ Less → int_eq b c ≡ false
 higher_not_equal a b c e f = grind (arith, ints, e, f)
 
-above_not_equal : (a b : ℤ) → int_lt b a ≡ true → int_eq a b ≡ false
-above_not_equal a b e = grind (arith, ints, e)
-
 lower_not_equal : (a b c : ℤ) → int_cmp a b ≡ Less → int_lt c b ≡ false → int_eq a c ≡ false
 lower_not_equal a b c e f = grind (arith, ints, e, f)
 
@@ -131,10 +130,10 @@ lower_not_equal a b c e f = grind (arith, ints, e, f)
 none_higher : (number : ℤ) (acts : List Act) (first : Act) → Rise acts → slice_get acts 0 ≡ Some first → int_lt number first.0 ≡ true → text_of number acts ≡ None
 none_higher number [] first rise e lower = cc
 none_higher number (x ∷ xs) first rise e lower =
-    ap (λ b. cond b (Some x.1) (text_of number xs)) (above_not_equal x.0 number is_lower) ∙ all_higher xs (sorted_head int_cmp x.0 (keys_of xs) rise)
+    ap (λ b. cond b (Some x.1) (text_of number xs)) (higher_differs x.0 number is_lower) ∙ all_higher xs (sorted_head int_cmp x.0 (keys_of xs) rise)
   where
     is_lower : int_lt number x.0 ≡ true
-    is_lower = ap (λ (a : Act). int_lt number a.0) (some_same x first e) ∙ lower
+    is_lower = ap (λ (a : Act). int_lt number a.0) (same_Some x first e) ∙ lower
 
     all_higher : (ys : List Act) → AllByRecursion (λ k. int_cmp x.0 k ≡ Less) (keys_of ys) → text_of number ys ≡ None
     all_higher [] all = refl
@@ -153,7 +152,7 @@ none_lower number (x ∷ xs) first rest rise higher =
 
 first_of : (acts : List Act) (first : Act) → slice_get acts 0 ≡ Some first → acts ≡ first ∷ drop 1 acts
 first_of [] first e = cc
-first_of (x ∷ xs) first e = ap (λ a. a ∷ xs) (some_same x first e)
+first_of (x ∷ xs) first e = ap (λ a. a ∷ xs) (same_Some x first e)
 
 -- a block whose first number isn't above this one is the only one that may have it, where none behind has it
 pub only_here : (number : ℤ) (blocks : List (List Act)) (at : ℕ) (block : List Act) (first : Act) → Rise (flat blocks) → at < length blocks → slice_get blocks at ≡ Some block
@@ -199,7 +198,7 @@ below_end number blocks at block last rise e last_is behind = ap (are_below numb
 last_with : (blocks : List (List Act)) (n : ℕ) (block : List Act) (act : Act) → slice_get blocks n ≡ Some block → length blocks ≡ n + 1 → flat (slice_set blocks n (block ++ act ∷ [])) ≡ flat blocks ++ act ∷ []
 last_with [] n block act e many = cc
 last_with (b ∷ []) zero block act e many =
-    nothing_behind (block ++ act ∷ []) ∙ ap (λ l. l ++ act ∷ []) (sym (some_same b block e) ∙ sym (nothing_behind b))
+    nothing_behind (block ++ act ∷ []) ∙ ap (λ l. l ++ act ∷ []) (sym (same_Some b block e) ∙ sym (nothing_behind b))
 last_with (b ∷ []) (suc n) block act e many = cc
 last_with (b ∷ c ∷ bs) zero block act e many = absurd (omega (arith, many))
 last_with (b ∷ c ∷ bs) (suc n) block act e many = ap (λ l. b ++ l) (last_with (c ∷ bs) n block act e (omega (arith, many))) ∙ sym (joined b (flat (c ∷ bs)) (act ∷ []))

@@ -4,6 +4,7 @@ use Rattle.std.specs.List.{join_with_byte}
 use Rattle.std.specs.Option.{option_map}
 use Rattle.sg_desks.specs.ActTexts.{act_text, codes_word, draw_word, mark_word}
 use Rattle.std.specs.Prelude.{pos}
+use Rattle.std.proofs.lemmas.List.{length_push}
 use Rattle.sg_plan.specs.declared.plan.Draw.{Draw}
 use Rattle.sg_plan.specs.declared.plan.Fate.{Fate}
 use Rattle.sg_plan.specs.declared.plan.Fate.TheVariants as fate
@@ -23,7 +24,6 @@ use Rattle.sg_histories.proofs.NewKeys.{any_put, apart, new_ballot, new_void}
 use Rattle.sg_histories.proofs.OutRows.{stage_rows, stages_out}
 use Rattle.sg_histories.proofs.Stamps.{new_number, rows_tell}
 use Rattle.sg_office.proofs.NewRows.{new_row}
-use Rattle.sg_office.proofs.Pushed.{length_pushed}
 use Rattle.sg_keeper.specs.declared.setup.Setup.{Setup}
 use Rattle.sg_histories.specs.Histories.{Entry, claims_after, claims_of, fate_of, fate_word, phase_of, phase_word, scanner_of, stage_of}
 use Rattle.sg_histories.specs.KeptRows.{change_of, done_row, row_of_act, rows_of}
@@ -64,7 +64,7 @@ new_claim setup text (entry ∷ history) number row is above = by_act entry.act 
     by_act act.Close k old = old k
     by_act (act.Draw drawn) k old = old k
     by_act (act.Claim ballot race code) k old =
-        let more : length (claims_of history ++ record { ballot = ballot; race = race; code = code } ∷ []) ≡ length (claims_of history) + 1 = length_pushed (claims_of history) (record { ballot = ballot; race = race; code = code }) in
+        let more : length (claims_of history ++ record { ballot = ballot; race = race; code = code } ∷ []) ≡ length (claims_of history) + 1 = length_push (claims_of history) (record { ballot = ballot; race = race; code = code }) in
         let below : length (claims_of history) < number = omega (arith, k, more) in
         let differ : length (claims_of history) + 1 ≢ number = λ e. omega (arith, k, more, e) in
         let other : ClaimRow = record { claim = pos (length (claims_of history) + 1); ballot = pos ballot; race = pos race; code = pos code } in

@@ -1,7 +1,7 @@
 -- Acts whose numbers rise: which are below a number, and the place at which a search by halves ends.
 use Rattle.std.proofs.Common.{◌≡◌, ℕ, zero, suc, ◌+◌, ◌<◌, ◌≤◌, length, get_or, Bool, true, false, ◌&&◌, cond, ℤ, int_lt, List, [], ◌∷◌, ◌++◌, Option, Some, None, Result, Ok, Err, OnErr, OnOk, Less, Equal, Greater, inl, inr, refl, ap, sym, subst, ◌∙◌, arith}
 use Rattle.std.proofs.lemmas.Int.{ints}
-use Rattle.std.proofs.lemmas.Bool.{cases_lt}
+use Rattle.std.proofs.lemmas.Bool.{cases_lt, and_parts}
 use Rattle.std.proofs.lemmas.Cmp.{int_cmp_total}
 use Rattle.std.proofs.lemmas.List.Sorted.{searchable_from_sorted}
 use Rattle.std.proofs.lemmas.Map.Keys.{sorted_head, sorted_tail}
@@ -11,6 +11,9 @@ use Rattle.std.specs.Map.{keys_of}
 use Rattle.std.specs.Option.{option_map}
 use Rattle.std.specs.Result.{result_ok}
 use Rattle.std.specs.Ordering.{int_cmp, int_eq, is_lt}
+use Rattle.std.proofs.lemmas.Option.{same_Some, slice_get-get_or}
+use Rattle.std.proofs.Math.Bool.{and-false, and-true}
+use Rattle.sg_lists.proofs.Integers.{lower_differs}
 use Rattle.sg_office.specs.inside.Runs.{Act, Rise, are_below, place_of, text_of, without_number}
 
 -- ORDER
@@ -24,9 +27,6 @@ not_back a b e = grind (arith, ints, e)
 apart_by : (a b c : ℤ) → int_cmp a b ≡ Less → int_eq b c ≡ true → int_eq a c ≡ false
 apart_by a b c e f = grind (arith, ints, e, f)
 
-not_equal : (a b : ℤ) → int_lt a b ≡ true → int_eq a b ≡ false
-not_equal a b e = grind (arith, ints, e)
-
 less_not_equal : (a b : ℤ) → int_cmp a b ≡ Less → int_eq a b ≡ false
 less_not_equal a b e = grind (arith, ints, e)
 
@@ -39,45 +39,26 @@ equal_is a b e = grind (arith, ints, e)
 below_less : (a b : ℤ) → int_lt a b ≡ true → int_cmp a b ≡ Less
 below_less a b e = grind (arith, ints, e)
 
-and_first : (a b : Bool) → (a && b) ≡ true → a ≡ true
-and_first true b e = refl
-and_first false b e = cc
-
-and_last : (a b : Bool) → (a && b) ≡ true → b ≡ true
-and_last true b e = e
-and_last false b e = cc
-
-pub some_same : {A : Type 0} (y x : A) → Some y ≡ Some x → y ≡ x
-some_same y x e = cc
-
 -- BELOW A NUMBER
 
 -- an act in front of others is below a number where the others are
 below_first : (x : Act) (acts : List Act) (y : Act) (rest : List Act) → acts ≡ y ∷ rest → (number : ℤ) (b : Bool) → Rise (x ∷ acts) → are_below number acts ≡ b → are_below number (x ∷ acts) ≡ b
 below_first x acts y rest is number b rise below = by_test b below
   where
-    and_false : (c : Bool) → (c && false) ≡ false
-    and_false true = refl
-    and_false false = refl
-
     shape : Rise (x ∷ y ∷ rest)
     shape = subst (λ l. Rise (x ∷ l)) is rise
 
     by_test : (b : Bool) → are_below number acts ≡ b → (int_lt x.0 number && are_below number acts) ≡ b
     by_test true all =
         let lower : int_lt x.0 number ≡ true =
-        falls_through x.0 y.0 number (sorted_head int_cmp x.0 (keys_of (y ∷ rest)) shape).0 (and_first (int_lt y.0 number) (are_below number rest) (ap (are_below number) (sym is) ∙ all)) in
+        falls_through x.0 y.0 number (sorted_head int_cmp x.0 (keys_of (y ∷ rest)) shape).0 (and_parts (int_lt y.0 number) (are_below number rest) (ap (are_below number) (sym is) ∙ all)).0 in
         ap (λ c. c && are_below number acts) lower ∙ all
-    by_test false none = ap (λ c. int_lt x.0 number && c) none ∙ and_false (int_lt x.0 number)
+    by_test false none = ap (λ c. int_lt x.0 number && c) none ∙ and-false (int_lt x.0 number)
 
 -- the last act has the highest number
 pub below_last : (front acts : List Act) (n : ℕ) (number : ℤ) (last : Act) → Rise (front ++ acts) → slice_get acts n ≡ Some last → length acts ≡ n + 1 → are_below number (front ++ acts) ≡ int_lt last.0 number
 below_last [] [] n number last rise e many = cc
-below_last [] (x ∷ []) zero number last rise e many = and_true (int_lt x.0 number) ∙ ap (λ (a : Act). int_lt a.0 number) (some_same x last e)
-  where
-    and_true : (b : Bool) → (b && true) ≡ b
-    and_true true = refl
-    and_true false = refl
+below_last [] (x ∷ []) zero number last rise e many = and-true (int_lt x.0 number) ∙ ap (λ (a : Act). int_lt a.0 number) (same_Some x last e)
 below_last [] (x ∷ []) (suc n) number last rise e many = cc
 below_last [] (x ∷ y ∷ acts) zero number last rise e many = absurd (omega (arith, many))
 below_last [] (x ∷ y ∷ acts) (suc n) number last rise e many =
@@ -92,8 +73,8 @@ below_last (x ∷ y ∷ front) acts n number last rise e many =
 pub no_text_above : (acts : List Act) (number : ℤ) → are_below number acts ≡ true → text_of number acts ≡ None
 no_text_above [] number below = refl
 no_text_above (x ∷ xs) number below =
-    ap (λ b. cond b (Some x.1) (text_of number xs)) (not_equal x.0 number (and_first (int_lt x.0 number) (are_below number xs) below))
-    ∙ no_text_above xs number (and_last (int_lt x.0 number) (are_below number xs) below)
+    ap (λ b. cond b (Some x.1) (text_of number xs)) (lower_differs x.0 number (and_parts (int_lt x.0 number) (are_below number xs) below).0)
+    ∙ no_text_above xs number (and_parts (int_lt x.0 number) (are_below number xs) below).1
 
 -- no act
 pub none_rise : Rise []
@@ -106,11 +87,11 @@ unfolding IsStrictlySortedBy
 rise_more [] number text rise below = (tt, tt)
 rise_more (x ∷ xs) number text rise below = (
   all_more xs rise.0,
-  rise_more xs number text rise.1 (and_last (int_lt x.0 number) (are_below number xs) below),
+  rise_more xs number text rise.1 (and_parts (int_lt x.0 number) (are_below number xs) below).1,
 )
   where
     all_more : (ys : List Act) → AllByRecursion (λ k. int_cmp x.0 k ≡ Less) (keys_of ys) → AllByRecursion (λ k. int_cmp x.0 k ≡ Less) (keys_of (ys ++ (number, text) ∷ []))
-    all_more [] all = (below_less x.0 number (and_first (int_lt x.0 number) (are_below number xs) below), tt)
+    all_more [] all = (below_less x.0 number (and_parts (int_lt x.0 number) (are_below number xs) below).0, tt)
     all_more (y ∷ ys) all = (all.0, all_more ys all.1)
 
 -- the same where an act is pushed, or there is no memory
@@ -124,14 +105,14 @@ rise_pushed acts new number text (Err e) rise below ok err = subst Rise (sym err
 -- what is true of all numbers is true of that at a place
 all_at : (number : ℤ) (xs : List Act) (at : ℕ) (act : Act) → AllByRecursion (λ k. int_cmp number k ≡ Less) (keys_of xs) → slice_get xs at ≡ Some act → int_cmp number act.0 ≡ Less
 all_at number [] at act all e = cc
-all_at number (y ∷ ys) zero act all e = subst (λ (a : Act). int_cmp number a.0 ≡ Less) (some_same y act e) all.0
+all_at number (y ∷ ys) zero act all e = subst (λ (a : Act). int_cmp number a.0 ≡ Less) (same_Some y act e) all.0
 all_at number (y ∷ ys) (suc at) act all e = all_at number ys at act all.1 e
 
 -- an act that has the number is the only one
 place_at : (acts : List Act) (number : ℤ) (at : ℕ) (act : Act) → Rise acts → slice_get acts at ≡ Some act → int_eq act.0 number ≡ true → place_of number acts ≡ Some at
 place_at [] number at act rise e same = cc
 place_at (x ∷ xs) number zero act rise e same =
-    ap (λ b. cond b (Some 0) (option_map (λ at. at + 1) (place_of number xs))) (ap (λ (a : Act). int_eq a.0 number) (some_same x act e) ∙ same)
+    ap (λ b. cond b (Some 0) (option_map (λ at. at + 1) (place_of number xs))) (ap (λ (a : Act). int_eq a.0 number) (same_Some x act e) ∙ same)
 place_at (x ∷ xs) number (suc at) act rise e same =
     ap (λ b. cond b (Some 0) (option_map (λ at. at + 1) (place_of number xs))) (apart_by x.0 act.0 number (all_at x.0 xs at act (sorted_head int_cmp x.0 (keys_of xs) rise) e) same)
     ∙ (ap (option_map (λ at. at + 1)) (place_at xs number at act (sorted_tail int_cmp x.0 (keys_of xs) rise) e same)
@@ -153,16 +134,11 @@ steps_up (x ∷ y ∷ acts) rise (suc k) d high = steps_up (y ∷ acts) (sorted_
 next_up : (acts : List Act) → Rise acts → (k : ℕ) (d : Act) → 0 ≤ k → k + 1 < length acts → is_lt (int_cmp (get_or acts (k + 1) d).0 (get_or acts k d).0) ≡ false
 next_up acts rise k d low high = subst (λ n. is_lt (int_cmp (get_or acts n d).0 (get_or acts k d).0) ≡ false) {x = suc k} (omega arith) (steps_up acts rise k d (omega (arith, high)))
 
-pub item_at : {A : Type 0} (xs : List A) (at : ℕ) (d : A) → at < length xs → slice_get xs at ≡ Some (get_or xs at d)
-item_at [] at d in_range = absurd (omega (arith, in_range))
-item_at (x ∷ xs) zero d in_range = refl
-item_at (x ∷ xs) (suc at) d in_range = item_at xs at d (omega (arith, in_range))
-
 -- a search by halves ends at the place of the number, where it has one
 pub searched : (acts : List Act) (number : ℤ) (r : Result ℕ ℕ) → Rise acts → IsSearchInRange r (length acts) → IsBinarySearchResult (λ (act : Act). int_cmp act.0 number) acts r → result_ok r ≡ place_of number acts
 searched acts number (Ok at) rise in_range equal =
     let d : Act = (number, []) in
-    sym (place_at acts number at (get_or acts at d) rise (item_at acts at d in_range) (equal_is (get_or acts at d).0 number (equal d)))
+    sym (place_at acts number at (get_or acts at d) rise (slice_get-get_or acts at d in_range) (equal_is (get_or acts at d).0 number (equal d)))
 searched acts number (Err at) rise in_range parted =
     let parts = parted (searchable_from_sorted int_cmp_total (λ (act : Act). act.0) acts number (next_up acts rise)) in
     sym (no_place acts number (λ k d below. by_side k d below (parts.0 k d (omega arith)) (parts.1 k d)))
@@ -177,7 +153,7 @@ searched acts number (Err at) rise in_range parted =
 
 shifted : (o : Option ℕ) (at : ℕ) → option_map (λ at. at + 1) o ≡ Some (suc at) → o ≡ Some at
 shifted None at e = cc
-shifted (Some n) at e = ap Some (omega (arith, some_same (n + 1) (suc at) e))
+shifted (Some n) at e = ap Some (omega (arith, same_Some (n + 1) (suc at) e))
 
 nowhere : (o : Option ℕ) → option_map (λ at. at + 1) o ≡ None → o ≡ None
 nowhere None e = refl
@@ -185,7 +161,7 @@ nowhere (Some n) e = cc
 
 not_first : (o : Option ℕ) → option_map (λ at. at + 1) o ≡ Some 0 → ⊥
 not_first None e = cc
-not_first (Some n) e = omega (arith, some_same (n + 1) 0 e)
+not_first (Some n) e = omega (arith, same_Some (n + 1) 0 e)
 
 -- the text of the act at its place
 pub text_at_place : (acts : List Act) (number : ℤ) (at : ℕ) (act : Act) → place_of number acts ≡ Some at → slice_get acts at ≡ Some act → text_of number acts ≡ Some act.1
@@ -194,7 +170,7 @@ text_at_place (x ∷ xs) number at act e got = by_test (int_eq x.0 number) at (�
   where
     by_test : (b : Bool) (at : ℕ) → ((n : ℕ) → place_of number xs ≡ Some n → slice_get xs n ≡ Some act → text_of number xs ≡ Some act.1) → cond b (Some 0) (option_map (λ at. at + 1) (place_of number xs)) ≡ Some at → slice_get (x ∷ xs) at ≡ Some act
         → cond b (Some x.1) (text_of number xs) ≡ Some act.1
-    by_test true zero rest e got = ap (λ (a : Act). Some a.1) (some_same x act got)
+    by_test true zero rest e got = ap (λ (a : Act). Some a.1) (same_Some x act got)
     by_test true (suc at) rest e got = cc
     by_test false zero rest e got = absurd (not_first (place_of number xs) e)
     by_test false (suc at) rest e got = rest at (shifted (place_of number xs) at e) got

@@ -28,17 +28,11 @@ use Rattle.sg_histories.proofs.Stamps.{rows_tell}
 use Rattle.sg_office.proofs.Fits.{accepted_fits, accepted_numbers}
 use Rattle.sg_office.proofs.NowTold.{body_told}
 
-pub bytes_are : (xs ys : List ℕ) → bytes_eq xs ys ≡ true → xs ≡ ys
-bytes_are xs ys e = (bytes_eq-Decides xs ys).0 e
-
-bytes_same : (xs ys : List ℕ) → xs ≡ ys → bytes_eq xs ys ≡ true
-bytes_same xs ys e = (bytes_eq-Decides xs ys).1 e
-
 bytes_other : (xs ys : List ℕ) → (xs ≡ ys → ⊥) → bytes_eq xs ys ≡ false
 bytes_other xs ys h = by_test (bytes_eq xs ys) refl
   where
     by_test : (b : Bool) → bytes_eq xs ys ≡ b → b ≡ false
-    by_test true k = absurd (h (bytes_are xs ys k))
+    by_test true k = absurd (h ((bytes_eq-Decides xs ys).0 k))
     by_test false k = refl
 
 -- PHASES
@@ -202,7 +196,7 @@ repeat_told kept history stamp asked differ limits numbers is stands =
         → cond b (reply.Done (body_of kept.setup history old)) (reply.Ref (act_text kept.setup.plan.version old)) ≡ cond b (reply.Done (body_with kept.setup (fate_at kept.slots) asked)) (reply.Ref (act_text kept.setup.plan.version old))
     by_same old e false k = refl
     by_same old e true k =
-        let one : old ≡ asked = kept_one kept.setup history stamp.station stamp.number old asked differ limits numbers is stands.lawful e (bytes_are (act_text kept.setup.plan.version old) (act_text kept.setup.plan.version asked) k) in
+        let one : old ≡ asked = kept_one kept.setup history stamp.station stamp.number old asked differ limits numbers is stands.lawful e ((bytes_eq-Decides (act_text kept.setup.plan.version old) (act_text kept.setup.plan.version asked)).0 k) in
         let fits : FitsBody kept.setup.plan asked = subst (FitsBody kept.setup.plan) one (kept_fits kept.setup history stamp.station stamp.number old stands.lawful e) in
         ap (λ a. reply.Done (body_of kept.setup history a)) one ∙ ap (λ b. reply.Done b) (sym (body_told kept history asked stands fits))
 
@@ -216,7 +210,7 @@ pub repeat_same : (kept : Kept) (history : List Entry) (stamp : Stamp) (asked : 
     → StandsFor kept history → text_at stamp.station stamp.number kept.dones ≡ Some text → text ≡ act_text kept.setup.plan.version asked → said ≡ body_with kept.setup (fate_at kept.slots) asked
     → Some (reply.Done said) ≡ repeat_of kept.setup history stamp asked
 repeat_same kept history stamp asked text said differ limits numbers is stands found same says =
-    let test : bytes_eq text (act_text kept.setup.plan.version asked) ≡ true = bytes_same text (act_text kept.setup.plan.version asked) same in
+    let test : bytes_eq text (act_text kept.setup.plan.version asked) ≡ true = (bytes_eq-Decides text (act_text kept.setup.plan.version asked)).1 same in
     sym (repeat_told kept history stamp asked differ limits numbers is stands ∙ ap (option_map (text_reply kept asked)) found
     ∙ ap (λ b. Some (cond b (reply.Done (body_with kept.setup (fate_at kept.slots) asked)) (reply.Ref text))) test ∙ ap (λ b. Some (reply.Done b)) (sym says))
 

@@ -1,8 +1,9 @@
 -- An office goes on standing for its history when an act is accepted.
-use Rattle.std.proofs.Common.{◌≡◌, ◌≢◌, ℕ, zero, suc, ◌+◌, ◌-◌, ◌<◌, ◌≤◌, ◌==◌, nat_eq, Bool, true, false, cond, List, [], ◌∷◌, length, Some, refl, ap, sym, ◌∙◌, arith}
+use Rattle.std.proofs.Common.{◌≡◌, ◌≢◌, ℕ, ◌+◌, ◌-◌, ◌<◌, ◌≤◌, ◌==◌, nat_eq, Bool, true, false, cond, List, ◌∷◌, length, Some, refl, ap, sym, ◌∙◌, arith}
 use Rattle.std.specs.List.{slice_get}
 use Rattle.std.specs.Prelude.{slice_set}
 use Rattle.std.proofs.lemmas.Bool.Decides.{nat_tests}
+use Rattle.sg_lists.proofs.Lists.{slice_get-set_other, slice_get-set_same}
 use Rattle.sg_plan.specs.Ballots.{ballots_of}
 use Rattle.sg_plan.specs.declared.plan.Fate.{Fate}
 use Rattle.sg_plan.specs.declared.plan.Fate.TheVariants as fate
@@ -41,20 +42,6 @@ goes_on kept history entry slots stands accepted told = record {
 abbrev pub told_slot : Fate → ℕ → Slot
 told_slot told station = record { fate = told; station = station }
 
--- the list with one item set, at its place
-pub set_here : {A : Type 0} (xs : List A) (at : ℕ) (x : A) → at < length xs → slice_get (slice_set xs at x) at ≡ Some x
-set_here [] at x h = absurd (omega (arith, h))
-set_here (y ∷ ys) zero x h = refl
-set_here (y ∷ ys) (suc at) x h = set_here ys at x (omega (arith, h))
-
--- and at the others
-pub set_else : {A : Type 0} (xs : List A) (at place : ℕ) (x : A) → place ≢ at → slice_get (slice_set xs at x) place ≡ slice_get xs place
-set_else [] at place x e = refl
-set_else (y ∷ ys) zero zero x e = absurd (e refl)
-set_else (y ∷ ys) zero (suc place) x e = refl
-set_else (y ∷ ys) (suc at) zero x e = refl
-set_else (y ∷ ys) (suc at) (suc place) x e = set_else ys at place x (λ k. e (ap (λ n. suc n) k))
-
 -- the slots after the slot of one ballot was set
 pub tells_one : (setup : Setup) (slots : List Slot) (history : List Entry) (entry : Entry) (ballot : ℕ) (slot : Slot)
     → 1 ≤ ballot → length slots ≡ ballots_of setup.plan → TellSlots setup slots history
@@ -68,11 +55,11 @@ tells_one setup slots history entry ballot slot first many told here apart place
         let at : place ≡ ballot - 1 = grind (arith, nat_tests, e) in
         let to : place + 1 ≡ ballot = omega (arith, at, first) in
         let inside : ballot - 1 < length slots = rw many (omega (arith, at, within)) in
-        rw (at) (set_here slots (ballot - 1) slot inside) ∙ ap (λ s. Some s) (here ∙ ap (slot_of (entry ∷ history)) (sym to))
+        rw (at) (slice_get-set_same slots (ballot - 1) slot inside) ∙ ap (λ s. Some s) (here ∙ ap (slot_of (entry ∷ history)) (sym to))
     by_place false e =
         let at : place ≢ ballot - 1 = grind (arith, nat_tests, e) in
         let to : ballot ≢ place + 1 = λ k. at (omega (arith, k)) in
-        set_else slots (ballot - 1) place slot at ∙ (told place within ∙ ap (λ s. Some s) (sym (apart (place + 1) to)))
+        slice_get-set_other slots (ballot - 1) place slot at ∙ (told place within ∙ ap (λ s. Some s) (sym (apart (place + 1) to)))
 
 -- what a scan does to the slots' meaning
 pub scan_here : (history : List Entry) (station number ballot : ℕ) (marks : List Mark)

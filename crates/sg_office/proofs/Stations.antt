@@ -7,12 +7,12 @@ use Rattle.std.specs.List.{AllByRecursion}
 use Rattle.std.specs.Map.{keys_of, lookup, remove_entry, set_value}
 use Rattle.std.specs.Ordering.{int_cmp, int_eq, is_eq, match_ordering, ordering_then}
 use Rattle.std.specs.Prelude.{pos}
+use Rattle.std.proofs.lemmas.Option.{same_Some}
 use Rattle.sg_keeper.specs.Rows.{done_before, done_is, is_new, put}
 use Rattle.sg_keeper.specs.declared.rows.DoneRow.{DoneRow}
 use Rattle.sg_histories.specs.Standing.{text_at}
 use Rattle.sg_office.specs.Acts.{without}
 use Rattle.sg_office.specs.inside.Runs.{Act, AreApart, Inserted, IsWhole, Stations, acts_of, gathered, row_of, rows_in, rows_of_late, rows_of_runs, text_in, text_of, without_number}
-use Rattle.sg_office.proofs.Numbers.{some_same}
 use Rattle.sg_office.proofs.Gathered.{first_new, inserted_before, inserted_behind, new_behind, new_gathered, or_else, row_in, text_both, text_gathered, without_both}
 
 abbrev pub Runs : Type 0
@@ -122,7 +122,7 @@ inserted_at_end station (run ∷ runs) acts act e = by_test (is_eq (int_cmp stat
     by_test true same rest found =
         inserted_before (row_of station act) (map (row_of run.0) run.1) (map (row_of run.0) (acts ++ act ∷ [])) (rows_of_runs runs)
         (subst (λ (k : ℤ). Inserted (row_of station act) (map (row_of k) run.1) (map (row_of k) (acts ++ act ∷ []))) (sym (same_key station run.0 same))
-        (subst (λ (l : List Act). Inserted (row_of station act) (map (row_of station) l) (map (row_of station) (acts ++ act ∷ []))) (sym (some_same run.1 acts found)) (inserted_last station acts act)))
+        (subst (λ (l : List Act). Inserted (row_of station act) (map (row_of station) l) (map (row_of station) (acts ++ act ∷ []))) (sym (same_Some run.1 acts found)) (inserted_last station acts act)))
     by_test false other rest found =
         inserted_behind (row_of station act) (map (row_of run.0) run.1) (rows_of_runs runs) (rows_of_runs (set_value (is_at (int_cmp station)) runs (acts ++ act ∷ []))) (rest found)
 
@@ -167,7 +167,7 @@ written_same station [] acts e = cc
 written_same station (run ∷ runs) acts e = by_test (is_eq (int_cmp station run.0)) (written_same station runs acts) e
   where
     by_test : (b : Bool) → (acts_of station runs ≡ Some acts → set_value (is_at (int_cmp station)) runs acts ≡ runs) → cond b (Some run.1) (acts_of station runs) ≡ Some acts → cond b ((run.0, acts) ∷ runs) (run ∷ set_value (is_at (int_cmp station)) runs acts) ≡ run ∷ runs
-    by_test true rest found = ap (λ (l : List Act). (run.0, l) ∷ runs) (sym (some_same run.1 acts found))
+    by_test true rest found = ap (λ (l : List Act). (run.0, l) ∷ runs) (sym (same_Some run.1 acts found))
     by_test false rest found = ap (λ l. run ∷ l) (rest found)
 
 -- ONE ACT LESS
@@ -210,7 +210,7 @@ out_of_run done (run ∷ runs) acts rise e =
         → rows_of_runs (cond b ((run.0, without_number done.number acts) ∷ runs) (run ∷ set_value (is_at (int_cmp done.station)) runs (without_number done.number acts)))
         ≡ without done (map (row_of run.0) run.1 ++ rows_of_runs runs)
     by_test true same rest found =
-        ap (λ (l : List Act). map (row_of run.0) (without_number done.number l) ++ rows_of_runs runs) (sym (some_same run.1 acts found))
+        ap (λ (l : List Act). map (row_of run.0) (without_number done.number l) ++ rows_of_runs runs) (sym (same_Some run.1 acts found))
         ∙ sym (without_these done run.0 run.1 (rows_of_runs runs) (same_key done.station run.0 same)
         (without_runs done runs (behind_none done.station run.0 (keys_of runs) same (sorted_head int_cmp run.0 (keys_of runs) rise))))
     by_test false other rest found =

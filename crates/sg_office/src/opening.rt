@@ -1,7 +1,7 @@
 //! An office, opened from its rows.
 ghost use Rattle.std.specs.Prelude.{◌≡◌, IfErr, IfOk};
+ghost use Rattle.sg_histories.specs.Opens.{OpenTo, Whole};
 ghost use Rattle.sg_histories.specs.Standing.{HasRows};
-ghost use Rattle.sg_histories.specs.ValidRows.{Whole, opening};
 ghost use Rattle.sg_open.specs.Opened.{IsFault, StandsForEach};
 
 use crate::office::Office;
@@ -16,7 +16,7 @@ impl Office {
     /// Refused are rows without a setup (`Empty`), and rows that are no office's, with the first bad table and row
     /// (`Damaged`), each exactly. `NoMemory` says nothing of the rows.
     pub fn open(alloc: Global, rows: &Rows) -> Result<Office, OpenFault>
-        ensures setup { IfOk result (λ office. opening rows.now ≡ Whole office.setup) }
+        ensures setup { IfOk result (λ office. OpenTo rows.now (Whole office.setup)) }
         ensures stands { IfOk result (λ office. HasRows office rows.now) }
         ensures each { IfOk result (λ office. StandsForEach office rows.now) }
         ensures fault { IfErr result (λ fault. IsFault fault rows.now) }

@@ -5,6 +5,7 @@ use Rattle.std.specs.List.{list_all}
 use Rattle.std.specs.Option.{option_map}
 use Rattle.std.proofs.lemmas.Bool.Decides.{nat_tests}
 use Rattle.std.proofs.lemmas.List.Elements.{All-head, All-tail}
+use Rattle.std.proofs.Math.Bool.{and-true}
 use Rattle.sg_plan.specs.Ballots.{ballot_has, candidates_of, races_of_ballot}
 use Rattle.sg_plan.specs.Codes.{codes_of, is_code}
 use Rattle.sg_plan.specs.Fates.{fate_fits, has_mark, is_in, marks_differ, paper_fits}
@@ -188,8 +189,4 @@ audit_agrees plan ballot paper all =
     ∙ ap (λ b. is_ballot plan ballot && b) (unless_is (fits_races plan (races_of_ballot plan ballot) paper) reply.Paper ∙ paper_agrees plan (races_of_ballot plan ballot) paper all))
 
 pub spoil_agrees : (plan : Plan) (ballot : ℕ) → fits plan (act.Spoil ballot) ≡ fate_fits plan ballot fate.Spoiled
-spoil_agrees plan ballot = early_is (is_ballot plan ballot) ∙ sym (and_true (is_ballot plan ballot))
-  where
-    and_true : (a : Bool) → (a && true) ≡ a
-    and_true true = refl
-    and_true false = refl
+spoil_agrees plan ballot = early_is (is_ballot plan ballot) ∙ sym (and-true (is_ballot plan ballot))

@@ -1,36 +1,35 @@
 -- What the readers of tables say, as the setup's own, and what rows open to by it.
-use Rattle.std.proofs.Common.{◌≡◌, ℕ, Bool, true, List, [], ◌++◌, length, map, Option, Some, None, ap, sym, ◌∙◌, subst}
+use Rattle.std.proofs.Common.{◌≡◌, ℕ, Bool, true, List, [], ◌++◌, length, map, Option, Some, None, inl, inr, refl, ap, sym, ◌∙◌, subst}
 use Rattle.std.proofs.Common.{Ok, Err}
-use Rattle.std.specs.Prelude.{ℤ, Result, OnOk, IfErr}
+use Rattle.std.specs.Prelude.{ℤ, Result, OnOk}
 use Rattle.std.specs.List.{filter_map, list_all}
 use Rattle.std.specs.Str.{is_utf8}
+use Rattle.std.proofs.lemmas.List.{length-replicate}
 use Rattle.sg_plan.specs.Ballots.{ballots_of}
 use Rattle.sg_plan.specs.Limits.{first_bad}
 use Rattle.sg_plan.specs.declared.plan.Fate.TheVariants as fate
 use Rattle.sg_plan.specs.declared.plan.Plan.{Plan}
 use Rattle.sg_desks.specs.ActReading.{act_in}
-use Rattle.sg_keeper.specs.SetupReading.{setup_in}
+use Rattle.sg_keeper.specs.SetupText.{IsSetupText}
 use Rattle.sg_keeper.specs.declared.rows.Rows.{Rows}
 use Rattle.sg_keeper.specs.declared.setup.Setup.{Setup}
-use Rattle.sg_histories.specs.ValidRows.{Damaged, Empty, Whole, at_table, ballot_keeps, claim_keeps, claim_text, damage_of, done_fault, is_drawn_in, opening, opening_of, opens_as, opens_from, opens_with, stage_keeps, stage_text, station_of, void_text}
+use Rattle.sg_histories.specs.Opens.{IsOfSetup, OpenTo, Whole}
+use Rattle.sg_histories.specs.ValidRows.{at_table, ballot_keeps, claim_keeps, claim_text, damage_of, done_fault, is_drawn_in, stage_keeps, stage_text, station_of, void_text}
 use Rattle.sg_histories.specs.declared.kept.Slot.{Slot}
+use Rattle.sg_histories.proofs.ReadingActs.{act_in_reads_acts}
 use Rattle.sg_open.specs.Opened.{IsFault}
 use Rattle.sg_open.specs.declared.ballots.Found.{Found}
 use Rattle.sg_open.specs.declared.fault.OpenFault.{OpenFault}
 use Rattle.sg_open.specs.declared.fault.OpenFault.TheVariants as fault
 use Rattle.sg_open.specs.inside.Finding.{IsDamage, IsJudged, IsRead, found_after, nothing_found, void_passes, voided_after}
 use Rattle.sg_open.proofs.FirstDamage.{bad_dones, bad_stages, bad_voids, gathered, of_ballots, of_claims, of_dones, of_none, of_stages, of_voids, voided}
-use Rattle.sg_open.proofs.Standing.{found_long, replicate_long, scanners_long}
+use Rattle.sg_open.proofs.Standing.{found_long, scanners_long}
 
 -- ENDINGS
 
 pub both_ok : {T E P Q R : Type 0} (r : Result T E) → (P → Q → R) → OnOk r P → OnOk r Q → OnOk r R
 both_ok (Ok x) f p q = f p q
 both_ok (Err e) f p q = tt
-
-pub err_on : {T E : Type 0} (P Q : E → Type 0) (r : Result T E) → ((e : E) → P e → Q e) → IfErr r P → IfErr r Q
-err_on P Q (Ok x) f p = tt
-err_on P Q (Err e) f p = f e p
 
 -- READING
 
@@ -83,8 +82,8 @@ is_read setup rows stations plan drawn start first second third fourth same draw
 
 pub read_long : (setup : Setup) (rows : Rows) (stations : List ℕ → Option ℤ) (found : Found) → IsRead setup rows stations found → length found.slots ≡ length found.scanners
 read_long setup rows stations found read =
-    (ap length read.slots ∙ (found_long setup.plan stations (nothing_found setup.plan) rows.ballots ∙ replicate_long (ballots_of setup.plan) (record { fate = fate.Unused; station = 0 })))
-    ∙ sym (ap length read.scanners ∙ (scanners_long setup.plan stations (nothing_found setup.plan) rows.ballots ∙ replicate_long (ballots_of setup.plan) None))
+    (ap length read.slots ∙ (found_long setup.plan stations (nothing_found setup.plan) rows.ballots ∙ length-replicate (ballots_of setup.plan) (record { fate = fate.Unused; station = 0 })))
+    ∙ sym (ap length read.scanners ∙ (scanners_long setup.plan stations (nothing_found setup.plan) rows.ballots ∙ length-replicate (ballots_of setup.plan) None))
 
 read_dones : (setup : Setup) (rows : Rows) (stations : List ℕ → Option ℤ) (found : Found) (many : ℕ) → IsRead setup rows stations found → many ≡ length setup.secrets
     → done_fault many found.told rows.dones ≡ bad_dones setup rows
@@ -126,22 +125,25 @@ is_judged setup rows stations found many slots read long firsts dones voids is =
 
 -- OPENING
 
-pub opens_empty : (rows : Rows) → rows.setup ≡ None → opening rows ≡ Empty
-unfolding opening_of
-opens_empty rows given = ap (opens_from setup_in act_in rows) given
+-- rows of no setup
+pub opens_bad : (rows : Rows) (text : List ℕ) → rows.setup ≡ Some text → ((setup : Setup) → IsSetupText text setup → ⊥) → IsFault (fault.Damaged 1 1) rows
+opens_bad rows text given none = inl (record { text = text; kept = given; none = none }, refl, refl)
 
-pub opens_bad : (rows : Rows) (text : List ℕ) → rows.setup ≡ Some text → setup_in text ≡ None → opening rows ≡ Damaged 1 1
-unfolding opening_of
-opens_bad rows text given read = ap (opens_from setup_in act_in rows) given ∙ ap (opens_with act_in rows) read
+-- rows of a setup
+its_rows : (rows : Rows) (text : List ℕ) (setup : Setup) (damage : Option (ℕ × ℕ)) → rows.setup ≡ Some text → IsSetupText text setup → damage_of setup (act_in setup.plan.version) rows ≡ damage → IsOfSetup setup damage rows
+its_rows rows text setup damage given its is = record {
+  text = text;
+  kept = given;
+  setup_is = its;
+  read = act_in setup.plan.version;
+  reads = act_in_reads_acts setup its.0.plan;
+  damage_is = is;
+}
 
-opens_read : (rows : Rows) (text : List ℕ) (setup : Setup) → rows.setup ≡ Some text → setup_in text ≡ Some setup → opening rows ≡ opens_as setup (damage_of setup (act_in setup.plan.version) rows)
-unfolding opening_of
-opens_read rows text setup given read = ap (opens_from setup_in act_in rows) given ∙ ap (opens_with act_in rows) read
+pub opens_whole : (rows : Rows) (text : List ℕ) (setup : Setup) → rows.setup ≡ Some text → IsSetupText text setup → damage_of setup (act_in setup.plan.version) rows ≡ None → OpenTo rows (Whole setup)
+opens_whole rows text setup given its none = its_rows rows text setup None given its none
 
-pub opens_whole : (rows : Rows) (text : List ℕ) (setup : Setup) → rows.setup ≡ Some text → setup_in text ≡ Some setup → damage_of setup (act_in setup.plan.version) rows ≡ None → opening rows ≡ Whole setup
-opens_whole rows text setup given read none = opens_read rows text setup given read ∙ ap (opens_as setup) none
-
-pub opens_damaged : (rows : Rows) (text : List ℕ) (setup : Setup) (told : OpenFault) → rows.setup ≡ Some text → setup_in text ≡ Some setup → Damages told setup rows → IsFault told rows
-opens_damaged rows text setup fault.Empty given read is = absurd is
-opens_damaged rows text setup (fault.Damaged table row) given read is = opens_read rows text setup given read ∙ ap (opens_as setup) is
-opens_damaged rows text setup fault.NoMemory given read is = tt
+pub opens_damaged : (rows : Rows) (text : List ℕ) (setup : Setup) (told : OpenFault) → rows.setup ≡ Some text → IsSetupText text setup → Damages told setup rows → IsFault told rows
+opens_damaged rows text setup fault.Empty given its is = absurd is
+opens_damaged rows text setup (fault.Damaged table row) given its is = inr (setup, its_rows rows text setup (Some (table, row)) given its is)
+opens_damaged rows text setup fault.NoMemory given its is = tt

@@ -8,7 +8,8 @@ use Rattle.std.proofs.lemmas.Grind.{common_steps}
 use Rattle.std.proofs.lemmas.Bool.Decides.{nat_tests}
 use Rattle.std.proofs.lemmas.List.{length-append}
 use Rattle.std.proofs.lemmas.Slice.Eq.{bytes_eq-Decides}
-use Rattle.sg_plan.proofs.Counting.{count_by-append}
+use Rattle.std.proofs.lemmas.Option.{same_Some}
+use Rattle.sg_lists.proofs.Counting.{count_by-append}
 use Rattle.sg_plan.specs.Limits.{first_bad}
 use Rattle.sg_keeper.specs.Rows.{done_before}
 use Rattle.sg_keeper.specs.declared.rows.DoneRow.{DoneRow}
@@ -118,33 +119,27 @@ bad_within : {A : Type 0} (keeps : List A → A → Bool) (earlier rows : List A
 bad_within keeps earlier [] at e = cc
 bad_within {A} keeps earlier (row ∷ rows) at e = by_test (keeps earlier row) e (bad_within keeps (earlier ++ row ∷ []) rows at)
   where
-    same : (a b : ℕ) → Some a ≡ Some b → a ≡ b
-    same a b k = cc
-
     longer : length (earlier ++ row ∷ []) ≡ length earlier + 1
     longer = length-append earlier (row ∷ [])
 
     by_test : (good : Bool) → cond good (first_bad keeps (earlier ++ row ∷ []) rows) (Some (length earlier)) ≡ Some at
         → (first_bad keeps (earlier ++ row ∷ []) rows ≡ Some at → at < length (earlier ++ row ∷ []) + length rows) → at < length earlier + length (row ∷ rows)
     by_test true k later = let h = later k in omega (arith, h, longer)
-    by_test false k later = let h = same (length earlier) at k in omega (arith, h)
+    by_test false k later = let h = same_Some (length earlier) at k in omega (arith, h)
 
 -- a fault is at a row, or one past the last
 pub fault_within : (stations : ℕ) (told : List (List ℕ)) (rows : List DoneRow) (at : ℕ) → done_fault stations told rows ≡ Some at → at ≤ length rows
 fault_within stations told rows at e = by_bad (first_bad (done_keeps stations told) [] rows) refl e
   where
-    same : (a b : ℕ) → Some a ≡ Some b → a ≡ b
-    same a b k = cc
-
     by_all : (all : Bool) → or_missing all (length rows) None ≡ Some at → at ≤ length rows
     by_all true k = cc
-    by_all false k = let h = same (length rows) at k in omega (arith, h)
+    by_all false k = let h = same_Some (length rows) at k in omega (arith, h)
 
     by_bad : (bad : Option ℕ) → first_bad (done_keeps stations told) [] rows ≡ bad → or_missing (all_done told rows) (length rows) bad ≡ Some at → at ≤ length rows
     by_bad None f k = by_all (all_done told rows) k
     by_bad (Some n) f k =
         let h = bad_within (done_keeps stations told) [] rows n f in
-        let s = same n at k in
+        let s = same_Some n at k in
         omega (arith, h, s)
 
 pub ruleset passing = (passes_start, may_not, passes_on, found_bad)

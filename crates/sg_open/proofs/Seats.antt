@@ -1,10 +1,13 @@
 -- What the rows of ballots and of voids tell of one ballot.
-use Rattle.std.proofs.Common.{◌≡◌, ℕ, zero, suc, ◌-◌, ◌≤◌, ◌==◌, Bool, true, false, ◌||◌, not, cond, List, [], ◌∷◌, length, slice_get, slice_set, Option, Some, None, refl, ap, sym, ◌∙◌, arith, subst}
+use Rattle.std.proofs.Common.{◌≡◌, ℕ, ◌-◌, ◌≤◌, ◌==◌, Bool, true, false, cond, List, [], ◌∷◌, slice_get, slice_set, Option, Some, None, refl, ap, sym, ◌∙◌, arith, subst}
 use Rattle.std.specs.Prelude.{ℤ, pos}
 use Rattle.std.specs.List.{list_any}
 use Rattle.std.specs.Ordering.{int_eq}
-use Rattle.std.proofs.lemmas.Int.{ints}
 use Rattle.std.proofs.lemmas.Bool.Decides.{nat_tests}
+use Rattle.std.proofs.lemmas.Option.{slice_get_within}
+use Rattle.sg_lists.proofs.Bools.{not_or_parts}
+use Rattle.sg_lists.proofs.Integers.{int_eq-pos}
+use Rattle.sg_lists.proofs.Lists.{slice_get-set_other, slice_get-set_same}
 use Rattle.sg_plan.specs.declared.plan.Fate.{Fate}
 use Rattle.sg_plan.specs.declared.plan.Fate.TheVariants as fate
 use Rattle.sg_plan.specs.declared.plan.Plan.{Plan}
@@ -40,25 +43,8 @@ one_after plan stations ballot seat (row ∷ rows) = one_after plan stations bal
 
 -- PLACES OF LISTS
 
-pub get_set_same : {A : Type 0} (xs : List A) (i : ℕ) (x y : A) → slice_get xs i ≡ Some y → slice_get (slice_set xs i x) i ≡ Some x
-get_set_same [] i x y e = cc
-get_set_same (z ∷ xs) zero x y e = refl
-get_set_same (z ∷ xs) (suc i) x y e = get_set_same xs i x y e
-
-pub get_set_other : {A : Type 0} (xs : List A) (i j : ℕ) (x : A) → (i ≡ j → ⊥) → slice_get (slice_set xs i x) j ≡ slice_get xs j
-get_set_other [] i j x apart = refl
-get_set_other (z ∷ xs) zero zero x apart = absurd (apart refl)
-get_set_other (z ∷ xs) zero (suc j) x apart = refl
-get_set_other (z ∷ xs) (suc i) zero x apart = refl
-get_set_other (z ∷ xs) (suc i) (suc j) x apart = get_set_other xs i j x (λ e. apart (ap (λ n. suc n) e))
-
 pub get_set_at : {A : Type 0} (xs : List A) (i j : ℕ) (x y : A) → i ≡ j → slice_get xs j ≡ Some y → slice_get (slice_set xs i x) j ≡ Some x
-get_set_at {A} xs i j x y is e = subst (λ (n : ℕ). slice_get (slice_set xs i x) n ≡ Some x) is (get_set_same xs i x y (ap (slice_get xs) is ∙ e))
-
-pub set_long : {A : Type 0} (xs : List A) (i : ℕ) (x : A) → length (slice_set xs i x) ≡ length xs
-set_long [] i x = refl
-set_long (y ∷ xs) zero x = refl
-set_long (y ∷ xs) (suc i) x = ap (λ n. suc n) (set_long xs i x)
+get_set_at {A} xs i j x y is e = subst (λ (n : ℕ). slice_get (slice_set xs i x) n ≡ Some x) is (slice_get-set_same xs i x (slice_get_within xs i y (ap (slice_get xs) is ∙ e)))
 
 -- LISTS OF SEATS
 
@@ -87,8 +73,8 @@ sits_on plan stations found ballot seat row first sits = by_told (ballot_told pl
     by_same told false some e =
         let apart : told.ballot - 1 ≡ ballot - 1 → ⊥ = λ k. (let different : (told.ballot ≡ ballot → ⊥) = differ told.ballot ballot e in different (omega (arith, k, some, first))) in
         record {
-          slot = get_set_other found.slots (told.ballot - 1) (ballot - 1) (seat_slot (told_seat stations told)) apart ∙ sits.slot;
-          scanner = get_set_other found.scanners (told.ballot - 1) (ballot - 1) (scanner_by stations told.text told.fate) apart ∙ sits.scanner;
+          slot = slice_get-set_other found.slots (told.ballot - 1) (ballot - 1) (seat_slot (told_seat stations told)) (λ same. apart (sym same)) ∙ sits.slot;
+          scanner = slice_get-set_other found.scanners (told.ballot - 1) (ballot - 1) (scanner_by stations told.text told.fate) (λ same. apart (sym same)) ∙ sits.scanner;
         }
       where
         differ : (a b : ℕ) → (a == b) ≡ false → a ≡ b → ⊥
@@ -106,9 +92,6 @@ sits_after plan stations found ballot seat (row ∷ rows) first sits =
 
 -- ROWS THAT ARE PUT AMONG OTHERS
 
-same_ints : (a b : ℕ) → int_eq (pos a) (pos b) ≡ (a == b)
-same_ints a b = grind (arith, ints, nat_tests)
-
 -- a row of another ballot tells nothing of this one
 pub passed_over : (plan : Plan) (stations : List ℕ → Option ℤ) (ballot : ℕ) (seat : Seat) (row : BallotRow) → int_eq row.ballot (pos ballot) ≡ false → one_row stations ballot seat (ballot_told plan row) ≡ seat
 passed_over plan stations ballot seat row other = by_told (ballot_told plan row) refl
@@ -116,19 +99,15 @@ passed_over plan stations ballot seat row other = by_told (ballot_told plan row)
     by_told : (told : Option BallotTold) → ballot_told plan row ≡ told → one_row stations ballot seat told ≡ seat
     by_told None e = refl
     by_told (Some told) e =
-        let apart : (told.ballot == ballot) ≡ false = sym (same_ints told.ballot ballot) ∙ (ap (λ (z : ℤ). int_eq z (pos ballot)) (sym (told_is plan row told e).number) ∙ other) in
+        let apart : (told.ballot == ballot) ≡ false = sym (int_eq-pos told.ballot ballot) ∙ (ap (λ (z : ℤ). int_eq z (pos ballot)) (sym (told_is plan row told e).number) ∙ other) in
         ap (λ b. cond b (told_seat stations told) seat) apart
-
-none_of : (a b : Bool) → not (a || b) ≡ true → (a ≡ false) × (not b ≡ true)
-none_of true b e = cc
-none_of false b e = (refl, e)
 
 -- rows that have none of the ballot
 pub one_none : (plan : Plan) (stations : List ℕ → Option ℤ) (ballot : ℕ) (seat : Seat) (row : BallotRow) (rows : List BallotRow) → row.ballot ≡ pos ballot → is_new ballot_is row rows ≡ true
     → one_after plan stations ballot seat rows ≡ seat
 one_none plan stations ballot seat row [] is new = refl
 one_none plan stations ballot seat row (x ∷ rows) is new =
-    let parts = none_of (ballot_is x row) (list_any (λ kept. ballot_is kept row) rows) new in
+    let parts = not_or_parts (ballot_is x row) (list_any (λ kept. ballot_is kept row) rows) new in
     let other : int_eq x.ballot (pos ballot) ≡ false = ap (λ (z : ℤ). int_eq x.ballot z) (sym is) ∙ parts.0 in
     ap (λ (s : Seat). one_after plan stations ballot s rows) (passed_over plan stations ballot seat x other) ∙ one_none plan stations ballot seat row rows is parts.1
 
@@ -154,7 +133,7 @@ one_here plan stations ballot seat row rows told is new e same = among rows seat
 
     among : (rows : List BallotRow) (seat : Seat) → is_new ballot_is row rows ≡ true → one_after plan stations ballot seat (put ballot_before row rows) ≡ told_seat stations told
     among [] seat new = here seat
-    among (x ∷ rows) seat new = by_order (ballot_before row x) (among rows (one_row stations ballot seat (ballot_told plan x)) (none_of (ballot_is x row) (list_any (λ kept. ballot_is kept row) rows) new).1)
+    among (x ∷ rows) seat new = by_order (ballot_before row x) (among rows (one_row stations ballot seat (ballot_told plan x)) (not_or_parts (ballot_is x row) (list_any (λ kept. ballot_is kept row) rows) new).1)
       where
         by_order : (b : Bool) → one_after plan stations ballot (one_row stations ballot seat (ballot_told plan x)) (put ballot_before row rows) ≡ told_seat stations told
             → one_after plan stations ballot seat (cond b (row ∷ x ∷ rows) (x ∷ put ballot_before row rows)) ≡ told_seat stations told

@@ -4,6 +4,7 @@ use Rattle.std.specs.Prelude.{ℤ, pos}
 use Rattle.std.specs.List.{join_with_byte, list_any}
 use Rattle.std.specs.Option.{option_and_then, option_map}
 use Rattle.std.specs.Ordering.{int_eq}
+use Rattle.sg_lists.proofs.Integers.{int_eq-pos}
 use Rattle.sg_plan.specs.Fates.{fate_fits}
 use Rattle.sg_plan.specs.declared.plan.Fate.{Fate}
 use Rattle.sg_plan.specs.declared.plan.Fate.TheVariants as fate
@@ -28,7 +29,6 @@ use Rattle.sg_histories.specs.inside.RowReading.{HasRaces}
 use Rattle.sg_histories.proofs.Accepted.{early, first_none, passed, unused_is, voids}
 use Rattle.sg_histories.proofs.Fitting.{audit_row, fits_new, scan_row, spoil_row}
 use Rattle.sg_histories.proofs.NewKeys.{any_put, new_ballot}
-use Rattle.sg_histories.proofs.OutDones.{same_ints}
 use Rattle.sg_histories.proofs.OutRows.{paper_long}
 use Rattle.sg_histories.proofs.OutVoids.{Tell, fate_else, rows_else, same_numbers, scan_of, scanner_else, self, tells_out, touches}
 use Rattle.sg_open.specs.inside.Telling.{act_fate, ballot_told, text_told}
@@ -90,9 +90,9 @@ seats_move setup stations ballots more voided others ballot scanner fate.Voided 
 
 ballots_else : (setup : Setup) (stations : List ℕ → Option ℤ) (kept ballot : ℕ) (rows : Rows) (done : Act) → touches ballot done ≡ false
     → one_after setup.plan stations ballot no_seat (with_row rows (row_of_act setup.plan.version kept done)).ballots ≡ one_after setup.plan stations ballot no_seat rows.ballots
-ballots_else setup stations kept ballot rows (act.Scan b marks) e = one_else setup.plan stations ballot no_seat (record { ballot = pos b; fate = pos 1; detail = join_with_byte 32 (map mark_word marks) }) rows.ballots (same_ints b ballot ∙ e)
-ballots_else setup stations kept ballot rows (act.Spoil b) e = one_else setup.plan stations ballot no_seat (record { ballot = pos b; fate = pos 2; detail = [] }) rows.ballots (same_ints b ballot ∙ e)
-ballots_else setup stations kept ballot rows (act.Audit b paper) e = one_else setup.plan stations ballot no_seat (record { ballot = pos b; fate = pos 3; detail = join_with_byte 32 (map (codes_word setup.plan.version) paper) }) rows.ballots (same_ints b ballot ∙ e)
+ballots_else setup stations kept ballot rows (act.Scan b marks) e = one_else setup.plan stations ballot no_seat (record { ballot = pos b; fate = pos 1; detail = join_with_byte 32 (map mark_word marks) }) rows.ballots (int_eq-pos b ballot ∙ e)
+ballots_else setup stations kept ballot rows (act.Spoil b) e = one_else setup.plan stations ballot no_seat (record { ballot = pos b; fate = pos 2; detail = [] }) rows.ballots (int_eq-pos b ballot ∙ e)
+ballots_else setup stations kept ballot rows (act.Audit b paper) e = one_else setup.plan stations ballot no_seat (record { ballot = pos b; fate = pos 3; detail = join_with_byte 32 (map (codes_word setup.plan.version) paper) }) rows.ballots (int_eq-pos b ballot ∙ e)
 ballots_else setup stations kept ballot rows (act.Void b) e = refl
 ballots_else setup stations kept ballot rows act.Close e = refl
 ballots_else setup stations kept ballot rows (act.Draw drawn) e = refl
@@ -105,7 +105,7 @@ voids_else version kept ballot rows (act.Spoil b) e = refl
 voids_else version kept ballot rows (act.Audit b paper) e = refl
 voids_else version kept ballot rows (act.Void b) e =
     any_put void_before (λ (kept : VoidRow). int_eq kept.ballot (pos ballot)) (record { ballot = pos b }) rows.voids
-    ∙ ap (λ t. t || list_any (λ (kept : VoidRow). int_eq kept.ballot (pos ballot)) rows.voids) (same_ints b ballot ∙ e)
+    ∙ ap (λ t. t || list_any (λ (kept : VoidRow). int_eq kept.ballot (pos ballot)) rows.voids) (int_eq-pos b ballot ∙ e)
 voids_else version kept ballot rows act.Close e = refl
 voids_else version kept ballot rows (act.Draw drawn) e = refl
 voids_else version kept ballot rows (act.Claim b race code) e = refl
@@ -202,7 +202,7 @@ void_here setup stations text history ballot fate.Spoiled cast old tell = cc
 void_here setup stations text history ballot (fate.Audited paper) cast old tell = cc
 void_here setup stations text history ballot fate.Voided cast old tell = cc
 void_here setup stations text history ballot (fate.Cast marks) cast old tell =
-    let here : int_eq (pos ballot) (pos ballot) ≡ true = same_ints ballot ballot ∙ self ballot in
+    let here : int_eq (pos ballot) (pos ballot) ≡ true = int_eq-pos ballot ballot ∙ self ballot in
     let voided : list_any (λ (kept : VoidRow). int_eq kept.ballot (pos ballot)) (put void_before (record { ballot = pos ballot }) (rows_of setup text history).voids) ≡ true
     = any_put void_before (λ (kept : VoidRow). int_eq kept.ballot (pos ballot)) (record { ballot = pos ballot }) (rows_of setup text history).voids
     ∙ ap (λ t. t || list_any (λ (kept : VoidRow). int_eq kept.ballot (pos ballot)) (rows_of setup text history).voids) here in

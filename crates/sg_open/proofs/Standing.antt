@@ -1,5 +1,5 @@
 -- What is kept of valid rows stands for the history that they are of.
-use Rattle.std.proofs.Common.{◌≡◌, ℕ, zero, suc, ◌+◌, ◌-◌, ◌<◌, ◌≤◌, ◌^◌, nat_lt, Bool, true, false, cond, List, [], ◌∷◌, length, replicate, slice_get, bytes_eq, Option, Some, None, refl, ap, sym, ◌∙◌, arith, subst}
+use Rattle.std.proofs.Common.{◌≡◌, ℕ, ◌+◌, ◌-◌, ◌<◌, ◌≤◌, ◌^◌, nat_lt, Bool, true, false, cond, List, [], ◌∷◌, length, slice_get, bytes_eq, Option, Some, None, refl, ap, sym, ◌∙◌, arith, subst}
 use Rattle.std.specs.Prelude.{ℤ, pos}
 use Rattle.std.specs.List.{filter_map, list_all, list_any}
 use Rattle.std.specs.Option.{option_and_then, option_map, option_map_or, unwrap_or}
@@ -7,6 +7,9 @@ use Rattle.std.specs.Ordering.{int_eq}
 use Rattle.std.specs.Str.{is_utf8}
 use Rattle.std.proofs.lemmas.Bool.{and_parts}
 use Rattle.std.proofs.lemmas.Bool.Decides.{nat_tests}
+use Rattle.std.proofs.lemmas.List.{length-replicate, length-set}
+use Rattle.std.proofs.lemmas.Option.{same_Some}
+use Rattle.sg_lists.proofs.Lists.{slice_get-replicate}
 use Rattle.sg_plan.specs.Ballots.{ballots_of}
 use Rattle.sg_plan.specs.declared.plan.Draw.{Draw}
 use Rattle.sg_plan.specs.declared.plan.Fate.{Fate}
@@ -51,7 +54,7 @@ use Rattle.sg_open.specs.declared.ballots.BallotTold.{BallotTold}
 use Rattle.sg_open.specs.declared.ballots.Found.{Found}
 use Rattle.sg_open.specs.inside.Finding.{KeepsRows, found_after, found_row, nothing_found, scanner_by, stage_told, station_at, station_word, void_place, void_slot, voided_after}
 use Rattle.sg_open.specs.inside.Telling.{act_draw, ballot_told, draw_line, row_claim, text_drawn}
-use Rattle.sg_open.proofs.Seats.{set_long, Seat, Sits, no_seat, one_after, seat_slot, sits_after}
+use Rattle.sg_open.proofs.Seats.{Seat, Sits, no_seat, one_after, seat_slot, sits_after}
 use Rattle.sg_open.proofs.SeatsOut.{Seats, seats_out}
 use Rattle.sg_open.proofs.TellingRows.{act_utf8}
 use Rattle.sg_open.proofs.VoidSlots.{all_void, voided_at, voided_slot}
@@ -64,7 +67,7 @@ found_long plan stations found (row ∷ rows) = found_long plan stations (found_
   where
     by_told : (told : Option BallotTold) → length (found_row stations found told).slots ≡ length found.slots
     by_told None = refl
-    by_told (Some told) = set_long found.slots (told.ballot - 1) (record { fate = told.fate; station = station_word (scanner_by stations told.text told.fate) })
+    by_told (Some told) = length-set found.slots (told.ballot - 1) (record { fate = told.fate; station = station_word (scanner_by stations told.text told.fate) })
 
 pub scanners_long : (plan : Plan) (stations : List ℕ → Option ℤ) (found : Found) (rows : List BallotRow) → length (found_after plan stations found rows).scanners ≡ length found.scanners
 scanners_long plan stations found [] = refl
@@ -72,7 +75,7 @@ scanners_long plan stations found (row ∷ rows) = scanners_long plan stations (
   where
     by_told : (told : Option BallotTold) → length (found_row stations found told).scanners ≡ length found.scanners
     by_told None = refl
-    by_told (Some told) = set_long found.scanners (told.ballot - 1) (scanner_by stations told.text told.fate)
+    by_told (Some told) = length-set found.scanners (told.ballot - 1) (scanner_by stations told.text told.fate)
 
 voided_long : (version : ℕ) (stations : List ℕ → Option ℤ) (scanners : List (Option ℤ)) (slots : List Slot) (rows : List VoidRow) → length (voided_after version stations scanners slots rows) ≡ length slots
 voided_long version stations scanners slots [] = refl
@@ -80,16 +83,7 @@ voided_long version stations scanners slots (row ∷ rows) = voided_long version
   where
     by_place : (place : Option ℕ) → length (void_slot slots place) ≡ length slots
     by_place None = refl
-    by_place (Some place) = set_long slots place (record { fate = fate.Voided; station = station_at slots place })
-
-pub get_replicate : {A : Type 0} (n k : ℕ) (x : A) → k < n → slice_get (replicate n x) k ≡ Some x
-get_replicate zero k x low = absurd (omega (arith, low))
-get_replicate (suc n) zero x low = refl
-get_replicate (suc n) (suc k) x low = get_replicate n k x (omega (arith, low))
-
-pub replicate_long : {A : Type 0} (n : ℕ) (x : A) → length (replicate n x) ≡ n
-replicate_long zero x = refl
-replicate_long (suc n) x = ap (λ k. suc k) (replicate_long n x)
+    by_place (Some place) = length-set slots place (record { fate = fate.Voided; station = station_at slots place })
 
 -- STATIONS
 
@@ -154,12 +148,9 @@ slot_last setup text history stations ballot scanner fate.Voided reads lawful fe
     last_same _ _ _ _ seats.sat.seat_is seats.sat.void_is
     ∙ ap (λ (n : ℕ). record { fate = fate.Voided; station = n }) by_scan
   where
-    same : (a b : List ℕ) → Some a ≡ Some b → a ≡ b
-    same a b e = cc
-
     by_scan : station_word (stations (scan_of setup ballot seats.marks)) ≡ scanner
     by_scan =
-        ap (λ (t : List ℕ). station_word (stations t)) (same (scan_of setup ballot seats.marks) (scan_of setup ballot tell.marks) (sym seats.text ∙ tell.scanned.told))
+        ap (λ (t : List ℕ). station_word (stations t)) (same_Some (scan_of setup ballot seats.marks) (scan_of setup ballot tell.marks) (sym seats.text ∙ tell.scanned.told))
         ∙ scan_station setup text history stations ballot scanner tell.marks reads lawful few first tell.scanned.act_is tell.scanned.fit tell.scanned.doer
 
 -- STAGE AND CLAIMS
@@ -209,8 +200,8 @@ slots_stand kept text history reads races few lawful keeps = λ place low.
     let first : 1 ≤ ballot = omega arith in
     let at : ballot - 1 ≡ place = omega arith in
     let start : Sits (nothing_found plan) ballot no_seat = record {
-      slot = get_replicate (ballots_of plan) (ballot - 1) (seat_slot no_seat) (omega (arith, at, low));
-      scanner = get_replicate (ballots_of plan) (ballot - 1) None (omega (arith, at, low));
+      slot = slice_get-replicate (ballots_of plan) (ballot - 1) (seat_slot no_seat) (omega (arith, at, low));
+      scanner = slice_get-replicate (ballots_of plan) (ballot - 1) None (omega (arith, at, low));
     } in
     let sits = sits_after plan keeps.stations (nothing_found plan) ballot no_seat rows.ballots first start in
     let last = voided_at plan.version keeps.stations (found_after plan keeps.stations (nothing_found plan) rows.ballots).scanners (found_after plan keeps.stations (nothing_found plan) rows.ballots).slots rows.voids ballot
@@ -236,7 +227,7 @@ slots_long kept rows keeps =
     ap length keeps.slots
     ∙ (voided_long kept.setup.plan.version keeps.stations _ _ rows.voids
     ∙ (found_long kept.setup.plan keeps.stations (nothing_found kept.setup.plan) rows.ballots
-    ∙ replicate_long (ballots_of kept.setup.plan) (record { fate = fate.Unused; station = 0 })))
+    ∙ length-replicate (ballots_of kept.setup.plan) (record { fate = fate.Unused; station = 0 })))
 
 pub rows_open : (kept : Kept) (rows : Rows) (text : List ℕ) → IsSetup kept.setup → rows.setup ≡ Some text → damage_of kept.setup (act_in kept.setup.plan.version) rows ≡ None → KeepsRows kept rows
     → HasRows kept rows × IsOffice kept

@@ -1,20 +1,22 @@
 -- What the tables tell together, and the tests of done rows and voids over what was found.
 use Rattle.std.proofs.Common.{◌≡◌, ℕ, ◌==◌, nat_lt, nat_le, Bool, true, false, ◌&&◌, not, cond, List, [], ◌∷◌, ◌++◌, length, get_or, map, bytes_eq, Option, Some, None, refl, ap, sym, ◌∙◌, arith, subst}
-use Rattle.std.specs.Prelude.{ℤ, pos, codes, int_lt, is_some}
+use Rattle.std.specs.Prelude.{ℤ, pos, codes, int_lt}
 use Rattle.std.specs.List.{filter_map, join_with_byte, list_all}
 use Rattle.std.specs.Option.{option_and_then, option_map, option_map_or}
 use Rattle.std.specs.Ordering.{int_eq}
 use Rattle.std.specs.Str.{is_utf8}
 use Rattle.std.proofs.lemmas.Int.{ints}
-use Rattle.std.proofs.lemmas.Bool.{and_parts}
+use Rattle.std.proofs.lemmas.Bool.{and_parts, not-true}
 use Rattle.std.proofs.lemmas.Bool.Decides.{nat_tests}
 use Rattle.std.proofs.lemmas.List.{append_assoc}
 use Rattle.std.proofs.lemmas.List.Folds.{list_all-append}
+use Rattle.std.proofs.lemmas.Option.{same_Some}
+use Rattle.sg_lists.proofs.Counting.{count_by-append}
+use Rattle.sg_lists.proofs.Options.{is_some-true}
 use Rattle.sg_plan.specs.Limits.{first_bad}
 use Rattle.sg_plan.specs.declared.plan.Fate.{Fate}
 use Rattle.sg_plan.specs.declared.plan.Fate.TheVariants as fate
 use Rattle.sg_plan.specs.declared.plan.Plan.{Plan}
-use Rattle.sg_plan.proofs.Counting.{count_by-append}
 use Rattle.sg_lines.specs.Words.{decimal}
 use Rattle.sg_desks.specs.ActReading.{act_in}
 use Rattle.sg_desks.specs.ActTexts.{act_text}
@@ -27,7 +29,7 @@ use Rattle.sg_keeper.specs.declared.rows.DoneRow.{DoneRow}
 use Rattle.sg_keeper.specs.declared.rows.Rows.{Rows}
 use Rattle.sg_histories.specs.Answers.{is_ballot}
 use Rattle.sg_histories.specs.ValidRows.{all_done, ballot_keeps, ballot_text, ballot_words, claim_text, climbs, count_done, count_told, doer, done_fault, done_keeps, is_stamp, natural, or_missing, row_fits, scan_text, stage_text, station_of, tells_fit, told_by, void_text}
-use Rattle.sg_histories.proofs.Back.{all_from, each_from, rises_from}
+use Rattle.sg_histories.proofs.Back.{all_from, each_from, rises_from, same_bad}
 use Rattle.sg_histories.proofs.Pairing.{BeforeAll, Rises}
 use Rattle.sg_histories.proofs.Rising.{ballot_order}
 use Rattle.sg_open.specs.declared.ballots.BallotTold.{BallotTold}
@@ -37,14 +39,6 @@ use Rattle.sg_open.specs.inside.Telling.{act_fate, ballot_told}
 use Rattle.sg_open.proofs.Agreeing.{all_same}
 use Rattle.sg_open.proofs.Seats.{Seat, no_seat, one_after, one_row, passed_over, told_seat}
 use Rattle.sg_open.proofs.TellingRows.{audit_first, first_byte, row_tells, scan_first, told_is, told_utf8}
-
--- TESTS
-
-pub same_bad : {A : Type 0} (keeps other : List A → A → Bool) (earlier rows : List A) → ((front : List A) (x : A) → keeps front x ≡ other front x) → first_bad keeps earlier rows ≡ first_bad other earlier rows
-same_bad keeps other earlier [] same = refl
-same_bad keeps other earlier (x ∷ rows) same =
-    ap (λ b. cond b (first_bad keeps (earlier ++ x ∷ []) rows) (Some (length earlier))) (same earlier x)
-    ∙ ap (λ o. cond (other earlier x) o (Some (length earlier))) (same_bad keeps other (earlier ++ x ∷ []) rows same)
 
 -- ORDER OF TEXTS
 
@@ -103,10 +97,6 @@ told_in_order version rows = turned (filter_map ballot_text rows.ballots) (map s
 
 -- BALLOTS
 
-some_is : {A : Type 0} (o : Option A) → is_some o ≡ true → (x : A) × (o ≡ Some x)
-some_is None e = cc
-some_is (Some x) e = (x, refl)
-
 -- each row fits
 pub all_fit : (plan : Plan) (rows : List BallotRow) → first_bad (ballot_keeps plan (act_in plan.version)) [] rows ≡ None → list_all (row_fits plan (act_in plan.version)) rows ≡ true
 all_fit plan rows good =
@@ -125,7 +115,7 @@ found_told plan stations found [] all = sym (append_nil found.told)
     append_nil (x ∷ l) = ap (λ k. x ∷ k) (append_nil l)
 found_told plan stations found (row ∷ rows) all =
     let parts = and_parts (row_fits plan (act_in plan.version) row) (list_all (row_fits plan (act_in plan.version)) rows) all in
-    let some = some_is (ballot_told plan row) (row_tells plan row ∙ parts.0) in
+    let some = is_some-true (ballot_told plan row) (row_tells plan row ∙ parts.0) in
     let told : BallotTold = some.0 in
     let text : filter_map ballot_text (row ∷ rows) ≡ told.text ∷ filter_map ballot_text rows = filter_some ballot_text row rows told.text (told_is plan row told some.1).text in
     found_told plan stations (found_row stations found (ballot_told plan row)) rows parts.1
@@ -169,12 +159,9 @@ words_say kind ballot detail words = by_tests (int_eq kind (pos 1)) (int_eq kind
 row_says : (plan : Plan) (row : BallotRow) (text : List ℕ) → ballot_text row ≡ Some text → SaysScan (int_eq row.fate (pos 1)) text
 row_says plan row text = by_number (natural row.ballot)
   where
-    same : (a b : List ℕ) → Some a ≡ Some b → a ≡ b
-    same a b e = cc
-
     by_words : (ballot : ℕ) (words : Option (List (List ℕ))) → ballot_words row.fate ballot row.detail ≡ words → option_map (join_with_byte 32) words ≡ Some text → SaysScan (int_eq row.fate (pos 1)) text
     by_words ballot None w e = cc
-    by_words ballot (Some words) w e = subst (λ (t : List ℕ). SaysScan (int_eq row.fate (pos 1)) t) (same (join_with_byte 32 words) text e) (words_say row.fate ballot row.detail words w)
+    by_words ballot (Some words) w e = subst (λ (t : List ℕ). SaysScan (int_eq row.fate (pos 1)) t) (same_Some (join_with_byte 32 words) text e) (words_say row.fate ballot row.detail words w)
 
     by_number : (number : Option ℕ) → option_and_then (λ b. option_map (join_with_byte 32) (ballot_words row.fate b row.detail)) number ≡ Some text → SaysScan (int_eq row.fate (pos 1)) text
     by_number None e = cc
@@ -245,12 +232,8 @@ one_no : (plan : Plan) (stations : List ℕ → Option ℤ) (ballot : ℕ) (seat
 one_no plan stations ballot seat [] all = refl
 one_no plan stations ballot seat (row ∷ rows) all =
     let parts = and_parts (not (int_eq row.ballot (pos ballot))) (none_has (pos ballot) rows) all in
-    let other : int_eq row.ballot (pos ballot) ≡ false = not_true (int_eq row.ballot (pos ballot)) parts.0 in
+    let other : int_eq row.ballot (pos ballot) ≡ false = not-true (int_eq row.ballot (pos ballot)) parts.0 in
     ap (λ (s : Seat). one_after plan stations ballot s rows) (passed_over plan stations ballot seat row other) ∙ one_no plan stations ballot seat rows parts.1
-  where
-    not_true : (b : Bool) → not b ≡ true → b ≡ false
-    not_true true e = cc
-    not_true false e = refl
 
 -- the scanner that is found is the one that did the scan's text
 pub scanner_is : (plan : Plan) (stations : List ℕ → Option ℤ) (dones : List DoneRow) (ballot : ℕ) (rows : List BallotRow)
@@ -260,7 +243,7 @@ pub scanner_is : (plan : Plan) (stations : List ℕ → Option ℤ) (dones : Lis
 scanner_is plan stations dones ballot [] first all once = refl
 scanner_is plan stations dones ballot (row ∷ rows) first all once =
     let parts = and_parts (row_fits plan (act_in plan.version) row) (list_all (row_fits plan (act_in plan.version)) rows) all in
-    let some = some_is (ballot_told plan row) (row_tells plan row ∙ parts.0) in
+    let some = is_some-true (ballot_told plan row) (row_tells plan row ∙ parts.0) in
     by_same (int_eq row.ballot (pos ballot)) refl some.0 some.1 (scanner_is plan stations dones ballot rows first parts.1 once.1)
   where
     same_int : (a : ℤ) (n : ℕ) → int_eq a (pos n) ≡ true → a ≡ pos n

@@ -10,6 +10,7 @@ use Rattle.std.proofs.lemmas.Str.{IsUtf8-from_ascii, is_utf8-from_IsUtf8}
 use Rattle.std.proofs.lemmas.Bool.Decides.{nat_tests}
 use Rattle.std.proofs.lemmas.List.Elements.{All-get_or}
 use Rattle.std.proofs.Math.ListN.{get_or-eq_default}
+use Rattle.sg_lists.proofs.Options.{is_some-cond}
 use Rattle.sg_plan.specs.Ballots.{ballots_of}
 use Rattle.sg_plan.specs.declared.plan.Draw.{Draw}
 use Rattle.sg_plan.specs.declared.plan.Fate.{Fate}
@@ -30,10 +31,6 @@ use Rattle.sg_open.specs.inside.Telling.{act_draw, act_fate, ballot_number, ball
 use Rattle.sg_open.proofs.Agreeing.{audit_agrees, scan_agrees, spoil_agrees}
 use Rattle.sg_desks.proofs.ActsAscii.{texts_are_ascii}
 use Rattle.sg_desks.proofs.ActsFound.{acts_are_spelled}
-
-pub some_if : {A : Type 0} (test : Bool) (x : A) → is_some (cond test (Some x) None) ≡ test
-some_if true x = refl
-some_if false x = refl
 
 map_some : {A B : Type 0} (f : A → B) (o : Option A) → is_some (option_map f o) ≡ is_some o
 map_some f None = refl
@@ -121,9 +118,9 @@ ballot_begins kind ballot detail words = by_tests (int_eq kind (pos 1)) (int_eq 
     by_tests false false false empty e = cc
 
 ballot_act : (plan : Plan) (text : List ℕ) (done : Act) → IsAct plan.version done → first_byte (act_text plan.version done) ≡ first_byte text → BeginsBallot text → is_some (act_fate plan done) ≡ fits plan done
-ballot_act plan text (act.Scan ballot marks) is e begins = some_if _ _ ∙ sym (scan_agrees plan ballot marks)
-ballot_act plan text (act.Spoil ballot) is e begins = some_if _ _ ∙ sym (spoil_agrees plan ballot)
-ballot_act plan text (act.Audit ballot paper) is e begins = some_if _ _ ∙ sym (audit_agrees plan ballot paper is.codes)
+ballot_act plan text (act.Scan ballot marks) is e begins = is_some-cond _ _ ∙ sym (scan_agrees plan ballot marks)
+ballot_act plan text (act.Spoil ballot) is e begins = is_some-cond _ _ ∙ sym (spoil_agrees plan ballot)
+ballot_act plan text (act.Audit ballot paper) is e begins = is_some-cond _ _ ∙ sym (audit_agrees plan ballot paper is.codes)
 ballot_act plan text act.Close is e begins = absurd (clash _ 99 text e (close_first plan.version) (λ k. omega (arith, k)) (λ k. omega (arith, k)) begins)
 ballot_act plan text (act.Draw drawn) is e begins = absurd (clash _ 100 text e (draw_first plan.version drawn) (λ k. omega (arith, k)) (λ k. omega (arith, k)) begins)
 ballot_act plan text (act.Claim ballot race code) is e begins = absurd (clash _ 99 text e (claim_first plan.version ballot race code) (λ k. omega (arith, k)) (λ k. omega (arith, k)) begins)
@@ -217,7 +214,7 @@ told_within plan row told e = let k : is_ballot plan told.ballot ≡ true = (tol
 -- STAGES
 
 draw_act : (plan : Plan) (detail : List ℕ) (done : Act) → first_byte (act_text plan.version done) ≡ 100 → is_some (act_draw done) ≡ fits plan done
-draw_act plan detail (act.Draw drawn) e = some_if _ _
+draw_act plan detail (act.Draw drawn) e = is_some-cond _ _
 draw_act plan detail (act.Scan ballot marks) e = absurd (differ _ 115 (scan_first plan.version ballot marks) e (λ k. omega (arith, k)))
   where
     differ : (n k : ℕ) → n ≡ k → n ≡ 100 → (k ≡ 100 → ⊥) → ⊥

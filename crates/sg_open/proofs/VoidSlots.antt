@@ -4,9 +4,12 @@ use Rattle.std.specs.Prelude.{ℤ, pos, negsuc, is_some}
 use Rattle.std.specs.List.{list_all, list_any}
 use Rattle.std.specs.Option.{option_and_then, option_map_or}
 use Rattle.std.specs.Ordering.{int_eq}
-use Rattle.std.proofs.lemmas.Int.{ints}
 use Rattle.std.proofs.lemmas.Bool.{and_parts}
 use Rattle.std.proofs.lemmas.Bool.Decides.{nat_tests}
+use Rattle.std.proofs.lemmas.Option.{same_Some}
+use Rattle.sg_lists.proofs.Bools.{cond_same}
+use Rattle.sg_lists.proofs.Integers.{int_eq-pos}
+use Rattle.sg_lists.proofs.Lists.{slice_get-set_other}
 use Rattle.sg_plan.specs.Limits.{first_bad}
 use Rattle.sg_plan.specs.declared.plan.Fate.TheVariants as fate
 use Rattle.sg_desks.specs.ActTexts.{act_text}
@@ -18,7 +21,7 @@ use Rattle.sg_histories.specs.declared.kept.Slot.{Slot}
 use Rattle.sg_histories.proofs.Back.{all_from, each_from}
 use Rattle.sg_open.specs.inside.Finding.{station_at, void_passes, void_place, void_slot, voided_after}
 use Rattle.sg_open.specs.inside.Telling.{small_of}
-use Rattle.sg_open.proofs.Seats.{get_set_at, get_set_other}
+use Rattle.sg_open.proofs.Seats.{get_set_at}
 
 -- the tests of a void's row of this ballot
 abbrev pub void_tests : ℕ → (List ℕ → Option ℤ) → List (Option ℤ) → ℕ → Bool
@@ -36,9 +39,6 @@ pub record VoidsAt (version : ℕ) (stations : List ℕ → Option ℤ) (scanner
 pub void_is_at : (version : ℕ) (stations : List ℕ → Option ℤ) (scanners : List (Option ℤ)) (row : VoidRow) (place : ℕ) → void_place version stations scanners row ≡ Some place → VoidsAt version stations scanners row place
 void_is_at version stations scanners row place = by_row row.ballot refl
   where
-    same : (a b : ℕ) → Some a ≡ Some b → a ≡ b
-    same a b e = cc
-
     low_is : (n : ℕ) → nat_lt n (2 ^ 32) ≡ true → n < 2 ^ 32
     low_is n e = grind (arith, nat_tests, e)
 
@@ -50,7 +50,7 @@ void_is_at version stations scanners row place = by_row row.ballot refl
     by_tests n true b l t e = record {
       ballot = n;
       number = b;
-      is = same (n - 1) place e;
+      is = same_Some (n - 1) place e;
       first = first_is n (nat_le n (length scanners)) (differ (option_and_then (λ s. s) (slice_get scanners (n - 1))) (stations (act_text version (act.Void n)))) t;
       low = l;
       tests = t;
@@ -67,13 +67,6 @@ void_is_at version stations scanners row place = by_row row.ballot refl
 
 abbrev pub voided_slot : Slot → Slot
 voided_slot slot = record { fate = fate.Voided; station = slot.station }
-
-cond_same : {A : Type 0} (b : Bool) (x : A) → cond b x x ≡ x
-cond_same true x = refl
-cond_same false x = refl
-
-same_ints : (a b : ℕ) → int_eq (pos a) (pos b) ≡ (a == b)
-same_ints a b = grind (arith, ints, nat_tests)
 
 -- the slot of a ballot, where each row voids a ballot
 pub voided_at : (version : ℕ) (stations : List ℕ → Option ℤ) (scanners : List (Option ℤ)) (slots : List Slot) (rows : List VoidRow) (ballot : ℕ) (slot : Slot) → 1 ≤ ballot
@@ -97,7 +90,7 @@ voided_at version stations scanners slots (row ∷ rows) ballot slot first all e
     by_same place voids false s ih =
         let apart : place ≡ ballot - 1 → ⊥ = λ k. differ_at voids.ballot s voids.first (voids.is ∙ k) in
         ih (void_slot slots (Some place)) slot
-        (get_set_other slots place (ballot - 1) (record { fate = fate.Voided; station = station_at slots place }) apart ∙ e)
+        (slice_get-set_other slots place (ballot - 1) (record { fate = fate.Voided; station = station_at slots place }) (λ same. apart (sym same)) ∙ e)
       where
         differ_at : (n : ℕ) → (n == ballot) ≡ false → 1 ≤ n → n - 1 ≡ ballot - 1 → ⊥
         differ_at n f some k = grind (arith, nat_tests, f, some, k, first)
@@ -108,7 +101,7 @@ voided_at version stations scanners slots (row ∷ rows) ballot slot first all e
     by_place None f some ih = cc
     by_place (Some place) f some ih =
         let voids = void_is_at version stations scanners row place f in
-        let test : int_eq row.ballot (pos ballot) ≡ (voids.ballot == ballot) = ap (λ (z : ℤ). int_eq z (pos ballot)) voids.number ∙ same_ints voids.ballot ballot in
+        let test : int_eq row.ballot (pos ballot) ≡ (voids.ballot == ballot) = ap (λ (z : ℤ). int_eq z (pos ballot)) voids.number ∙ int_eq-pos voids.ballot ballot in
         by_same place voids (voids.ballot == ballot) refl ih
         ∙ ap (λ b. Some (cond (b || list_any (λ (kept : VoidRow). int_eq kept.ballot (pos ballot)) rows) (voided_slot slot) slot)) (sym test)
 

@@ -5,6 +5,9 @@ use Rattle.std.specs.List.{list_all}
 use Rattle.std.specs.Option.{option_and_then, option_map_or}
 use Rattle.std.specs.Str.{is_utf8}
 use Rattle.std.proofs.lemmas.Bool.Decides.{nat_tests}
+use Rattle.std.proofs.lemmas.List.{length-replicate}
+use Rattle.sg_lists.proofs.Lists.{slice_get-replicate}
+use Rattle.sg_lists.proofs.Options.{is_some-cond}
 use Rattle.sg_plan.specs.Ballots.{ballots_of}
 use Rattle.sg_plan.specs.Limits.{first_bad}
 use Rattle.sg_plan.specs.declared.plan.Plan.{Plan}
@@ -18,12 +21,13 @@ use Rattle.sg_keeper.specs.declared.rows.VoidRow.{VoidRow}
 use Rattle.sg_keeper.specs.declared.rows.Rows.{Rows}
 use Rattle.sg_histories.specs.Answers.{is_ballot}
 use Rattle.sg_histories.specs.ValidRows.{ballot_keeps, climbs, differ, doer, natural, row_fits, scan_text, station_of, void_keeps, void_text}
+use Rattle.sg_histories.proofs.Back.{same_bad}
 use Rattle.sg_open.specs.inside.Finding.{found_after, nothing_found, void_passes, void_place}
 use Rattle.sg_open.specs.inside.Telling.{small_of}
 use Rattle.sg_open.proofs.Seats.{Sits, no_seat, seat_slot, sits_after}
-use Rattle.sg_open.proofs.Standing.{get_replicate, replicate_long, scanners_long}
-use Rattle.sg_open.proofs.Tables.{Once, all_fit, good_once, no_scan, same_bad, scanner_is}
-use Rattle.sg_open.proofs.TellingRows.{act_utf8, some_if}
+use Rattle.sg_open.proofs.Standing.{scanners_long}
+use Rattle.sg_open.proofs.Tables.{Once, all_fit, good_once, no_scan, scanner_is}
+use Rattle.sg_open.proofs.TellingRows.{act_utf8}
 use Rattle.sg_open.proofs.VoidSlots.{void_tests}
 
 -- what was found tells of each ballot who scanned it
@@ -57,7 +61,7 @@ row_test plan stations dones ballots scanners row knows first = by_number row.ba
     by_small n false s = sym (no_other (doer dones (scan_text (pos n) ballots)))
     by_small n true s =
         let low : n < 2 ^ 32 = grind (arith, nat_tests, s) in
-        some_if (void_tests plan.version stations scanners n) (n - 1)
+        is_some-cond (void_tests plan.version stations scanners n) (n - 1)
         ∙ (ap (λ (l : ℕ). (nat_le 1 n && nat_le n l) && differ (option_and_then (λ s. s) (slice_get scanners (n - 1))) (stations (act_text plan.version (act.Void n)))) knows.long
         ∙ by_known n (is_ballot plan n) refl low)
 
@@ -74,7 +78,7 @@ found_scanners plan stations dones rows first good =
     let all = all_fit plan rows good in
     let once = good_once plan rows good in
     record {
-      long = scanners_long plan stations (nothing_found plan) rows ∙ replicate_long (ballots_of plan) None;
+      long = scanners_long plan stations (nothing_found plan) rows ∙ length-replicate (ballots_of plan) None;
       at = λ ballot known. at_ballot all once ballot known (first_ballot ballot known) (last_ballot ballot known);
       none = λ number outside. no_scan plan number rows all outside;
     }
@@ -89,8 +93,8 @@ found_scanners plan stations dones rows first good =
         → slice_get (found_after plan stations (nothing_found plan) rows).scanners (ballot - 1) ≡ Some (doer dones (scan_text (pos ballot) rows))
     at_ballot all once ballot known some within =
         let start : Sits (nothing_found plan) ballot no_seat = record {
-          slot = get_replicate (ballots_of plan) (ballot - 1) (seat_slot no_seat) (omega (arith, some, within));
-          scanner = get_replicate (ballots_of plan) (ballot - 1) None (omega (arith, some, within));
+          slot = slice_get-replicate (ballots_of plan) (ballot - 1) (seat_slot no_seat) (omega (arith, some, within));
+          scanner = slice_get-replicate (ballots_of plan) (ballot - 1) None (omega (arith, some, within));
         } in
         (sits_after plan stations (nothing_found plan) ballot no_seat rows some start).scanner ∙ ap (λ o. Some o) (scanner_is plan stations dones ballot rows first all once)
 

@@ -4,8 +4,9 @@ ghost use Rattle.std.specs.BTreeMap.{get_by_text};
 ghost use Rattle.std.specs.List.{filter_map};
 ghost use Rattle.sg_desks.specs.ActReading.{act_in};
 ghost use Rattle.sg_keeper.specs.SetupText.{IsSetup};
+ghost use Rattle.sg_histories.specs.Opens.{OpenTo, Whole};
 ghost use Rattle.sg_histories.specs.Standing.{HasRows, IsOffice};
-ghost use Rattle.sg_histories.specs.ValidRows.{Whole, damage_of, opening};
+ghost use Rattle.sg_histories.specs.ValidRows.{damage_of};
 ghost use Rattle.sg_open.specs.Opened.{IsFault, StandsForEach};
 ghost use Rattle.sg_open.specs.inside.Counts.{TellsStations};
 ghost use Rattle.sg_open.specs.inside.Finding.{IsDamage, IsJudged, IsRead, KeepsRows, kept_of, nothing_found, stage_told};
@@ -31,7 +32,7 @@ use std::mem;
 /// Refused are rows without a setup (`Empty`), and rows that are no office's, with the first bad table and row
 /// (`Damaged`), each exactly. `NoMemory` says nothing of the rows.
 pub fn open_rows(alloc: Global, rows: &Rows) -> Result<Kept, OpenFault>
-    ensures setup { IfOk result (λ kept. opening rows.now ≡ Whole kept.setup) }
+    ensures setup { IfOk result (λ kept. OpenTo rows.now (Whole kept.setup)) }
     ensures stands { IfOk result (λ kept. HasRows kept rows.now × IsOffice kept) }
     ensures each { IfOk result (λ kept. StandsForEach kept rows.now) }
     ensures fault { IfErr result (λ fault. IsFault fault rows.now) }

@@ -2,6 +2,7 @@
 use Rattle.std.proofs.Common.{◌≡◌, ℕ, ◌≤◌, List, [], ◌∷◌, ◌++◌, length, map, Option, Result, Ok, Err, refl, ap, ◌∙◌, arith}
 use Rattle.std.specs.Io.KnownBytes.{Appends}
 use Rattle.std.specs.List.{concat}
+use Rattle.sg_lists.proofs.Lists.{flat_map-same, map-flat_map, map-map, map-single}
 use Rattle.sg_outside.specs.Faults.{HasCause}
 use Rattle.sg_outside.specs.Streams.{PutAppends}
 use Rattle.sg_outside.proofs.StreamLemmas.{Appends-trans, AppendsFront-trans}
@@ -12,7 +13,7 @@ use Rattle.sg_forms.specs.Said.Said.{Row}
 use Rattle.sg_forms.specs.Spelling.{spelling}
 use Rattle.sg_forms.specs.declared.line.RowOpening.{RowOpening}
 use Rattle.sg_post.specs.Posted.{both_sides}
-use Rattle.sg_post.proofs.Numbered.{flat-numbers, flat-same, map-flat, map-single, map-twice}
+use Rattle.sg_post.proofs.Numbered.{flat-numbers}
 use Rattle.sg_record.specs.Writing.{text_in}
 use Rattle.sg_openings.specs.Openings.{all_rows, completion_line, instance_rows, openings_text, race_rows, row_text}
 use Rattle.sg_openings.specs.inside.Lines.{all_lines, instance_lines, race_lines, row_line}
@@ -21,20 +22,20 @@ use Rattle.sg_openings.specs.inside.Lines.{all_lines, instance_lines, race_lines
 
 instance-is : (plan : Plan) (seed : List ℕ) (race instance : ℕ) → map Row (instance_rows plan seed race instance) ≡ instance_lines plan seed race instance
 instance-is plan seed race instance =
-    map-twice Row (both_sides plan seed race instance) (numbers_below (entries_of plan race))
+    map-map Row (both_sides plan seed race instance) (numbers_below (entries_of plan race))
     ∙ map-single (λ row. Row (both_sides plan seed race instance row)) (numbers_below (entries_of plan race))
     ∙ flat-numbers (row_line plan seed race instance) (entries_of plan race)
 
 race-is : (plan : Plan) (seed : List ℕ) (race : ℕ) → map Row (race_rows plan seed race) ≡ race_lines plan seed race
 race-is plan seed race =
-    map-flat Row (instance_rows plan seed race) (numbers_below plan.instances)
-    ∙ flat-same (λ instance. map Row (instance_rows plan seed race instance)) (instance_lines plan seed race) (numbers_below plan.instances) (instance-is plan seed race)
+    map-flat_map Row (instance_rows plan seed race) (numbers_below plan.instances)
+    ∙ flat_map-same (λ instance. map Row (instance_rows plan seed race instance)) (instance_lines plan seed race) (numbers_below plan.instances) (instance-is plan seed race)
     ∙ flat-numbers (instance_lines plan seed race) plan.instances
 
 pub rows-are : (plan : Plan) (seed : List ℕ) → map Row (all_rows plan seed) ≡ all_lines plan seed
 rows-are plan seed =
-    map-flat Row (race_rows plan seed) (numbers_below (length plan.races))
-    ∙ flat-same (λ race. map Row (race_rows plan seed race)) (race_lines plan seed) (numbers_below (length plan.races)) (race-is plan seed)
+    map-flat_map Row (race_rows plan seed) (numbers_below (length plan.races))
+    ∙ flat_map-same (λ race. map Row (race_rows plan seed race)) (race_lines plan seed) (numbers_below (length plan.races)) (race-is plan seed)
     ∙ flat-numbers (race_lines plan seed) (length plan.races)
 
 -- THE TEXT

@@ -3,11 +3,11 @@ use Rattle.std.proofs.Common.{◌≡◌, ℕ, ◌≤◌, true, Bool, List, [], �
 use Rattle.std.specs.Option.{is_some, option_map, option_map_or}
 use Rattle.std.specs.Prelude.{option_and_then}
 use Rattle.std.proofs.lemmas.Option.{same_Some}
+use Rattle.sg_lists.proofs.Options.{is_some-true, option_map-some}
 use Rattle.sg_forms.specs.Reading.{line_of}
 use Rattle.sg_forms.specs.Said.{Said}
-use Rattle.sg_grammar.proofs.Claims.{option_map-some}
 use Rattle.sg_grammar.proofs.FirstLines.{walk-first}
-use Rattle.sg_grammar.proofs.Walking.{some_there, take_line-head}
+use Rattle.sg_grammar.proofs.Walking.{take_line-head}
 use Rattle.sg_grammar.specs.Coordinates.{placed}
 use Rattle.sg_grammar.specs.Head.{head_line}
 use Rattle.sg_grammar.specs.Placed.{Placed}
@@ -79,7 +79,7 @@ pub found_of_plan : (which : Wanted) (next after : Next) (bytes : List ℕ) (sai
     → is_some (head_line next.plan next.head said) ≡ true → option_map (λ (t : Taken). t.next) (take_line next said) ≡ Some after → ((s : Said) → is ≡ is_wanted which (OfPlan s))
     → step_of which next bytes ≡ Some (found_so after is)
 found_of_plan which next after bytes said is read named stepped wants =
-    let there = some_there (head_line next.plan next.head said) named in
+    let there = is_some-true (head_line next.plan next.head said) named in
     let taken : take_line next said ≡ Some (headed said there.0) = take_line-head next said there.0 there.1 in
     let same : (headed said there.0).next ≡ after = same_Some (headed said there.0).next after (sym (ap (option_map (λ (t : Taken). t.next)) taken) ∙ stepped) in
     found_taken which next bytes said (Some (headed said there.0)) read taken

@@ -1,7 +1,7 @@
 -- A verdict on lines, told by its status and its report.
 use Rattle.std.proofs.Common.{◌≡◌, ℕ, true, false, List, None, refl, sym, subst, ap, ◌∙◌}
+use Rattle.sg_lists.proofs.Finding.{find-none}
 use Rattle.sg_check.proofs.Accepted.{verdict_is_sound}
-use Rattle.sg_check.proofs.Finding.{find-none}
 use Rattle.sg_check.proofs.Fine.{none_bad_are_fine}
 use Rattle.sg_check.proofs.Verdicts.{good_end, one_verdict}
 use Rattle.sg_check.specs.Bounds.{IsSoundIfYes}

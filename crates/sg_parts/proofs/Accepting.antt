@@ -1,46 +1,58 @@
--- An accepted record: its lines in their places are its walk's, and fine.
-use Rattle.std.proofs.Common.{◌≡◌, List, Some, None, sym, subst}
+-- An accepted record: the verdict on its lines is yes, and they are fine.
+use Rattle.std.proofs.Common.{◌≡◌, List, ℕ, false, None, refl, subst}
 use Rattle.sg_plan.specs.Limits.{fault_of}
-use Rattle.sg_grammar.proofs.Ranges.{lines_are_in_plan}
-use Rattle.sg_grammar.proofs.Wholes.{lines_stand_apart}
-use Rattle.sg_grammar.specs.Lines.{IsAmong, placed_of}
-use Rattle.sg_grammar.specs.Parting.{Apart, IsLineIn, clash}
 use Rattle.sg_grammar.specs.Placed.{Placed}
-use Rattle.sg_grammar.specs.Walk.{start, walk}
 use Rattle.sg_record.proofs.FormedLaw.{has_form}
-use Rattle.sg_record.proofs.PlacesLaw.{formed_are_walked, places-many, posts-places}
-use Rattle.sg_record.specs.Lines.{lines_in, texts_in}
+use Rattle.sg_record.specs.Laws.{AreLinesOf}
+use Rattle.sg_record.specs.Lines.{texts_in}
 use Rattle.sg_record.specs.Places.{places_in, walk_of}
 use Rattle.sg_record.specs.declared.record.Record.{Record}
+use Rattle.sg_check.proofs.Accepted.{yes_is_sound}
 use Rattle.sg_check.proofs.FineLines.{codes_are_known, pointers_stand_once}
+use Rattle.sg_check.specs.Bounds.{IsSound}
 use Rattle.sg_check.specs.Laws.{AreCodesKnown, ArePointersOnce, IsFineWalk}
-use Rattle.sg_check.specs.Verdict.{IsGood}
+use Rattle.sg_check.specs.Verdict.{IsGood, IsVerdict}
+use Rattle.sg_check.specs.declared.judged.Judged.TheVariants.{Yes}
+use Rattle.sg_check.specs.declared.judged.Kind.{Kind}
+use Rattle.sg_check.specs.declared.judged.Total.{Total}
+use Rattle.sg_fronts.proofs.ByRecords.{verdicts_say}
+use Rattle.sg_fronts.proofs.OfRecord.{placed, walks}
+use Rattle.sg_fronts.proofs.Promised.{bound_on, right_on}
+use Rattle.sg_fronts.specs.ByRecords.{IsYes, breaks_in, totals_on}
+use Rattle.sg_fronts.specs.Promised.{IsBound}
+use Rattle.sg_parts.specs.Faults.{IsAccepting}
 use Rattle.sg_parts.specs.Given.{IsAccepted}
 
-module _ (posted : Record) (accepted : IsAccepted posted) where
-  pub walks : walk start (texts_in posted) ≡ Some (walk_of posted)
-  walks = formed_are_walked posted accepted.words accepted.formed
+-- so it is where the verdict on lines is yes
+pub yes_accepts : (lines : List (List ℕ)) (totals : List Total) → IsVerdict lines (Yes totals) → IsAccepting lines
+yes_accepts lines totals verdict =
+    let says : IsYes lines totals = (verdicts_say lines (Yes totals)).0 verdict in
+    (says.posted, record { words = says.are.words; formed = says.are.formed; none_bad = says.none_bad }, says.are.text)
 
-  pub placed : placed_of (walk_of posted).posted ≡ places_in posted
-  placed = posts-places posted.plan.version (lines_in posted) (places_in posted) (places-many posted accepted.words accepted.formed)
+module _ (posted : Record) (accepted : IsAccepted posted) where
+  are_lines : AreLinesOf (texts_in posted) posted
+  are_lines = record { words = accepted.words; formed = accepted.formed; text = refl }
+
+  good : IsGood (texts_in posted) (totals_on posted)
+  good = (verdicts_say (texts_in posted) (Yes (totals_on posted))).1 (record { posted = posted; are = are_lines; none_bad = accepted.none_bad; totals_are = refl })
 
   pub good_plan : fault_of posted.plan ≡ None
   good_plan = (has_form posted accepted.words accepted.formed).is.fine
 
-  good : IsGood (texts_in posted) accepted.totals
-  good = accepted.yes
-
   pub fine : IsFineWalk (texts_in posted) (walk_of posted)
-  fine = record { walks = walks; fine = good.fine }
+  fine = record { walks = walks posted accepted.words accepted.formed; fine = good.fine }
 
-  pub apart : Apart clash (places_in posted)
-  apart = subst (λ (l : List Placed). Apart clash l) placed (lines_stand_apart (texts_in posted) (walk_of posted) walks)
+  sound : IsSound (texts_in posted) (totals_on posted)
+  sound = yes_is_sound (texts_in posted) (totals_on posted) good
 
-  pub in_plan : (line : Placed) → IsAmong (places_in posted) line → IsLineIn posted.plan line
-  in_plan line among = lines_are_in_plan (texts_in posted) (walk_of posted) line walks (subst (λ (l : List Placed). IsAmong l line) (sym placed) among)
+  pub bound : IsBound posted (totals_on posted)
+  bound = bound_on (texts_in posted) (totals_on posted) sound posted are_lines
+
+  pub agree : (k : Kind) → breaks_in posted k ≡ false
+  agree k = (right_on (texts_in posted) (totals_on posted) sound posted are_lines).agree k
 
   pub known_once : AreCodesKnown posted.plan (places_in posted)
-  known_once = subst (λ (l : List Placed). AreCodesKnown posted.plan l) placed (codes_are_known (texts_in posted) (walk_of posted) fine)
+  known_once = subst (λ (l : List Placed). AreCodesKnown posted.plan l) (placed posted accepted.words accepted.formed) (codes_are_known (texts_in posted) (walk_of posted) fine)
 
   pub pointers_once : ArePointersOnce posted.plan (places_in posted)
-  pointers_once = subst (λ (l : List Placed). ArePointersOnce posted.plan l) placed (pointers_stand_once (texts_in posted) (walk_of posted) fine)
+  pointers_once = subst (λ (l : List Placed). ArePointersOnce posted.plan l) (placed posted accepted.words accepted.formed) (pointers_stand_once (texts_in posted) (walk_of posted) fine)

@@ -8,6 +8,7 @@ use Rattle.std.proofs.lemmas.Grind.{common_steps}
 use Rattle.std.proofs.lemmas.List.Folds.{drop_split}
 use Rattle.std.proofs.lemmas.Nat.{mul-le}
 use Rattle.std.proofs.Math.Nat.{mul-le-mul_left}
+use Rattle.sg_lists.proofs.Tests.{list_all-push}
 use Rattle.sg_plan.proofs.PlanLaws.{entries_before-more}
 use Rattle.sg_plan.specs.Ballots.{entries_before, entries_of, r_rows}
 use Rattle.sg_plan.specs.declared.plan.Plan.{Plan}
@@ -21,10 +22,6 @@ use Rattle.sg_parts.specs.inside.Cutting.{AreCut, AreInstances}
 pub joined_push : {A : Type 0} (xs : List (List A)) (x : List A) → joined (xs ++ x ∷ []) ≡ joined xs ++ x
 joined_push [] x = append-nil x
 joined_push (y ∷ xs) x = ap (λ l. y ++ l) (joined_push xs x) ∙ sym (append_assoc y (joined xs) x)
-
-all_push : {A : Type 0} (test : A → Bool) (xs : List A) (x : A) → list_all test xs ≡ true → test x ≡ true → list_all test (xs ++ x ∷ []) ≡ true
-all_push test [] x all one = and_from (test x) true one refl
-all_push test (y ∷ xs) x all one = let parts = and_parts (test y) (list_all test xs) all in and_from (test y) (list_all test (xs ++ x ∷ [])) parts.0 (all_push test xs x parts.1 one)
 
 pub joined_both : {A : Type 0} (xs ys : List (List A)) → joined (xs ++ ys) ≡ joined xs ++ joined ys
 joined_both [] ys = refl
@@ -64,7 +61,7 @@ pub instances_more : (at count done next : ℕ) (rows here : List RowGiven) (cut
 instances_more at count done next rows here cut cut' has next_is within is grown = record {
   done_are = next_is ∙ (ap (λ n. n + count) has.done_are ∙ sym (one_more at));
   long = ap length grown ∙ (length_push cut here ∙ ap (λ n. n + 1) has.long);
-  each_long = ap (list_all (λ items. length items == count)) grown ∙ all_push (λ items. length items == count) cut here has.each_long (eq-eqb (length here) count long);
+  each_long = ap (list_all (λ items. length items == count)) grown ∙ list_all-push (λ items. length items == count) cut here has.each_long (eq-eqb (length here) count long);
   rows_are =
       ap (λ (l : List (List RowGiven)). joined l ++ drop next rows) grown
       ∙ (ap (λ (l : List RowGiven). l ++ drop next rows) (joined_push cut here)

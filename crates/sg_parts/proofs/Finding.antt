@@ -14,8 +14,6 @@ use Rattle.sg_sheet.specs.inside.Listed.{line_due}
 use Rattle.sg_sheet.specs.declared.due.Due.{Due}
 use Rattle.sg_record.specs.Places.{places_in}
 use Rattle.sg_check.specs.Printings.{StandsWith}
-use Rattle.sg_check.specs.Verdict.{IsVerdict}
-use Rattle.sg_check.specs.declared.judged.Judged.TheVariants as judged
 use Rattle.sg_parts.specs.Faults.{AreRowsOff, HasFault, IsCompletionOff, IsPrintingOff, IsSheetLine, IsSheetOf, IsSheetOff, blank, lines_behind, record_lines}
 use Rattle.sg_parts.specs.Given.{completion_line, printing_line, printing_of, row_text, sheet_texts}
 use Rattle.sg_parts.specs.Laws.{ReadingsHold}
@@ -281,22 +279,20 @@ module _ (old : PartsReading) (lines : List (List ℕ)) (has : HasRead old lines
 -- WHAT FOLLOWS
 
 pub readings_hold : ReadingsHold
-readings_hold reading lines has =
-    let accepted = has.of_record.accepted in
-    record {
-      accepting = (accepted.totals, subst (λ (l : List (List ℕ)). IsVerdict l (judged.Yes accepted.totals)) (sym has.of_record.text) accepted.yes);
-      tail = has.behind;
-      begins = has.begins;
-      few =
-          omega (
-            arith,
-            before_few reading lines has,
-            has.before,
-            behind_long reading lines has,
-            taken_asked reading lines has,
-            asked_few reading lines has,
-            ap length (both_parts lines),
-            length-append (record_lines lines) (lines_behind lines),
-            ap length has.begins,
-          );
-    }
+readings_hold reading lines has = record {
+  accepting = (reading.posted, has.of_record.accepted, has.of_record.text);
+  tail = has.behind;
+  begins = has.begins;
+  few =
+      omega (
+        arith,
+        before_few reading lines has,
+        has.before,
+        behind_long reading lines has,
+        taken_asked reading lines has,
+        asked_few reading lines has,
+        ap length (both_parts lines),
+        length-append (record_lines lines) (lines_behind lines),
+        ap length has.begins,
+      );
+}

@@ -1,10 +1,12 @@
 -- What holds of all parts, where each was found right.
-use Rattle.std.proofs.Common.{◌≡◌, ◌≢◌, ℕ, zero, suc, ◌<◌, ◌==◌, Bool, true, false, ◌||◌, cond, List, [], ◌∷◌, Option, Some, None, refl, sym, subst, ap, ◌∙◌, arith}
+use Rattle.std.proofs.Common.{◌≡◌, ◌≢◌, ℕ, zero, suc, ◌<◌, ◌==◌, Bool, true, false, cond, List, [], ◌∷◌, Option, Some, None, refl, sym, subst, ap, ◌∙◌, arith}
 use Rattle.std.specs.List.{list_any}
 use Rattle.std.specs.Option.{option_and_then, option_map_or}
 use Rattle.std.specs.Prelude.{is_some, slice_get}
-use Rattle.std.proofs.lemmas.Bool.{eq-eqb, or_parts, true≢false}
+use Rattle.std.proofs.lemmas.Bool.{or_parts, true≢false}
 use Rattle.std.proofs.lemmas.Option.{none-some, same_Some}
+use Rattle.sg_lists.proofs.Lists.{slice_get_there}
+use Rattle.sg_lists.proofs.Tests.{All-slice_get, list_any-slice_get}
 use Rattle.sg_commit.specs.declared.Opening.{Opening}
 use Rattle.sg_forms.specs.declared.line.RowOpening.{RowOpening}
 use Rattle.sg_forms.specs.declared.line.RowOpening.TheVariants as opened
@@ -14,7 +16,6 @@ use Rattle.sg_plan.specs.declared.plan.Plan.{Plan}
 use Rattle.sg_plan.specs.declared.plan.Side.{Side}
 use Rattle.sg_grammar.specs.Lines.{IsAmong}
 use Rattle.sg_grammar.specs.Placed.Placed.{RowAt}
-use Rattle.sg_record.proofs.Putting.{item_of}
 use Rattle.sg_record.specs.Formed.{has_rows}
 use Rattle.sg_record.specs.Places.{places_in}
 use Rattle.sg_record.specs.declared.record.Record.{Record}
@@ -22,9 +23,8 @@ use Rattle.sg_check.specs.Completions.{IsCompletion, IsHalfOf, OpensNoneTwice, p
 use Rattle.sg_check.specs.Kinds.{has_repeat}
 use Rattle.sg_check.specs.Printings.{IsPrinting, IsRowOf, StandsWith}
 use Rattle.sg_check.proofs.Rows.{posted_row}
-use Rattle.sg_facts.proofs.Tabling.{get_there}
 use Rattle.sg_facts.specs.Items.{item_in, row_in}
-use Rattle.sg_parts.proofs.Accepting.{in_plan}
+use Rattle.sg_fronts.proofs.OfRecord.{in_plan}
 use Rattle.sg_parts.proofs.Halves.{opens_true, right_true, true_opens, true_right, wrong_is}
 use Rattle.sg_parts.specs.Faults.{IsFirstWrong, IsRowRight, StandsAt}
 use Rattle.sg_parts.specs.Given.{AreCodes, AreOpenings, AreParts, ArePrinted, IsAccepted, completion_of, printing_of}
@@ -37,9 +37,7 @@ use Rattle.sg_parts.specs.inside.Reading.{AreRight, IsRowsFault, row_fault}
 -- THE PRINTING
 
 any_at : (list : List ℕ) (code at found : ℕ) → list_any (λ other. other == code) list ≡ false → slice_get list at ≡ Some found → found ≢ code
-any_at [] code at found none is same = none-some found is
-any_at (x ∷ list) code zero found none is same = true≢false (sym (ap (λ b. b || list_any (λ other. other == code) list) (eq-eqb x code (same_Some x found is ∙ same))) ∙ none)
-any_at (x ∷ list) code (suc at) found none is same = any_at list code at found (or_parts (x == code) (list_any (λ other. other == code) list) none).1 is same
+any_at list code at found none is same = true≢false (sym (list_any-slice_get list at code (is ∙ ap Some same)) ∙ none)
 
 differ_at : (list : List ℕ) (at other one two : ℕ) → has_repeat list ≡ false → slice_get list at ≡ Some one → slice_get list other ≡ Some two → at ≢ other → one ≢ two
 differ_at [] at other one two none is there apart same = none-some one is
@@ -72,8 +70,8 @@ module _ (plan : Plan) (lists : List (List (List ℕ))) (printed : ArePrinted pl
 
   row_there : (race row : ℕ) → IsRowOf plan race row → HasRow race row
   row_there race row within =
-      let rows = get_there lists race (omega (arith, within.0, printed.races)) in
-      let list = get_there rows.0 row (omega (arith, within.1, printed.rows race rows.0 rows.1)) in
+      let rows = slice_get_there lists race (omega (arith, within.0, printed.races)) in
+      let list = slice_get_there rows.0 row (omega (arith, within.1, printed.rows race rows.0 rows.1)) in
       let is : item_in lists race row ≡ Some list.0 = ap (option_and_then (λ (items : List (List ℕ)). slice_get items row)) rows.1 ∙ list.1 in
       record { list = list.0; is = is; are = printed.codes_are race row list.0 is }
 
@@ -85,7 +83,7 @@ module _ (plan : Plan) (lists : List (List (List ℕ))) (printed : ArePrinted pl
   -- the row's list, looked up as a row of rows
   code_there : (race row candidate : ℕ) (has : HasRow race row) → candidate < candidates_of plan race → HasCode race row candidate has.list
   code_there race row candidate has less =
-      let code = get_there has.list candidate (omega (arith, less, has.are.long)) in
+      let code = slice_get_there has.list candidate (omega (arith, less, has.are.long)) in
       record {
         code = code.0;
         at = code.1;
@@ -106,7 +104,7 @@ module _ (plan : Plan) (lists : List (List (List ℕ))) (printed : ArePrinted pl
     below = λ race row candidate within less.
         let has = row_there race row within in
         let code = code_there race row candidate has less in
-        subst (λ c. c < codes_of plan.version) (sym code.is) (item_of (λ c. c < codes_of plan.version) has.list candidate code.code has.are.below code.at);
+        subst (λ c. c < codes_of plan.version) (sym code.is) (All-slice_get (λ c. c < codes_of plan.version) has.list candidate code.code has.are.below code.at);
     differ = λ race row candidate other within less also apart same.
         let has = row_there race row within in
         let one = code_there race row candidate has less in
@@ -124,12 +122,12 @@ module _ (posted : Record) (accepted : IsAccepted posted) where
       at race instance row (row_within race instance row (opened.Both left right) among) left right block ballot column code among shown entry_is
     where
       row_within : (race instance row : ℕ) (opening : RowOpening) → IsAmong (places_in posted) (RowAt race instance row opening) → IsHalfOf posted.plan race instance row
-      row_within race instance row opening is = (in_plan posted accepted (RowAt race instance row opening) is).placed
+      row_within race instance row opening is = (in_plan posted accepted.words accepted.formed (RowAt race instance row opening) is).placed
 
   row_of : (on : Side) (race instance row : ℕ) (o : Opening) → posted_half (places_in posted) on race instance row ≡ Some o → IsHalfOf posted.plan race instance row
   row_of on race instance row o is =
       let found = posted_row (places_in posted) on race instance row o is in
-      (in_plan posted accepted (RowAt race instance row found.0) found.1).placed
+      (in_plan posted accepted.words accepted.formed (RowAt race instance row found.0) found.1).placed
 
   none_twice : (rows : List (List (List RowGiven))) → AreRight posted rows → OpensNoneTwice (places_in posted) (completion_of rows)
   none_twice rows right on race instance row o is = (right race instance row (row_of on race instance row o is)).keeps on o is

@@ -10,7 +10,8 @@ use Rattle.std.proofs.lemmas.List.{length-append, length-map, length-replicate, 
 use Rattle.std.proofs.lemmas.List.Sums.{sum_by-cons}
 use Rattle.std.proofs.lemmas.Option.{get_or_from_slice_get, none-some, same_Some, slice_get-get_or, slice_get_within, unwrap_or-slice_get}
 use Rattle.std.proofs.lemmas.Simd.{map-map}
-use Rattle.sg_plan.proofs.Counting.{count_by-append}
+use Rattle.sg_lists.proofs.Counting.{count_by-append}
+use Rattle.sg_lists.proofs.Lists.{slice_get-push, slice_get-push_last, slice_get-set}
 use Rattle.sg_plan.specs.Ballots.{ballot_row, ballot_styles, races_of_style, rows_of, style_has}
 use Rattle.sg_plan.specs.Limits.{fault_of, rises}
 use Rattle.sg_plan.specs.declared.plan.Plan.{Plan}
@@ -20,7 +21,6 @@ use Rattle.sg_sheet.specs.Sheet.{codes_text, line_text}
 use Rattle.sg_sheet.specs.inside.Listed.{ballot_due, codes_due, due_from, line_due, sheet_due}
 use Rattle.sg_sheet.specs.declared.due.Due.{Due}
 use Rattle.sg_sheet.specs.declared.due.Due.TheVariants as line
-use Rattle.sg_facts.proofs.Tabling.{push_get, push_last, set_get}
 use Rattle.sg_facts.specs.Items.{item_in}
 use Rattle.sg_parts.specs.Given.{AreCodes, ArePrinted, printed_of, sheet_texts}
 use Rattle.sg_parts.specs.inside.Filling.{Fills, Lists, is_race_due, with_list}
@@ -192,7 +192,7 @@ module _ (plan : Plan) (old : Lists) (race : ℕ) (list : List ℕ) (within : ra
   rows_are = slice_get-get_or old race [] within
 
   with_get : (r : ℕ) → slice_get (with_list old race list) r ≡ cond (race == r) (Some (rows ++ list ∷ [])) (slice_get old r)
-  with_get r = set_get old race r (rows ++ list ∷ []) within
+  with_get r = slice_get-set old race r (rows ++ list ∷ []) within
 
   with_keeps : Keeps old (with_list old race list)
   with_keeps r k x is = ap (option_and_then (λ items. slice_get items k)) (with_get r) ∙ at_race (race == r) refl
@@ -201,20 +201,20 @@ module _ (plan : Plan) (old : Lists) (race : ℕ) (list : List ℕ) (within : ra
       at_race false e = is
       at_race true e =
           let here : slice_get rows k ≡ Some x = sym (ap (option_and_then (λ items. slice_get items k)) (ap (slice_get old) (sym (eqb-true race r e)) ∙ rows_are)) ∙ is in
-          push_get rows list k (slice_get_within rows k x here) ∙ here
+          slice_get-push rows list k (slice_get_within rows k x here) ∙ here
 
   with_last : item_in (with_list old race list) race (length rows) ≡ Some list
-  with_last = ap (option_and_then (λ items. slice_get items (length rows))) (with_get race ∙ ap (λ b. cond b (Some (rows ++ list ∷ [])) (slice_get old race)) (eq-eqb race race refl)) ∙ push_last rows list (length rows) refl
+  with_last = ap (option_and_then (λ items. slice_get items (length rows))) (with_get race ∙ ap (λ b. cond b (Some (rows ++ list ∷ [])) (slice_get old race)) (eq-eqb race race refl)) ∙ slice_get-push_last rows list (length rows) refl
 
   with_codes : AreCodes plan race list → HasCodes plan old → HasCodes plan (with_list old race list)
   with_codes are before r k x is = at_race (race == r) refl (sym (ap (option_and_then (λ items. slice_get items k)) (with_get r)) ∙ is)
     where
       at_row : race ≡ r → (k < length rows) ⊎ (length rows ≤ k) → slice_get (rows ++ list ∷ []) k ≡ Some x → AreCodes plan r x
       at_row same (inl less) e =
-          before r k x (ap (option_and_then (λ items. slice_get items k)) (ap (slice_get old) (sym same) ∙ rows_are) ∙ (sym (push_get rows list k less) ∙ e))
+          before r k x (ap (option_and_then (λ items. slice_get items k)) (ap (slice_get old) (sym same) ∙ rows_are) ∙ (sym (slice_get-push rows list k less) ∙ e))
       at_row same (inr more) e =
           let last : k ≡ length rows = omega (arith, more, slice_get_within (rows ++ list ∷ []) k x e, length_push rows list) in
-          subst (λ (y : List ℕ). AreCodes plan r y) (same_Some list x (sym (push_last rows list k last) ∙ e)) (subst (λ n. AreCodes plan n list) same are)
+          subst (λ (y : List ℕ). AreCodes plan r y) (same_Some list x (sym (slice_get-push_last rows list k last) ∙ e)) (subst (λ n. AreCodes plan n list) same are)
 
       at_race : (b : Bool) → (race == r) ≡ b → option_and_then (λ items. slice_get items k) (cond b (Some (rows ++ list ∷ [])) (slice_get old r)) ≡ Some x → AreCodes plan r x
       at_race false e d = before r k x d

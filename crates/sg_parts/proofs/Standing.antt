@@ -29,7 +29,8 @@ use Rattle.sg_facts.specs.Tables.{HasTable}
 use Rattle.sg_parts.specs.Faults.{StandsAt}
 use Rattle.sg_parts.specs.Given.{IsAccepted, printing_of}
 use Rattle.sg_parts.specs.inside.Checks.{both_in, both_stand, code_stands, row_stands}
-use Rattle.sg_parts.proofs.Accepting.{apart, in_plan, known_once, pointers_once}
+use Rattle.sg_fronts.proofs.OfRecord.{apart, in_plan}
+use Rattle.sg_parts.proofs.Accepting.{known_once, pointers_once}
 
 -- a value that one of the lines gives
 given_some : {B : Type 0} (given : Placed → Option B) (lines : List Placed) (x : Placed) → IsAmong lines x → is_none (given x) ≡ false → (v : B) × (first_given given lines ≡ Some v)
@@ -56,7 +57,7 @@ module _ (posted : Record) (accepted : IsAccepted posted) where
   posted_is on race instance row opening o among is =
       let found = given_some (posts_half on race instance row) lines (RowAt race instance row opening) among (ap is_none (posts_there on race instance row opening o is)) in
       let at = posted_row lines on race instance row found.0 found.1 in
-      let same = one_row lines race instance row at.0 opening (apart posted accepted) at.1 among in
+      let same = one_row lines race instance row at.0 opening (apart posted accepted.words accepted.formed) at.1 among in
       found.1 ∙ (sym at.2 ∙ (ap (opened_on on) same ∙ is))
 
   both_of : (opening : RowOpening) (left right : Opening) → opened_on side.Left opening ≡ Some left → opened_on side.Right opening ≡ Some right → opening ≡ opened.Both left right
@@ -83,7 +84,7 @@ module _ (posted : Record) (accepted : IsAccepted posted) where
   line_both race instance row left right is =
       let on_left = posted_row lines side.Left race instance row left ((are_listed posted).half side.Left race instance row ∙ ap (option_and_then (opened_on side.Left)) is) in
       let on_right = posted_row lines side.Right race instance row right ((are_listed posted).half side.Right race instance row ∙ ap (option_and_then (opened_on side.Right)) is) in
-      let same = one_row lines race instance row on_left.0 on_right.0 (apart posted accepted) on_left.1 on_right.1 in
+      let same = one_row lines race instance row on_left.0 on_right.0 (apart posted accepted.words accepted.formed) on_left.1 on_right.1 in
       let both = both_of on_left.0 left right on_left.2 (ap (opened_on side.Right) same ∙ on_right.2) in
       subst (λ (o : RowOpening). IsAmong lines (RowAt race instance row o)) both on_left.1
 
@@ -129,8 +130,8 @@ module _ (posted : Record) (accepted : IsAccepted posted) where
   same_code : (race : ℕ) (block other_block : Block) (ballot other_ballot column other_column : ℕ) (code other : CodeLine) → IsAmong lines (CodeAt block ballot race column code)
       → IsAmong lines (CodeAt other_block other_ballot race other_column other) → entry_at plan race ballot column ≡ entry_at plan race other_ballot other_column → code.code ≡ other.code
   same_code race block other_block ballot other_ballot column other_column code other among there same =
-      let one = (in_plan posted accepted (CodeAt block ballot race column code) among).placed in
-      let two = (in_plan posted accepted (CodeAt other_block other_ballot race other_column other) there).placed in
+      let one = (in_plan posted accepted.words accepted.formed (CodeAt block ballot race column code) among).placed in
+      let two = (in_plan posted accepted.words accepted.formed (CodeAt other_block other_ballot race other_column other) there).placed in
       let tells = entry_tells plan race ballot column one.3 one.4 in
       let tells' = entry_tells plan race other_ballot other_column two.3 two.4 in
       let ballots : ballot ≡ other_ballot
@@ -161,7 +162,7 @@ module _ (posted : Record) (accepted : IsAccepted posted) where
     -- where the test passes, the row stands
     pub stands_there : row_stands plan posted known lists race instance row ≡ true → StandsAt plan lines (printing_of lists) race instance row
     stands_there passes = λ left right block ballot column code among shown entry_is.
-        let where_it = (in_plan posted accepted (CodeAt block ballot race column code) shown).placed in
+        let where_it = (in_plan posted accepted.words accepted.formed (CodeAt block ballot race column code) shown).placed in
         let tells = entry_tells plan race ballot column where_it.3 where_it.4 in
         let below : left.value < entries_of plan race = subst (λ e. e < entries_of plan race) entry_is tells.below in
         let found = given_some (shows_code plan race left.value) lines (CodeAt block ballot race column code) shown (ap is_none (shows_there race left.value block ballot column code entry_is)) in

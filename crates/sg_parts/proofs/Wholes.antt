@@ -1,9 +1,10 @@
 -- The record, the printing and the completion, one behind the other.
-use Rattle.std.proofs.Common.{◌≡◌, ℕ, zero, suc, ◌+◌, ◌*◌, ◌≤◌, Bool, true, false, cond, List, [], ◌∷◌, ◌++◌, bytes_eq, length, map, Option, Some, None, refl, sym, subst, ap, ◌∙◌, arith}
+use Rattle.std.proofs.Common.{◌≡◌, ℕ, zero, suc, ◌+◌, ◌*◌, ◌≤◌, Bool, true, false, cond, List, [], ◌∷◌, ◌++◌, bytes_eq, length, Option, Some, None, refl, sym, subst, ap, ◌∙◌, arith}
 use Rattle.std.specs.Option.{option_and_then}
 use Rattle.std.specs.Prelude.{slice_get}
 use Rattle.std.proofs.Math.Nat.{mul-le-mul_left}
 use Rattle.std.proofs.lemmas.Option.{none-some, same_Some}
+use Rattle.std.proofs.lemmas.List.{length-map}
 use Rattle.sg_forms.specs.Spelling.{IsOpening}
 use Rattle.sg_grammar.proofs.Counting.{most_lines_stand}
 use Rattle.sg_plan.proofs.PlanLaws.{bounds}
@@ -12,19 +13,16 @@ use Rattle.sg_plan.specs.Limits.{fault_of}
 use Rattle.sg_plan.specs.declared.plan.Plan.{Plan}
 use Rattle.sg_plan.specs.declared.plan.Side.{Side}
 use Rattle.sg_plan.specs.declared.plan.Side.TheVariants as side
-use Rattle.sg_record.proofs.WholeLaw.{whole_are_formed}
 use Rattle.sg_record.specs.Laws.{AreLinesOf}
 use Rattle.sg_record.specs.Lines.{texts_in}
 use Rattle.sg_record.specs.Places.{places_in, walk_of}
 use Rattle.sg_record.specs.declared.record.Record.{Record}
 use Rattle.sg_check.specs.Printings.{StandsWith}
-use Rattle.sg_check.specs.Verdict.{IsGood, IsVerdict}
-use Rattle.sg_check.specs.declared.judged.Judged.TheVariants as judged
+use Rattle.sg_fronts.proofs.OfRecord.{one_record, walks}
 use Rattle.sg_facts.specs.Items.{item_in, row_in}
 use Rattle.sg_sheet.proofs.Listing.{sheet_printed}
 use Rattle.sg_sheet.specs.inside.Listed.{line_due, sheet_due}
 use Rattle.sg_sheet.specs.Sheet.{sheet_lines}
-use Rattle.sg_parts.proofs.Accepting.{walks}
 use Rattle.sg_parts.proofs.Cuts.{joined_both}
 use Rattle.sg_parts.proofs.Printed.{sheet_few}
 use Rattle.sg_parts.specs.Faults.{HasFault, IsAccepting, IsPrintingOff, IsSheetOf, blank, lines_behind, record_lines}
@@ -37,37 +35,29 @@ use Rattle.sg_parts.specs.inside.Reading.{HasCompletion, IsRecordRead, IsRowsFau
 
 -- THE RECORD
 
-pub record_read : (lines : List (List ℕ)) (posted : Record) → AreLinesOf lines posted → IsAccepting lines → IsRecordRead lines posted
-record_read lines posted are good = record {
-  accepted = record { words = are.words; formed = are.formed; totals = good.0; yes = subst (λ (l : List (List ℕ)). IsVerdict l (judged.Yes good.0)) are.text good.1 };
-  text = are.text;
-}
-
 -- lines whose verdict is yes are a record's
-pub record_of : (lines : List (List ℕ)) → IsAccepting lines → (posted : Record) × AreLinesOf lines posted
-record_of lines accepting =
-    let good : IsGood lines accepting.0 = accepting.1 in
-    let found = whole_are_formed lines good.whole in
-    (found.0, record { words = found.1; formed = found.2; text = found.3 })
+record_of : (lines : List (List ℕ)) (good : IsAccepting lines) → AreLinesOf lines good.0
+record_of lines (posted, accepted, text) = record { words = accepted.words; formed = accepted.formed; text = text }
+
+pub record_read : (lines : List (List ℕ)) (posted : Record) → AreLinesOf lines posted → IsAccepting lines → IsRecordRead lines posted
+record_read lines posted are good = record { accepted = subst IsAccepted (one_record lines good.0 posted (record_of lines good) are) good.1; text = are.text }
 
 pub record_there : (lines : List (List ℕ)) → IsAccepting lines → ((posted : Record) → AreLinesOf lines posted → None ≡ Some posted) → ⊥
-record_there lines good only = let found = record_of lines good in absurd (none-some found.0 (only found.0 found.1))
+record_there lines good only = absurd (none-some good.0 (only good.0 (record_of lines good)))
 
 -- where no line `printing` stands behind it, this is missing
 pub printing_missing : (lines : List (List ℕ)) (before : ℕ) → IsAccepting lines → record_lines lines ≡ lines → lines_behind lines ≡ [] → before ≡ length lines → HasFault lines (fault.Printing (before + 1))
-printing_missing lines before good same none is =
-    let found = record_of lines good in
-    let read = record_read lines found.0 found.1 good in (
-      found.0,
-      0,
-      record { accepted = read.accepted; text = same ∙ read.text },
-      subst (λ (l : List (List ℕ)). IsPrintingOff found.0.plan l 0) (sym none) refl,
-      omega (arith, is, ap length same),
-    )
+printing_missing lines before (posted, accepted, text) same none is = (
+  posted,
+  0,
+  record { accepted = accepted; text = same ∙ text },
+  subst (λ (l : List (List ℕ)). IsPrintingOff posted.plan l 0) (sym none) refl,
+  omega (arith, is, ap length same),
+)
 
 -- an accepted record has few lines
 pub record_few : (posted : Record) → IsAccepted posted → length (texts_in posted) ≤ 1200000
-record_few posted accepted = most_lines_stand (texts_in posted) (walk_of posted) (walks posted accepted)
+record_few posted accepted = most_lines_stand (texts_in posted) (walk_of posted) (walks posted accepted.words accepted.formed)
 
 -- THE LINES OF ALL PARTS
 
@@ -192,9 +182,5 @@ due_few plan fine =
     let up : length (ballot_styles plan.runs) * (length plan.races + 1) ≤ length (ballot_styles plan.runs) * 33 = mul-le-mul_left (length (ballot_styles plan.runs)) races in
     omega (arith, sheet_few plan fine, up, few)
 
-maps_long : {A B : Type 0} (f : A → B) (xs : List A) → length (map f xs) ≡ length xs
-maps_long f [] = refl
-maps_long f (x ∷ xs) = ap suc (maps_long f xs)
-
 pub due_long : (plan : Plan) → length (sheet_due plan) ≡ length (sheet_lines plan blank)
-due_long plan = sym (maps_long (line_due blank) (sheet_due plan)) ∙ ap length (sheet_printed plan blank)
+due_long plan = sym (length-map (sheet_due plan) (line_due blank)) ∙ ap length (sheet_printed plan blank)

@@ -19,9 +19,8 @@ use Rattle.sg_check.specs.Completions.{Completion, IsHalfOf, posted_half}
 use Rattle.sg_check.specs.Kinds.{opens_digest, half_kind}
 use Rattle.sg_check.specs.Facts.{half_commitment}
 use Rattle.sg_check.specs.Printings.{Printing, StandsWith}
-use Rattle.sg_check.specs.Verdict.{IsVerdict}
 use Rattle.sg_check.specs.declared.judged.Judged.TheVariants as judged
-use Rattle.sg_check.specs.declared.judged.Total.{Total}
+use Rattle.sg_fronts.specs.ByRecords.{Says}
 use Rattle.sg_parts.specs.Given.{AreCodes, ArePrinted, Given, IsAccepted, IsGiven, IsRowGiven, completion_line, completion_of, printing_line, printing_of, row_text, sheet_texts}
 use Rattle.sg_parts.specs.declared.parts.RecountFault.{RecountFault}
 use Rattle.sg_parts.specs.declared.parts.RecountFault.TheVariants as fault
@@ -39,9 +38,9 @@ abbrev pub lines_behind : List (List ℕ) → List (List ℕ)
 lines_behind [] = []
 lines_behind (line ∷ lines) = (if bytes_eq line printing_line then line ∷ lines else lines_behind lines)
 
--- the verdict on the lines of a record is yes
+-- the lines are those of a record whose verdict is yes
 abbrev pub IsAccepting : List (List ℕ) → Type 0
-IsAccepting lines = (totals : List Total) × IsVerdict lines (judged.Yes totals)
+IsAccepting lines = (posted : Record) × IsAccepted posted × (lines ≡ texts_in posted)
 
 -- a sheet on which nothing is printed
 abbrev pub blank : Printed
@@ -141,7 +140,7 @@ pub record IsRowFault (lines : List (List ℕ)) (given : Given) (race instance r
 
 -- each fault, where none before it holds
 abbrev pub HasFault : List (List ℕ) → RecountFault → Type 0
-HasFault lines (fault.Record number broken) = IsVerdict (record_lines lines) (judged.No number broken)
+HasFault lines (fault.Record number broken) = Says (judged.No number broken) (record_lines lines)
 HasFault lines (fault.Printing number) =
     (posted : Record) × (at : ℕ) × IsRecordOf lines posted × IsPrintingOff posted.plan (lines_behind lines) at × (number ≡ length (record_lines lines) + at + 1)
 HasFault lines (fault.Stand race instance row) =

@@ -18,11 +18,10 @@ use Rattle.sg_record.specs.Lines.{texts_in}
 use Rattle.sg_record.specs.Places.{places_in}
 use Rattle.sg_record.specs.declared.record.Record.{Record}
 use Rattle.sg_check.specs.Completions.{Completion, IsCompletion, OpensNoneTwice}
+use Rattle.sg_check.specs.Judging.{first_late}
 use Rattle.sg_check.specs.Kinds.{has_repeat}
 use Rattle.sg_check.specs.Printings.{IsPrinting, Printing, StandsWith}
-use Rattle.sg_check.specs.Verdict.{IsVerdict}
-use Rattle.sg_check.specs.declared.judged.Judged.TheVariants as judged
-use Rattle.sg_check.specs.declared.judged.Total.{Total}
+use Rattle.sg_fronts.specs.ByRecords.{posted_of}
 use Rattle.sg_facts.specs.Items.{item_in, row_in}
 use Rattle.sg_parts.specs.declared.parts.RowGiven.{RowGiven}
 
@@ -127,12 +126,11 @@ pub record IsGiven (lines : List (List ℕ)) (given : Given) : Type 0 where
   pub openings : AreOpenings given.rows
   pub text : lines ≡ given_texts given
 
--- the verdict on the record's lines is yes
+-- the verdict on the record is yes: it has a text, and none of its lines is bad
 pub record IsAccepted (posted : Record) : Type 0 where
   pub words : HasWords posted
   pub formed : is_formed posted ≡ true
-  pub totals : List Total
-  pub yes : IsVerdict (texts_in posted) (judged.Yes totals)
+  pub none_bad : first_late posted.plan (posted_of posted) ≡ None
 
 -- what holds of all parts that are read: the record's verdict is yes, the printing stands with it, and the completion opens
 -- no commitment twice

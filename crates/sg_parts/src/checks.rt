@@ -120,7 +120,7 @@ fn half_digest(posted: &Record, half: Half) -> Option<Digest>
 }
 
 /// The commitment is there, and this opens it.
-#[tactic(auto, using(sg_check::proofs::Noting::same_texts))]
+#[tactic(auto, using(sg_lists::proofs::Lists::same_bytes_eq))]
 fn opens_digest(digest: Option<Digest>, kind: CommitKind, at: At, opening: &Opening) -> bool
     requires race { at.race < 2 ^ 16 }
     requires instance { at.instance < 2 ^ 16 }

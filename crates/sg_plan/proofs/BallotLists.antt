@@ -4,7 +4,7 @@ use Rattle.std.specs.Option.{option_map_or}
 use Rattle.std.proofs.lemmas.List.{append_assoc, append-nil, length-append, length-replicate, take-append-drop}
 use Rattle.std.proofs.lemmas.List.Sums.{count_by-le-length}
 use Rattle.std.proofs.lemmas.Nat.{mul-le}
-use Rattle.sg_plan.proofs.Counting.{at_run, count_by-append, count_by-before_run, count_by-replicate, count_by-run}
+use Rattle.sg_lists.proofs.Counting.{at_run, count_by-append, count_by-before_run, count_by-replicate, count_by-run}
 use Rattle.sg_plan.specs.Ballots.{ballot_styles, candidates_of, entries_before, entries_of, rows_of, style_has}
 use Rattle.sg_plan.specs.declared.plan.Plan.{Plan}
 use Rattle.sg_plan.specs.declared.plan.Run.{Run}
@@ -49,11 +49,6 @@ counts_within runs at run rest =
 pub rows_of_run : (b : Bool) (count left : ℕ) → left < (if b then count else 0) → (b ≡ true) × (left < count)
 rows_of_run true count left below = (refl, below)
 rows_of_run false count left below = absurd (omega arith)
-
--- at most all
-pub rows_at_most : (b : Bool) (count : ℕ) → (if b then count else 0) ≤ count
-rows_at_most true count = omega arith
-rows_at_most false count = omega arith
 
 -- the next run, in the count of the rows of the first ballots
 pub rows_step : (p : ℕ → Bool) (runs : List Run) (at : ℕ) (run : Run) (rows left total : ℕ) → drop at runs ≡ run ∷ drop (at + 1) runs

@@ -1,9 +1,10 @@
 -- The races of a ballot, and where a paper and they end together.
-use Rattle.std.proofs.Common.{◌≡◌, ℕ, ◌<◌, ◌≤◌, ◌==◌, false, List, [], ◌∷◌, length, drop, Option, None, Some, refl, sym, ◌∙◌, inl, inr, arith}
-use Rattle.std.proofs.lemmas.Bool.{cases_eq, eq-eqb, ne_eqb}
+use Rattle.std.proofs.Common.{◌≡◌, ℕ, ◌<◌, ◌≤◌, ◌==◌, false, List, [], ◌∷◌, length, drop, Option, None, Some, refl, sym, ◌∙◌, arith}
+use Rattle.std.proofs.lemmas.Bool.{ne_eqb}
 use Rattle.std.proofs.lemmas.List.{drop_all, length-drop}
 use Rattle.std.specs.List.{list_any}
 use Rattle.std.specs.Option.{option_map_or}
+use Rattle.sg_lists.proofs.Lists.{drop_is_empty}
 use Rattle.sg_plan.specs.Ballots.{ballot_has, races_of_ballot, races_of_style, style_of_ballot}
 use Rattle.sg_plan.specs.Fates.{is_in, paper_fits}
 use Rattle.sg_plan.specs.declared.plan.Plan.{Plan}
@@ -17,18 +18,6 @@ has_in plan race (Some style) = refl
 -- a ballot has a race that is one of its races
 pub has_among : (plan : Plan) (ballot race : ℕ) → ballot_has plan ballot race ≡ is_in (races_of_ballot plan ballot) race
 has_among plan ballot race = has_in plan race (style_of_ballot plan ballot)
-
--- the rest of a list is empty exactly where the list ends
-rest_length : {A : Type 0} (at : ℕ) (xs : List A) → at ≤ length xs → (length (drop at xs) == 0) ≡ (at == length xs)
-rest_length at xs within =
-    elim (cases_eq at (length xs)) [
-      | inl e ↦
-          let none : length (drop at xs) ≡ 0 = omega (arith, length-drop at xs, e) in
-          eq-eqb (length (drop at xs)) 0 none ∙ sym (eq-eqb at (length xs) e)
-      | inr differ ↦
-          let some : length (drop at xs) ≡ 0 → ⊥ = λ none. differ (omega (arith, none, length-drop at xs, within)) in
-          ne_eqb (length (drop at xs)) 0 some ∙ sym (ne_eqb at (length xs) differ)
-    ]
 
 -- a list too many
 no_race : (plan : Plan) (paper : List (List ℕ)) → 1 ≤ length paper → paper_fits plan [] paper ≡ false
@@ -46,4 +35,4 @@ no_codes plan (race ∷ races) = sym (ne_eqb (length (race ∷ races)) 0 (λ e. 
 -- the paper is at its end: the races are too
 pub paper_done : (plan : Plan) (races : List ℕ) (paper : List (List ℕ)) (at : ℕ) → length paper ≤ at → at ≤ length races → paper_fits plan (drop at races) (drop at paper) ≡ (at == length races)
 paper_done plan races paper at end within =
-    rw (drop_all at paper end) (no_codes plan (drop at races) ∙ rest_length at races within)
+    rw (drop_all at paper end) (no_codes plan (drop at races) ∙ drop_is_empty at races within)

@@ -6,8 +6,10 @@ use Rattle.std.proofs.lemmas.List.{append-nil, get_or-append_right, get_or-repli
 use Rattle.std.proofs.lemmas.List.Sums.{count_by-le-length, sum_by-cons}
 use Rattle.std.proofs.lemmas.Nat.{mul-add-lt}
 use Rattle.std.specs.List.{range_with_len}
+use Rattle.sg_lists.proofs.Bools.{cond_le}
+use Rattle.sg_lists.proofs.Counting.{at_run, count_by-append, count_by-place, count_by-replicate, count_by-run}
+use Rattle.sg_lists.proofs.Lists.{length-take_le}
 use Rattle.sg_plan.proofs.BallotLists.{count-push, split_at_run}
-use Rattle.sg_plan.proofs.Counting.{at_run, count_by-append, count_by-place, count_by-replicate, count_by-run}
 use Rattle.sg_plan.proofs.PlanLaws.{bounds, runs_kept, true-ballot_has}
 use Rattle.sg_plan.proofs.LimitLaws.{passes_tests}
 use Rattle.sg_plan.specs.Ballots.{ballot_has, ballot_row, ballot_styles, ballots_of, rows_of, style_has}
@@ -139,14 +141,9 @@ row_in_run-false p runs place number run rest tells fails =
     fails (row_in_run p runs place number run rest tells)
     ∙ omega arith
 
-short_front : (place : ℕ) (styles : List ℕ) → length (take place styles) ≤ place
-short_front zero styles = omega arith
-short_front (suc place) [] = omega arith
-short_front (suc place) (style ∷ styles) = omega (arith, short_front place styles)
-
 -- no more pass before a place than stand before it
 pub few_before : (p : ℕ → Bool) (place : ℕ) (styles : List ℕ) → count_by p (take place styles) ≤ place
-few_before p place styles = omega (arith, count_by-le-length p (take place styles), short_front place styles)
+few_before p place styles = omega (arith, count_by-le-length p (take place styles), length-take_le place styles)
 
 -- COUNTS BEFORE RUNS
 
@@ -399,11 +396,6 @@ rising-step numbers first at count all below is =
     ∙ (ap (λ (from : ℕ). numbers ++ (first + at) ∷ range_with_len from (count - (at + 1))) (sym next)
     ∙ (ap (λ (n : ℕ). numbers ++ range_with_len (first + at) n) (sym more) ∙ is))
 
--- at most all of a run's ballots
-part_of : (b : Bool) (count : ℕ) → (if b then count else 0) ≤ count
-part_of true count = omega arith
-part_of false count = omega arith
-
 -- how many ballots are left
 pub left-step : (has : ℕ → Bool) (runs : List Run) (at count : ℕ) (run : Run) (most : ℕ) → drop at runs ≡ run ∷ drop (at + 1) runs
     → count + length (ballot_styles (drop at runs)) ≤ most
@@ -411,5 +403,5 @@ pub left-step : (has : ℕ → Bool) (runs : List Run) (at count : ℕ) (run : R
     × (count + (if has run.style then run.count else 0) + length (ballot_styles (drop (at + 1) runs)) ≤ most)
 left-step has runs at count run most next few =
     let left : length (ballot_styles (drop at runs)) ≡ run.count + length (ballot_styles (drop (at + 1) runs)) = ap (λ (list : List Run). length (ballot_styles list)) next ∙ length-run run (drop (at + 1) runs) in
-    let part = part_of (has run.style) run.count in
+    let part = cond_le (has run.style) run.count in
     (omega (arith, left, few), omega (arith, left, few), omega (arith, left, few, part), omega (arith, left, few, part))

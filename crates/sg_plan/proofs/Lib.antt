@@ -1,5 +1,4 @@
 pub mod BallotLists
-pub mod Counting
 pub mod FateLists
 pub mod IndexLists
 pub mod LimitLaws

@@ -1,5 +1,5 @@
 -- Lists that are judged item by item.
-use Rattle.std.proofs.Common.{◌≡◌, ℕ, zero, suc, ◌<◌, ◌≤◌, ◌≢◌, Bool, true, false, ◌&&◌, cond, List, [], ◌∷◌, ◌++◌, length, take, get_or, Option, Some, None, refl, sym, ap, ◌∙◌, arith, bytes_eq}
+use Rattle.std.proofs.Common.{◌≡◌, ℕ, zero, suc, ◌<◌, ◌≤◌, ◌≢◌, Bool, true, false, ◌&&◌, cond, List, [], ◌∷◌, ◌++◌, length, take, get_or, Some, None, refl, sym, ap, ◌∙◌, arith, bytes_eq}
 use Rattle.std.specs.List.{list_any}
 use Rattle.std.specs.Option.{is_none}
 use Rattle.std.proofs.lemmas.Bool.{and_from, and_parts, false_from_ne_true, true≢false}
@@ -7,6 +7,7 @@ use Rattle.std.proofs.lemmas.List.{append_assoc, append-nil, get_or-take, length
 use Rattle.std.proofs.lemmas.List.Elements.{All-from_get_or}
 use Rattle.std.proofs.lemmas.List.Folds.{list_any_at, list_any_none}
 use Rattle.std.proofs.lemmas.Slice.Eq.{bytes_eq-Decides}
+use Rattle.sg_lists.proofs.Options.{is_none-true}
 use Rattle.sg_plan.specs.Limits.{each_keeps, first_bad, first_fault}
 
 -- a list that has an item is judged from its first one on
@@ -44,10 +45,6 @@ each_keeps-push keeps earlier (x ∷ xs) y =
       | false ↦ refl
     ]
 
-is_none-None : {X : Type 0} (o : Option X) → is_none o ≡ true → o ≡ None
-is_none-None None e = refl
-is_none-None (Some x) e = absurd (true≢false (sym e))
-
 -- a list without a fault has an item, and each one passes
 pub first_fault-None : {X : Type 0} (keeps : List X → X → Bool) (xs : List X) → first_fault keeps xs ≡ None → (1 ≤ length xs) × (each_keeps keeps [] xs ≡ true)
 first_fault-None keeps [] e = cc
@@ -56,7 +53,7 @@ first_fault-None keeps (x ∷ xs) e = (omega arith, sym (first_bad-each keeps []
 -- a list of items that pass has no fault
 pub None-first_fault : {X : Type 0} (keeps : List X → X → Bool) (xs : List X) → 1 ≤ length xs → each_keeps keeps [] xs ≡ true → first_fault keeps xs ≡ None
 None-first_fault keeps [] some e = absurd (omega arith)
-None-first_fault keeps (x ∷ xs) some e = is_none-None (first_bad keeps [] (x ∷ xs)) (first_bad-each keeps [] (x ∷ xs) ∙ e)
+None-first_fault keeps (x ∷ xs) some e = is_none-true (first_bad keeps [] (x ∷ xs)) (first_bad-each keeps [] (x ∷ xs) ∙ e)
 
 -- the item at each place passes
 pub each_keeps-at : {X : Type 0} (keeps : List X → X → Bool) (earlier xs : List X) → each_keeps keeps earlier xs ≡ true

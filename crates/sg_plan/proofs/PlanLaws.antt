@@ -2,12 +2,13 @@
 use Rattle.std.proofs.Common.{◌≡◌, ℕ, zero, suc, ◌+◌, ◌-◌, ◌*◌, ◌/◌, ◌<◌, ◌≤◌, ◌≢◌, inl, inr, true, false, List, [], ◌∷◌, length, replicate, get_or, slice_get, All, None, sym, ap, ◌∙◌, arith}
 use Rattle.std.specs.Option.{option_map_or}
 use Rattle.std.proofs.Math.Nat.{mul-add, mul_comm}
-use Rattle.std.proofs.lemmas.Bool.{cases_eq, cases_lt, cases_order, ne_eqb, true≢false}
+use Rattle.std.proofs.lemmas.Bool.{cases_eq, cases_order, ne_eqb, true≢false}
 use Rattle.std.proofs.lemmas.List.{length-append, length-replicate}
 use Rattle.std.proofs.lemmas.Nat.{div-mul-add, div-add-mod', div_below, mod-mul-add, mod_below, mul-add-lt, mul-le, same_from_place}
 use Rattle.std.proofs.lemmas.Option.{get_or_from_slice_get, slice_get-get_or, slice_get_cases}
+use Rattle.sg_lists.proofs.Counting.{count_by-one, count_by-place, count_by-within}
+use Rattle.sg_lists.proofs.Numbers.{factor_above}
 use Rattle.sg_plan.proofs.BallotLists.{rows_of-le}
-use Rattle.sg_plan.proofs.Counting.{count_by-one, count_by-place, count_by-within}
 use Rattle.sg_plan.proofs.LimitLaws.{keeps_limits, passes_tests}
 use Rattle.sg_plan.proofs.LimitTests.{KeepsRaces, KeepsRuns, races-true, runs-true}
 use Rattle.sg_plan.proofs.Lists.{first_fault-None}
@@ -86,17 +87,9 @@ entry_tells plan race ballot column e within =
       ballot_is = record { first = has.first; last = has.last; has = e; row = sym row };
     }
 
--- a race with an entry has a candidate
-some_candidate : (rows candidates entry : ℕ) → entry < rows * candidates → 0 < candidates
-some_candidate rows candidates entry below =
-    elim (cases_lt 0 candidates) [
-      | inl some ↦ some
-      | inr none ↦ let zero_of : candidates ≡ 0 = omega arith in absurd (let less : entry < rows * 0 = rw zero_of at below in omega arith)
-    ]
-
 pub entry_filled : (plan : Plan) (race entry : ℕ) → entry < entries_of plan race → OfBallot plan race entry
 entry_filled plan race entry below =
-    let some = some_candidate (rows_of plan race) (candidates_of plan race) entry below in
+    let some = factor_above (rows_of plan race) (candidates_of plan race) entry below in
     let found = row_filled plan race (entry / candidates_of plan race) (div_below entry (candidates_of plan race) (rows_of plan race) some below) in
     let has = ballot_has-true plan found.ballot race found.has in
     record {

@@ -1,13 +1,15 @@
 -- Fates and claims that fit, one by one.
-use Rattle.std.proofs.Common.{◌≡◌, ℕ, ◌<◌, ◌≤◌, ◌==◌, nat_lt, Bool, true, false, ◌&&◌, ◌||◌, not, cond, inl, inr, All, List, [], ◌∷◌, length, None, refl, sym, subst, ap, ◌∙◌, arith}
+use Rattle.std.proofs.Common.{◌≡◌, ℕ, ◌<◌, ◌≤◌, ◌==◌, nat_lt, Bool, true, false, ◌&&◌, ◌||◌, not, inl, inr, All, List, [], ◌∷◌, length, None, refl, sym, ap, ◌∙◌, arith}
 use Rattle.std.proofs.lemmas.Bool.{and_parts, cases_Bool, cases_lt, eqb-true}
 use Rattle.std.proofs.lemmas.Bool.Decides.{nat_tests}
 use Rattle.std.proofs.lemmas.Bool.{true≢false}
-use Rattle.std.proofs.lemmas.List.Elements.{All-cons, All-head, All-nil, All-tail}
+use Rattle.std.proofs.lemmas.List.Elements.{All-cons, All-nil}
 use Rattle.std.proofs.lemmas.List.Sums.{sum_by-cons}
-use Rattle.std.specs.List.{list_all, list_any}
+use Rattle.std.specs.List.{list_all}
 use Rattle.std.proofs.lemmas.Option.{slice_get_past}
 use Rattle.std.specs.Option.{option_map_or}
+use Rattle.sg_lists.proofs.Bools.{one_if}
+use Rattle.sg_lists.proofs.Tests.{All-list_any}
 use Rattle.sg_plan.specs.Ballots.{ballot_has, ballots_of, candidates_of, is_over, marks_in, races_of_ballot, style_of_ballot, votes_of}
 use Rattle.sg_plan.specs.Codes.{is_code}
 use Rattle.sg_plan.specs.Fates.{detail_fits, fate_fits, has_mark, is_in, mark_fits, marks_differ, paper_fits}
@@ -46,9 +48,6 @@ paper-same plan [] (codes ∷ paper) = refl
 paper-same plan (race ∷ races) [] = refl
 paper-same plan (race ∷ races) (codes ∷ paper) = ap (λ (b : Bool). (length codes == candidates_of plan race && list_all (is_code plan) codes) && b) (paper-same plan races paper)
 
-abbrev tally : Bool → ℕ
-tally b = cond b 1 0
-
 -- no mark is of a race that is not among those that they are of
 abbrev pub IsUnnamed : ℕ → List Mark → Type 0
 IsUnnamed race marks = ((candidate : ℕ) → has_mark marks race candidate ≡ false) × (marks_in race marks ≡ 0)
@@ -63,7 +62,7 @@ unnamed plan races race (mark ∷ marks) fit out =
       | inl here ↦ absurd (true≢false (sym named ∙ (ap (is_in races) (eqb-true mark.race race here) ∙ out)))
       | inr other ↦ (
         λ candidate. ap (λ (b : Bool). (b && mark.candidate == candidate) || has_mark marks race candidate) other ∙ rest.0 candidate,
-        omega (arith, sum_by-cons (λ (m : Mark). tally (m.race == race)) mark marks, ap tally other, rest.1),
+        omega (arith, sum_by-cons (λ (m : Mark). one_if (m.race == race)) mark marks, ap one_if other, rest.1),
       )
     ]
 
@@ -92,14 +91,6 @@ posts-nothing plan ballot race fate.Voided fit lacks = record { marks = λ candi
 
 -- A RACE THAT A BALLOT HAS
 
-any_is : (P : ℕ → Type 0) (race : ℕ) (list : List ℕ) → list_any (λ carried. carried == race) list ≡ true → All P list → P race
-any_is P race [] found all = cc
-any_is P race (x ∷ xs) found all =
-    elim (cases_Bool (x == race)) [
-      | inl here ↦ subst P (eqb-true x race here) (All-head P x xs all)
-      | inr none ↦ any_is P race xs (sym (ap (λ (b : Bool). b || list_any (λ carried. carried == race) xs) none) ∙ found) (All-tail P x xs all)
-    ]
-
 -- only a race of the plan has candidates
 some-within : (plan : Plan) (race : ℕ) → 2 ≤ candidates_of plan race → race < length plan.races
 some-within plan race two =
@@ -114,4 +105,4 @@ some-within plan race two =
 pub has-within : (plan : Plan) (ballot race : ℕ) → fault_of plan ≡ None → ballot_has plan ballot race ≡ true → race < length plan.races
 has-within plan ballot race fine has =
     some-within plan race
-    (any_is (λ (r : ℕ). 2 ≤ candidates_of plan r) race (races_of_ballot plan ballot) (sym (has_among plan ballot race) ∙ has) (ballot_two plan fine (style_of_ballot plan ballot)))
+    (All-list_any (λ (r : ℕ). 2 ≤ candidates_of plan r) race (races_of_ballot plan ballot) (sym (has_among plan ballot race) ∙ has) (ballot_two plan fine (style_of_ballot plan ballot)))

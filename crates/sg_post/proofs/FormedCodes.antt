@@ -1,58 +1,26 @@
--- The codes that an office posts are those that are due, and of the version.
-use Rattle.std.proofs.Common.{◌≡◌, ℕ, zero, suc, ◌+◌, ◌-◌, ◌/◌, ◌<◌, ◌≤◌, ◌==◌, Bool, true, false, ◌||◌, cond, inl, inr, List, [], ◌∷◌, ◌++◌, All, length, map, None, refl, sym, subst, ap, ◌∙◌, arith}
-use Rattle.std.proofs.lemmas.Bool.{and_from, and_parts, cases_Bool, cases_lt, eq-eqb, eqb-true, lt-ltb}
+-- The codes that an office posts are those of the columns, and of the version.
+use Rattle.std.proofs.Common.{◌≡◌, ℕ, zero, suc, ◌+◌, ◌/◌, ◌<◌, ◌≤◌, ◌==◌, true, ◌&&◌, List, [], ◌∷◌, ◌++◌, All, length, take, drop, map, None, refl, sym, ap, ◌∙◌, arith}
+use Rattle.std.proofs.Math.Seq.{drop-append_seam, take-append_seam}
+use Rattle.std.proofs.lemmas.Bool.{and_from, eq-eqb, lt-ltb}
 use Rattle.std.proofs.lemmas.List.Elements.{All-head, All-tail}
-use Rattle.std.proofs.lemmas.Option.{slice_get_past}
-use Rattle.std.specs.List.{flat_map, list_any, range_with_len}
-use Rattle.std.specs.Option.{option_map_or}
+use Rattle.std.specs.List.{flat_map, range_with_len}
 use Rattle.sg_plan.proofs.LimitLaws.{keeps_limits, passes_tests}
 use Rattle.sg_plan.proofs.PlanLaws.{bounds}
-use Rattle.sg_plan.specs.Ballots.{ballot_has, candidates_of, entry_at, races_of_ballot, style_of_ballot}
+use Rattle.sg_plan.specs.Ballots.{candidates_of, entry_at, races_of_ballot, style_of_ballot}
+use Rattle.sg_plan.specs.Codes.{is_code}
 use Rattle.sg_plan.specs.Limits.{fault_of}
 use Rattle.sg_plan.specs.declared.plan.Plan.{Plan}
-use Rattle.sg_plan.specs.declared.plan.Race.{Race}
 use Rattle.sg_streams.specs.Numbers.{numbers_below}
+use Rattle.sg_tables.proofs.Lists.{length-map_below}
 use Rattle.sg_tables.proofs.TableLaws.{code_laws, opening_laws}
 use Rattle.sg_tables.proofs.Values.{code_beside-below, shown_by-below}
 use Rattle.sg_tables.specs.Tables.{code_beside, shown_by}
-use Rattle.sg_forms.specs.declared.line.CodeLine.{CodeLine}
-use Rattle.sg_grammar.specs.Due.{ballot_codes, code_line, each, numbered, race_codes}
-use Rattle.sg_grammar.specs.declared.state.Block.{Block}
-use Rattle.sg_grammar.specs.declared.state.Block.TheVariants as block
-use Rattle.sg_grammar.specs.declared.state.Slot.{Slot}
-use Rattle.sg_record.proofs.BlockTests.{has_among}
+use Rattle.sg_grammar.proofs.Making.{candidates_within}
+use Rattle.sg_record.proofs.BallotRaces.{ballot-each}
 use Rattle.sg_record.proofs.Limits.{ballot_two}
-use Rattle.sg_plan.specs.Codes.{is_code}
-use Rattle.sg_record.specs.Formed.{are_due, is_due}
+use Rattle.sg_record.specs.Formed.{are_columns, each_passes, has_columns}
 use Rattle.sg_post.specs.Posted.{audited_codes, audited_race_codes, code_in_row, code_line_of, race_codes_of}
-
--- THE RACES OF A BALLOT
-
-pub any_is : (P : ℕ → Type 0) (race : ℕ) (list : List ℕ) → list_any (λ carried. carried == race) list ≡ true → All P list → P race
-any_is P race [] found all = cc
-any_is P race (x ∷ xs) found all =
-    elim (cases_Bool (x == race)) [
-      | inl here ↦ subst P (eqb-true x race here) (All-head P x xs all)
-      | inr none ↦ any_is P race xs (sym (ap (λ (b : Bool). b || list_any (λ carried. carried == race) xs) none) ∙ found) (All-tail P x xs all)
-    ]
-
--- only a race of the plan has candidates
-pub some-within : (plan : Plan) (race : ℕ) → 2 ≤ candidates_of plan race → race < length plan.races
-some-within plan race two =
-    elim (cases_lt race (length plan.races)) [
-      | inl within ↦ within
-      | inr past ↦
-          let none : candidates_of plan race ≡ 0 = ap (λ o. option_map_or (λ (r : Race). length r.candidates) o 0) (slice_get_past plan.races race past) in
-          absurd (omega (arith, none, two))
-    ]
-
--- a race that a ballot has is one of the plan
-pub has-within : (plan : Plan) (ballot race : ℕ) → fault_of plan ≡ None → ballot_has plan ballot race ≡ true → race < length plan.races
-has-within plan ballot race fine has =
-    some-within plan race
-    (any_is (λ (r : ℕ). 2 ≤ candidates_of plan r) race (races_of_ballot plan ballot) (sym (has_among plan ballot race) ∙ has) (ballot_two plan fine (style_of_ballot plan ballot)))
-
--- CODES
+use Rattle.sg_post.proofs.Numbered.{flat-numbers}
 
 pub code-below : (plan : Plan) (seed : List ℕ) (ballot race column : ℕ) → fault_of plan ≡ None → race < length plan.races → is_code plan (code_line_of plan seed ballot race column).code ≡ true
 unfolding code_in_row
@@ -65,53 +33,38 @@ code-below plan seed ballot race column fine within =
     ap (is_code plan) is ∙ lt-ltb (code_beside plan seed race (entry / candidates_of plan race) (shown_by plan seed race entry)) _ below
 
 -- a code for each column of a race
-columns-due : (plan : Plan) (seed : List ℕ) (kind : Block) (ballot race at count : ℕ) → fault_of plan ≡ None → race < length plan.races
-    → are_due plan (numbered (code_line kind ballot race) at count) (map (code_line_of plan seed ballot race) (range_with_len at count)) ≡ true
-unfolding numbered code_in_row
-columns-due plan seed kind ballot race at zero fine within = refl
-columns-due plan seed kind ballot race at (suc count) fine within =
+columns-pass : (plan : Plan) (seed : List ℕ) (ballot race at count : ℕ) → fault_of plan ≡ None → race < length plan.races
+    → each_passes (λ column code. (code.race == race && code.column == column) && is_code plan code.code) at (map (code_line_of plan seed ballot race) (range_with_len at count)) ≡ true
+unfolding code_in_row
+columns-pass plan seed ballot race at zero fine within = refl
+columns-pass plan seed ballot race at (suc count) fine within =
     rw (eq-eqb race race refl, eq-eqb at at refl)
-    (and_from (is_code plan (code_line_of plan seed ballot race at).code) _ (code-below plan seed ballot race at fine within) (columns-due plan seed kind ballot race (at + 1) count fine within))
+    (and_from (is_code plan (code_line_of plan seed ballot race at).code) _ (code-below plan seed ballot race at fine within) (columns-pass plan seed ballot race (at + 1) count fine within))
 
-pub race-due : (plan : Plan) (seed : List ℕ) (kind : Block) (ballot race : ℕ) → fault_of plan ≡ None → race < length plan.races
-    → are_due plan (race_codes plan kind ballot race) (race_codes_of plan seed ballot race) ≡ true
+pub race-columns : (plan : Plan) (seed : List ℕ) (ballot race : ℕ) → fault_of plan ≡ None → race < length plan.races → has_columns plan race (race_codes_of plan seed ballot race) ≡ true
 unfolding numbers_below
-race-due plan seed kind ballot race fine within =
-    let same : candidates_of plan race ≡ candidates_of plan race - 0 = omega arith in
-    ap (λ (n : ℕ). are_due plan (race_codes plan kind ballot race) (map (code_line_of plan seed ballot race) (range_with_len 0 n))) same
-    ∙ columns-due plan seed kind ballot race 0 (candidates_of plan race - 0) fine within
+race-columns plan seed ballot race fine within =
+    and_from (length (race_codes_of plan seed ballot race) == candidates_of plan race) _
+    (eq-eqb (length (race_codes_of plan seed ballot race)) (candidates_of plan race) (length-map_below (code_line_of plan seed ballot race) (candidates_of plan race)))
+    (columns-pass plan seed ballot race 0 (candidates_of plan race) fine within)
 
--- AUDITED BALLOTS
+-- and of races, one after another
+races-columns : (plan : Plan) (seed : List ℕ) (ballot : ℕ) (races : List ℕ) → fault_of plan ≡ None → All (λ race. 2 ≤ candidates_of plan race) races
+    → are_columns plan races (flat_map (race_codes_of plan seed ballot) races) ≡ true
+races-columns plan seed ballot [] fine two = refl
+races-columns plan seed ballot (race ∷ races) fine two =
+    let some = All-head (λ r. 2 ≤ candidates_of plan r) race races two in
+    let codes = race_codes_of plan seed ballot race in
+    let others = flat_map (race_codes_of plan seed ballot) races in
+    let many : length codes ≡ candidates_of plan race = length-map_below (code_line_of plan seed ballot race) (candidates_of plan race) in
+    let front : take (candidates_of plan race) (codes ++ others) ≡ codes = ap (λ n. take n (codes ++ others)) (sym many) ∙ take-append_seam codes others in
+    let back : drop (candidates_of plan race) (codes ++ others) ≡ others = ap (λ n. drop n (codes ++ others)) (sym many) ∙ drop-append_seam codes others in
+    rw (front, back)
+    (and_from (has_columns plan race codes) (are_columns plan races others) (race-columns plan seed ballot race fine (candidates_within plan race (omega (arith, some))))
+    (races-columns plan seed ballot races fine (All-tail (λ r. 2 ≤ candidates_of plan r) race races two)))
 
-due-append : (plan : Plan) (due more : List Slot) (codes others : List CodeLine) → are_due plan due codes ≡ true → are_due plan more others ≡ true → are_due plan (due ++ more) (codes ++ others) ≡ true
-due-append plan [] more [] others here there = there
-due-append plan [] more (c ∷ cs) others here there = cc
-due-append plan (d ∷ due) more [] others here there = cc
-due-append plan (d ∷ due) more (c ∷ cs) others here there =
-    let parts = and_parts (is_due plan d c) (are_due plan due cs) here in
-    and_from (is_due plan d c) (are_due plan (due ++ more) (cs ++ others)) parts.0 (due-append plan due more cs others parts.1 there)
-
-audited-race : (plan : Plan) (seed : List ℕ) (ballot race : ℕ) → fault_of plan ≡ None → race < length plan.races
-    → are_due plan (ballot_codes plan ballot race) (audited_race_codes plan seed ballot race) ≡ true
-audited-race plan seed ballot race fine within = at_test (ballot_has plan ballot race)
-  where
-    at_test : (b : Bool) → are_due plan (cond b (race_codes plan block.Audited ballot race) []) (cond b (race_codes_of plan seed ballot race) []) ≡ true
-    at_test true = race-due plan seed block.Audited ballot race fine within
-    at_test false = refl
-
-audited-races : (plan : Plan) (seed : List ℕ) (ballot at count : ℕ) → fault_of plan ≡ None → at + count ≤ length plan.races
-    → are_due plan (numbered (ballot_codes plan ballot) at count) (flat_map (audited_race_codes plan seed ballot) (range_with_len at count)) ≡ true
-unfolding numbered
-audited-races plan seed ballot at zero fine within = refl
-audited-races plan seed ballot at (suc count) fine within =
-    due-append plan (ballot_codes plan ballot at) (numbered (ballot_codes plan ballot) (at + 1) count) (audited_race_codes plan seed ballot at)
-    (flat_map (audited_race_codes plan seed ballot) (range_with_len (at + 1) count))
-    (audited-race plan seed ballot at fine (omega (arith, within))) (audited-races plan seed ballot (at + 1) count fine (omega (arith, within)))
-
-pub audited-due : (plan : Plan) (seed : List ℕ) (ballot : ℕ) → fault_of plan ≡ None
-    → are_due plan (each (ballot_codes plan ballot) 0 (length plan.races)) (audited_codes plan seed ballot) ≡ true
-unfolding audited_codes numbers_below
-audited-due plan seed ballot fine =
-    let same : length plan.races ≡ length plan.races - 0 = omega arith in
-    ap (λ (n : ℕ). are_due plan (each (ballot_codes plan ballot) 0 (length plan.races)) (flat_map (audited_race_codes plan seed ballot) (range_with_len 0 n))) same
-    ∙ audited-races plan seed ballot 0 (length plan.races - 0) fine (omega arith)
+pub audited-columns : (plan : Plan) (seed : List ℕ) (ballot : ℕ) → fault_of plan ≡ None → are_columns plan (races_of_ballot plan ballot) (audited_codes plan seed ballot) ≡ true
+unfolding audited_codes
+audited-columns plan seed ballot fine =
+    rw (flat-numbers (audited_race_codes plan seed ballot) (length plan.races), ballot-each plan ballot (race_codes_of plan seed ballot) fine)
+    (races-columns plan seed ballot (races_of_ballot plan ballot) fine (ballot_two plan fine (style_of_ballot plan ballot)))

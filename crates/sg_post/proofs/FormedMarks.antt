@@ -1,7 +1,8 @@
 -- The codes of a cast ballot stand in the order of the rules.
-use Rattle.std.proofs.Common.{◌≡◌, ℕ, zero, suc, ◌+◌, ◌<◌, ◌≤◌, nat_lt, Bool, true, false, ◌&&◌, ◌||◌, cond, List, [], ◌∷◌, ◌++◌, length, map, filter, refl, arith}
+use Rattle.std.proofs.Common.{◌≡◌, ℕ, zero, suc, ◌+◌, ◌<◌, ◌≤◌, nat_lt, Bool, true, false, ◌&&◌, cond, List, [], ◌∷◌, ◌++◌, length, map, filter, refl, arith}
 use Rattle.std.proofs.lemmas.Bool.{and_from, eq-eqb, le-leb, lt-ltb}
 use Rattle.std.specs.List.{flat_map, range_with_len}
+use Rattle.std.proofs.Math.Bool.{or-true}
 use Rattle.sg_plan.specs.Ballots.{ballot_has, candidates_of, is_over}
 use Rattle.sg_plan.specs.declared.plan.Mark.{Mark}
 use Rattle.sg_plan.specs.declared.plan.Plan.{Plan}
@@ -20,11 +21,7 @@ pub record MarksFit (plan : Plan) (seed : List ℕ) (marks : List Mark) (ballot 
   pub code : (race column : ℕ) → race < length plan.races → column < candidates_of plan race → is_code plan (code_line_of plan seed ballot race column).code ≡ true
 
 follows_in_order-same : (race least column : ℕ) → least ≤ column → follows_in_order race least race column ≡ true
-follows_in_order-same race least column low = rw (eq-eqb race race refl, le-leb least column low) (or_true (nat_lt race race))
-  where
-    or_true : (b : Bool) → (b || true) ≡ true
-    or_true true = refl
-    or_true false = refl
+follows_in_order-same race least column low = rw (eq-eqb race race refl, le-leb least column low) (or-true (nat_lt race race))
 
 -- in one race, from a column on
 race-marks : (plan : Plan) (seed : List ℕ) (marks : List Mark) (ballot race least column count : ℕ) (rest : List CodeLine) → MarksFit plan seed marks ballot → race < length plan.races

@@ -3,6 +3,7 @@ use Rattle.std.proofs.Common.{◌≡◌, ℕ, zero, suc, ◌+◌, ◌<◌, ◌�
 use Rattle.std.proofs.lemmas.Bool.{and_from, and_parts, cases_Bool, eqb-true, le-leb, lt-ltb, ltb-true}
 use Rattle.std.proofs.lemmas.List.Sums.{sum_by-cons}
 use Rattle.std.specs.List.{flat_map, list_all, range_with_len}
+use Rattle.sg_lists.proofs.Bools.{one_if}
 use Rattle.sg_plan.specs.Ballots.{ballot_has, ballots_of, is_over, marks_in, races_of_ballot, votes_of}
 use Rattle.sg_plan.specs.Limits.{fault_of}
 use Rattle.sg_plan.specs.declared.plan.Fate.{Fate}
@@ -11,7 +12,6 @@ use Rattle.sg_plan.specs.declared.plan.Mark.{Mark}
 use Rattle.sg_plan.specs.declared.plan.Plan.{Plan}
 use Rattle.sg_streams.specs.Numbers.{numbers_below}
 use Rattle.sg_grammar.specs.Walk.{is_later, is_race_left}
-use Rattle.sg_grammar.specs.declared.state.Block.TheVariants as block
 use Rattle.sg_plan.specs.Codes.{is_code}
 use Rattle.sg_record.specs.Formed.{are_blocks, are_overs, is_dispute, is_fate}
 use Rattle.sg_record.specs.declared.record.BallotBlock.{BallotBlock}
@@ -21,7 +21,8 @@ use Rattle.sg_post.specs.Fits.{claim_fits, fates_fit}
 use Rattle.sg_post.specs.Posted.{dispute_of, fate_blocks, told_blocks}
 use Rattle.sg_post.specs.declared.story.Claimed.{Claimed}
 use Rattle.sg_post.specs.declared.story.Told.{Told}
-use Rattle.sg_post.proofs.FormedCodes.{audited-due, code-below, has-within, race-due}
+use Rattle.sg_post.proofs.Claims.{has-within}
+use Rattle.sg_post.proofs.FormedCodes.{audited-columns, code-below, race-columns}
 use Rattle.sg_post.proofs.FormedMarks.{MarksFit, cast-are_marks}
 use Rattle.sg_post.proofs.OwnCodes.{marks-have}
 use Rattle.sg_post.proofs.MarkedCodes.{cast_overs}
@@ -38,9 +39,6 @@ marks-fit plan seed ballot marks fine fit = record {
 
 -- RACES THAT ARE OVER
 
-abbrev tally : Bool → ℕ
-tally b = cond b 1 0
-
 -- a ballot has a race that marks name
 named-has : (plan : Plan) (ballot race : ℕ) (marks : List Mark) → list_all (mark_fits plan (races_of_ballot plan ballot)) marks ≡ true → 0 < marks_in race marks → ballot_has plan ballot race ≡ true
 named-has plan ballot race [] fit some = absurd (omega (arith, some))
@@ -48,7 +46,7 @@ named-has plan ballot race (mark ∷ marks) fit some =
     let parts = and_parts (mark_fits plan (races_of_ballot plan ballot) mark) (list_all (mark_fits plan (races_of_ballot plan ballot)) marks) fit in
     elim (cases_Bool (mark.race == race)) [
       | inl here ↦ subst (λ (r : ℕ). ballot_has plan ballot r ≡ true) (eqb-true mark.race race here) (mark-fits plan ballot mark parts.0).0
-      | inr none ↦ named-has plan ballot race marks parts.1 (omega (arith, some, sum_by-cons (λ (m : Mark). tally (m.race == race)) mark marks, ap tally none))
+      | inr none ↦ named-has plan ballot race marks parts.1 (omega (arith, some, sum_by-cons (λ (m : Mark). one_if (m.race == race)) mark marks, ap one_if none))
     ]
 
 over-has : (plan : Plan) (ballot race : ℕ) (marks : List Mark) → list_all (mark_fits plan (races_of_ballot plan ballot)) marks ≡ true → is_over plan marks race ≡ true → ballot_has plan ballot race ≡ true
@@ -100,7 +98,7 @@ fate-blocks plan seed last ballot (fate.Cast marks) rest fine later fit behind =
     let tests = and_parts (list_all (mark_fits plan (races_of_ballot plan ballot)) marks) (marks_differ marks) fit in
     rw (later, cast-are_marks plan seed marks ballot (marks-fit plan seed ballot marks fine tests.0), cast-are_overs plan ballot marks tests.0) behind
 fate-blocks plan seed last ballot fate.Spoiled rest fine later fit behind = rw later behind
-fate-blocks plan seed last ballot (fate.Audited paper) rest fine later fit behind = rw (later, sym (paper-same plan (races_of_ballot plan ballot) paper) ∙ fit, audited-due plan seed ballot fine) behind
+fate-blocks plan seed last ballot (fate.Audited paper) rest fine later fit behind = rw (later, sym (paper-same plan (races_of_ballot plan ballot) paper) ∙ fit, audited-columns plan seed ballot fine) behind
 fate-blocks plan seed last ballot fate.Voided rest fine later fit behind = at_version (plan.version == 2) refl
   where
     at_version : (b : Bool) → (plan.version == 2) ≡ b → ((is_later plan last ballot && is_fate plan ballot (cond b blocked.Voided blocked.Spoiled)) && are_blocks plan ballot rest) ≡ true
@@ -122,4 +120,4 @@ claims-disputes plan seed (claimed ∷ claims) fine fit =
     let parts = and_parts (claim_fits plan claimed) (list_all (claim_fits plan) claims) fit in
     let tests = and_parts (ballot_has plan claimed.ballot claimed.race) (is_code plan claimed.code) parts.0 in
     let within : claimed.race < length plan.races = has-within plan claimed.ballot claimed.race fine tests.0 in
-    rw (lt-ltb claimed.race (length plan.races) within, tests.0, tests.1, race-due plan seed block.Dispute claimed.ballot claimed.race fine within) (claims-disputes plan seed claims fine parts.1)
+    rw (lt-ltb claimed.race (length plan.races) within, tests.0, tests.1, race-columns plan seed claimed.ballot claimed.race fine within) (claims-disputes plan seed claims fine parts.1)

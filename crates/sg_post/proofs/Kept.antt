@@ -1,11 +1,12 @@
 -- What is kept of the marks, and what stands at a number.
-use Rattle.std.proofs.Common.{◌≡◌, ℕ, ◌+◌, ◌<◌, ◌==◌, Bool, true, false, ◌&&◌, ◌||◌, cond, inl, inr, List, [], ◌∷◌, length, map, get_or, set, length-set, slice_get, Some, refl, sym, ap, ◌∙◌, arith}
+use Rattle.std.proofs.Common.{◌≡◌, ℕ, ◌+◌, ◌<◌, ◌==◌, Bool, true, false, ◌&&◌, ◌||◌, cond, inl, inr, List, [], ◌∷◌, length, map, get_or, set, length-set, slice_get, Some, sym, ap, ◌∙◌, arith}
 use Rattle.std.specs.Prelude.{replicate}
 use Rattle.std.proofs.lemmas.Option.{get_or_from_slice_get, slice_get_within}
 use Rattle.std.specs.List.{list_any}
 use Rattle.std.proofs.lemmas.Bool.{cases_eq, eq-eqb, ne_eqb}
 use Rattle.std.proofs.lemmas.List.{get_or-set_other, get_or-set_same, get_or-replicate, length-replicate, same_lists}
 use Rattle.std.proofs.lemmas.List.Folds.{list_any-append}
+use Rattle.std.proofs.Math.Bool.{or-false, or-true, and-false}
 use Rattle.sg_plan.specs.Ballots.{entries_of}
 use Rattle.sg_plan.specs.declared.plan.Plan.{Plan}
 use Rattle.sg_streams.specs.Numbers.{numbers_below}
@@ -20,14 +21,6 @@ pub leads-more : (plan : Plan) (seed : List ℕ) (race : ℕ) (marks : List Bool
 leads-more plan seed race marks place entry =
     ap (list_any (leads_to plan seed race marks place)) (numbers_below-push entry) ∙ list_any-append (leads_to plan seed race marks place) (numbers_below entry) (entry ∷ [])
 
-or_false : (b : Bool) → (b || false) ≡ b
-or_false true = refl
-or_false false = refl
-
-or_true : (b : Bool) → (b || true) ≡ true
-or_true true = refl
-or_true false = refl
-
 pub map-same : {A : Type 0} (f g : ℕ → A) (count : ℕ) (d : A) → ((k : ℕ) → k < count → f k ≡ g k) → map f (numbers_below count) ≡ map g (numbers_below count)
 map-same f g count d same =
     same_lists (map f (numbers_below count)) (map g (numbers_below count)) (length-map_below f count ∙ sym (length-map_below g count))
@@ -40,12 +33,8 @@ places-same plan seed race entry marks none =
     map-same (λ place. list_any (leads_to plan seed race marks place) (numbers_below entry)) (λ place. list_any (leads_to plan seed race marks place) (numbers_below (entry + 1))) (entries_of plan race) false
     (λ place less. sym (leads-more plan seed race marks place entry
     ∙ (ap (λ (b : Bool). list_any (leads_to plan seed race marks place) (numbers_below entry) || ((path_of plan seed race entry == place && b) || false)) none
-    ∙ (ap (λ (b : Bool). list_any (leads_to plan seed race marks place) (numbers_below entry) || (b || false)) (and_false (path_of plan seed race entry == place))
-    ∙ or_false (list_any (leads_to plan seed race marks place) (numbers_below entry))))))
-  where
-    and_false : (b : Bool) → (b && false) ≡ false
-    and_false true = refl
-    and_false false = refl
+    ∙ (ap (λ (b : Bool). list_any (leads_to plan seed race marks place) (numbers_below entry) || (b || false)) (and-false (path_of plan seed race entry == place))
+    ∙ or-false (list_any (leads_to plan seed race marks place) (numbers_below entry))))))
 
 -- a marked one sets its own
 pub places-set : (plan : Plan) (seed : List ℕ) (race entry : ℕ) (marks : List Bool) → has_bit marks entry ≡ true → path_of plan seed race entry < entries_of plan race
@@ -61,16 +50,16 @@ places-set plan seed race entry marks marked within =
     (λ place d inside.
     let less : place < n = omega (arith, inside, long) in
     let now : after place ≡ (before place || (at == place && true)) =
-    leads-more plan seed race marks place entry ∙ (ap (λ (b : Bool). before place || b) (or_false (at == place && has_bit marks entry)) ∙ ap (λ (b : Bool). before place || (at == place && b)) marked) in
+    leads-more plan seed race marks place entry ∙ (ap (λ (b : Bool). before place || b) (or-false (at == place && has_bit marks entry)) ∙ ap (λ (b : Bool). before place || (at == place && b)) marked) in
     elim (cases_eq place at) [
       | inl here ↦
           ap (λ (k : ℕ). get_or (set list at true) k d) here
           ∙ (get_or-set_same list at true d (omega (arith, within, length-map_below before n))
-          ∙ sym (get_or-map_below after n place d less ∙ (now ∙ (ap (λ (b : Bool). before place || (b && true)) (eq-eqb at place (sym here)) ∙ or_true (before place)))))
+          ∙ sym (get_or-map_below after n place d less ∙ (now ∙ (ap (λ (b : Bool). before place || (b && true)) (eq-eqb at place (sym here)) ∙ or-true (before place)))))
       | inr other ↦
           get_or-set_other list at place true d other
           ∙ (get_or-map_below before n place d less
-          ∙ sym (get_or-map_below after n place d less ∙ (now ∙ (ap (λ (b : Bool). before place || (b && true)) (ne_eqb at place (λ same. other (sym same))) ∙ or_false (before place)))))
+          ∙ sym (get_or-map_below after n place d less ∙ (now ∙ (ap (λ (b : Bool). before place || (b && true)) (ne_eqb at place (λ same. other (sym same))) ∙ or-false (before place)))))
     ])
 
 -- one more entry

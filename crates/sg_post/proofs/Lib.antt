@@ -1,7 +1,6 @@
 pub mod Audits
 pub mod Bytes
 pub mod Claims
-pub mod Each
 pub mod FormedCodes
 pub mod FormedMarks
 pub mod FormedStory

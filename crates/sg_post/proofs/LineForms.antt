@@ -1,6 +1,8 @@
 -- The lines as they are written are those of the record.
 use Rattle.std.proofs.Common.{◌≡◌, ℕ, ◌<◌, ◌==◌, Bool, true, false, cond, List, [], ◌∷◌, ◌++◌, length, map, filter, get_or, refl, sym, ap, ◌∙◌, append-nil}
 use Rattle.std.specs.List.{flat_map, list_any}
+use Rattle.std.proofs.lemmas.List.Folds.{flat_map-map}
+use Rattle.sg_lists.proofs.Lists.{flat_map-same, map-flat_map, map-map, map-single}
 use Rattle.sg_plan.specs.Ballots.{ballot_row, candidates_of, entries_of, races_of_ballot}
 use Rattle.sg_plan.specs.declared.plan.Draw.{Draw}
 use Rattle.sg_plan.specs.declared.plan.Fate.{Fate}
@@ -21,7 +23,7 @@ use Rattle.sg_post.specs.declared.story.Claimed.{Claimed}
 use Rattle.sg_post.specs.declared.story.Told.{Told}
 use Rattle.sg_post.proofs.Claims.{PostsNothing}
 use Rattle.sg_post.proofs.Made.{race-list}
-use Rattle.sg_post.proofs.Numbered.{any-passing, codes-of, each-no, each-same, flat-map, flat-numbers, flat-same, flat-twice, indexed-numbers, map-flat, map-passing, map-single, map-twice, own-codes}
+use Rattle.sg_post.proofs.Numbered.{any-passing, codes-of, each-no, each-same, flat-numbers, flat-twice, indexed-numbers, map-passing, own-codes}
 
 -- COMMITMENTS
 
@@ -51,7 +53,7 @@ marked-are : (plan : Plan) (seed : List ℕ) (ballot : ℕ) (what : Fate) (race 
     → map Code (marked_codes plan seed ballot what race) ≡ marked_row_codes plan seed race (ballot_row plan race ballot) what
 marked-are plan seed ballot what race =
     let row = ballot_row plan race ballot in
-    map-twice Code (code_in_row plan seed race row) (marked_columns plan seed race row what)
+    map-map Code (code_in_row plan seed race row) (marked_columns plan seed race row what)
     ∙ map-passing (λ column. Code (code_in_row plan seed race row column)) (column_marked plan seed race row what) (numbers_below (candidates_of plan race))
     ∙ flat-numbers (marked_code plan seed race row what) (candidates_of plan race)
 
@@ -84,14 +86,14 @@ cast-is plan seed told marks is =
 pub row_codes-are : (plan : Plan) (seed : List ℕ) (ballot race : ℕ) → map Code (race_codes_of plan seed ballot race) ≡ row_codes plan seed race (ballot_row plan race ballot)
 row_codes-are plan seed ballot race =
     let row = ballot_row plan race ballot in
-    map-twice Code (code_in_row plan seed race row) (numbers_below (candidates_of plan race))
+    map-map Code (code_in_row plan seed race row) (numbers_below (candidates_of plan race))
     ∙ map-single (λ column. Code (code_in_row plan seed race row column)) (numbers_below (candidates_of plan race))
     ∙ flat-numbers (row_code plan seed race row) (candidates_of plan race)
 
 audited-codes : (plan : Plan) (seed : List ℕ) (ballot : ℕ) → map Code (audited_codes plan seed ballot) ≡ each (audited_race plan seed ballot) 0 (length plan.races)
 unfolding audited_codes
 audited-codes plan seed ballot =
-    map-flat Code (audited_race_codes plan seed ballot) (numbers_below (length plan.races)) ∙ flat-numbers (audited_race plan seed ballot) (length plan.races)
+    map-flat_map Code (audited_race_codes plan seed ballot) (numbers_below (length plan.races)) ∙ flat-numbers (audited_race plan seed ballot) (length plan.races)
 
 pub audited-is : (plan : Plan) (seed : List ℕ) (told : Told) (paper : List (List ℕ)) → told.fate ≡ fate.Audited paper
     → told_lines plan seed told ≡ audited_block plan seed told.ballot paper
@@ -125,8 +127,8 @@ openings-are plan seed fates draw race instance within less =
 
 pub claims-are : (plan : Plan) (seed : List ℕ) (claims : List Claimed) → flat_map dispute_lines (map (dispute_of plan seed) claims) ≡ flat_map (claim_lines plan seed) claims
 claims-are plan seed claims =
-    flat-map dispute_lines (dispute_of plan seed) claims
-    ∙ flat-same (λ claimed. dispute_lines (dispute_of plan seed claimed)) (claim_lines plan seed) claims
+    flat_map-map dispute_lines (dispute_of plan seed) claims
+    ∙ flat_map-same (λ claimed. dispute_lines (dispute_of plan seed claimed)) (claim_lines plan seed) claims
     (λ claimed. ap (λ l. Dispute claimed.ballot claimed.race claimed.code claimed.word ∷ l) (row_codes-are plan seed claimed.ballot claimed.race))
 
 -- OTHER BALLOTS

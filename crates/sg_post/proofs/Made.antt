@@ -7,7 +7,10 @@ use Rattle.std.proofs.lemmas.Bool.Decides.{nat_tests}
 use Rattle.std.proofs.lemmas.List.{get_or-replicate, get_or-set_other, get_or-set_same, length-replicate, same_lists}
 use Rattle.std.proofs.lemmas.List.Folds.{list_any-append}
 use Rattle.std.proofs.lemmas.List.Sums.{count_by-le-length, sum_by-cons}
-use Rattle.sg_plan.proofs.Counting.{count_by-append}
+use Rattle.std.proofs.Math.Bool.{and-false, or-false, and-true}
+use Rattle.sg_lists.proofs.Bools.{one_if}
+use Rattle.sg_lists.proofs.Counting.{count_by-append}
+use Rattle.sg_lists.proofs.Sums.{sum-range}
 use Rattle.sg_plan.specs.Ballots.{candidates_of, entries_of}
 use Rattle.sg_plan.specs.declared.plan.Plan.{Plan}
 use Rattle.sg_streams.proofs.NumberLists.{length-numbers_below, numbers_below-none, numbers_below-push}
@@ -63,21 +66,9 @@ any-same : (f g : ℕ → Bool) (count : ℕ) → ((k : ℕ) → k < count → f
 unfolding numbers_below
 any-same f g count same = any-range f g 0 count (λ k less. same k (omega (arith, less)))
 
-abbrev tally : Bool → ℕ
-tally b = cond b 1 0
-
-count-range : (f g : ℕ → Bool) (at count : ℕ) → ((k : ℕ) → k < at + count → f k ≡ g k) → count_by f (range_with_len at count) ≡ count_by g (range_with_len at count)
-count-range f g at zero same = refl
-count-range f g at (suc count) same =
-    let rest : count_by f (range_with_len (at + 1) count) ≡ count_by g (range_with_len (at + 1) count) = count-range f g (at + 1) count (λ k less. same k (omega (arith, less))) in
-    let left : count_by f (range_with_len at (suc count)) ≡ tally (f at) + count_by f (range_with_len (at + 1) count) = sum_by-cons (λ (k : ℕ). tally (f k)) at (range_with_len (at + 1) count) in
-    let right : count_by g (range_with_len at (suc count)) ≡ tally (g at) + count_by g (range_with_len (at + 1) count) = sum_by-cons (λ (k : ℕ). tally (g k)) at (range_with_len (at + 1) count) in
-    let here : tally (f at) ≡ tally (g at) = ap tally (same at (omega arith)) in
-    omega (arith, left, right, here, rest)
-
-count-same : (f g : ℕ → Bool) (count : ℕ) → ((k : ℕ) → k < count → f k ≡ g k) → count_by f (numbers_below count) ≡ count_by g (numbers_below count)
+pub count-same : (f g : ℕ → Bool) (count : ℕ) → ((k : ℕ) → k < count → f k ≡ g k) → count_by f (numbers_below count) ≡ count_by g (numbers_below count)
 unfolding numbers_below
-count-same f g count same = count-range f g 0 count (λ k less. same k (omega (arith, less)))
+count-same f g count same = sum-range (λ k. one_if (f k)) (λ k. one_if (g k)) 0 count (λ k after below. ap one_if (same k (omega (arith, below))))
 
 -- the places
 pub places-are : (plan : Plan) (seed : List ℕ) (fates : List Told) → map (race_places_by plan seed (by_entry plan (is_entry_marked plan seed fates))) (numbers_below (length plan.races)) ≡ by_entry plan (is_place_set plan seed fates)
@@ -106,13 +97,9 @@ totals-are plan seed fates =
 
 -- VOTES, place after place
 
-and_false : (b : Bool) → (b && false) ≡ false
-and_false true = refl
-and_false false = refl
-
-pub votes-push : (p : ℕ → Bool) (n : ℕ) → count_by p (numbers_below (n + 1)) ≡ count_by p (numbers_below n) + tally (p n)
+pub votes-push : (p : ℕ → Bool) (n : ℕ) → count_by p (numbers_below (n + 1)) ≡ count_by p (numbers_below n) + one_if (p n)
 votes-push p n =
-    let one : count_by p (n ∷ []) ≡ tally (p n) + 0 = sum_by-cons (λ (k : ℕ). tally (p k)) n [] in
+    let one : count_by p (n ∷ []) ≡ one_if (p n) + 0 = sum_by-cons (λ (k : ℕ). one_if (p k)) n [] in
     ap (count_by p) (numbers_below-push n) ∙ (count_by-append p (numbers_below n) (n ∷ []) ∙ omega (arith, one))
 
 -- no place has no votes
@@ -129,7 +116,7 @@ pub votes-unset : (places : List Bool) (candidates place : ℕ) → has_bit plac
 votes-unset places candidates place unset =
     map-same (λ candidate. count_by (is_vote places candidates candidate) (numbers_below place)) (λ candidate. count_by (is_vote places candidates candidate) (numbers_below (place + 1))) candidates 0
     (λ candidate less.
-    let here : tally (is_vote places candidates candidate place) ≡ 0 = ap (λ (b : Bool). tally (place % candidates == candidate && b)) unset ∙ ap tally (and_false (place % candidates == candidate)) in
+    let here : one_if (is_vote places candidates candidate place) ≡ 0 = ap (λ (b : Bool). one_if (place % candidates == candidate && b)) unset ∙ ap one_if (and-false (place % candidates == candidate)) in
     omega (arith, votes-push (is_vote places candidates candidate) place, here))
 
 -- an item that is put into a list made number by number
@@ -155,18 +142,14 @@ votes-set places candidates place is within =
     let before : ℕ → ℕ = λ candidate. count_by (is_vote places candidates candidate) (numbers_below place) in
     let after : ℕ → ℕ = λ candidate. count_by (is_vote places candidates candidate) (numbers_below (place + 1)) in
     let at : ℕ = place % candidates in
-    let one : tally (is_vote places candidates at place) ≡ 1 = ap (λ (b : Bool). tally (at == at && b)) is ∙ ap (λ (b : Bool). tally (b && true)) (eq-eqb at at refl) in
+    let one : one_if (is_vote places candidates at place) ≡ 1 = ap (λ (b : Bool). one_if (at == at && b)) is ∙ ap (λ (b : Bool). one_if (b && true)) (eq-eqb at at refl) in
     ap (λ n. set (map before (numbers_below candidates)) at (n + 1)) (get_or-map_below before candidates at 0 within)
     ∙ set-item before after candidates at (before at + 1) within (omega (arith, votes-push (is_vote places candidates at) place, one))
     (λ k other.
-    let none : tally (is_vote places candidates k place) ≡ 0 = ap (λ (b : Bool). tally (b && has_bit places place)) (ne_eqb at k (λ same. other (sym same))) in
+    let none : one_if (is_vote places candidates k place) ≡ 0 = ap (λ (b : Bool). one_if (b && has_bit places place)) (ne_eqb at k (λ same. other (sym same))) in
     omega (arith, votes-push (is_vote places candidates k) place, none))
 
 -- AUDITED BALLOTS
-
-or_false : (b : Bool) → (b || false) ≡ b
-or_false true = refl
-or_false false = refl
 
 eqb-turned : (a b : ℕ) → (a == b) ≡ (b == a)
 eqb-turned a b = grind (arith, nat_tests)
@@ -178,19 +161,15 @@ audited-next fates told n true is below =
     set-bit (is_audited_ballot fates) n told.ballot below
     ∙ map-same (λ k. is_audited_ballot fates k || k == told.ballot) (is_audited_ballot (fates ++ told ∷ [])) n false
     (λ k less.
-    ap (λ (b : Bool). is_audited_ballot fates k || b) (eqb-turned k told.ballot ∙ sym (and_true (told.ballot == k)) ∙ ap (λ (b : Bool). told.ballot == k && b) is ∙ sym (or_false (told.ballot == k && is_audit_fate told.fate)))
+    ap (λ (b : Bool). is_audited_ballot fates k || b) (eqb-turned k told.ballot ∙ sym (and-true (told.ballot == k)) ∙ ap (λ (b : Bool). told.ballot == k && b) is ∙ sym (or-false (told.ballot == k && is_audit_fate told.fate)))
     ∙ sym (list_any-append (λ (t : Told). t.ballot == k && is_audit_fate t.fate) fates (told ∷ [])))
-  where
-    and_true : (b : Bool) → (b && true) ≡ b
-    and_true true = refl
-    and_true false = refl
 audited-next fates told n false is below =
     map-same (is_audited_ballot fates) (is_audited_ballot (fates ++ told ∷ [])) n false
     (λ k less.
     sym (list_any-append (λ (t : Told). t.ballot == k && is_audit_fate t.fate) fates (told ∷ [])
     ∙ ap (λ (b : Bool). is_audited_ballot fates k || ((told.ballot == k && b) || false)) (sym is)
-    ∙ ap (λ (b : Bool). is_audited_ballot fates k || (b || false)) (and_false (told.ballot == k))
-    ∙ or_false (is_audited_ballot fates k)))
+    ∙ ap (λ (b : Bool). is_audited_ballot fates k || (b || false)) (and-false (told.ballot == k))
+    ∙ or-false (is_audited_ballot fates k)))
 
 pub audited-none : (n : ℕ) → replicate n false ≡ map (is_audited_ballot []) (numbers_below n)
 audited-none n =

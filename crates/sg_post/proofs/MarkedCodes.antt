@@ -1,6 +1,7 @@
 -- The codes that a cast ballot marks, race by race, and the answers to claims.
-use Rattle.std.proofs.Common.{◌≡◌, ℕ, ◌==◌, Bool, true, false, ◌&&◌, ◌||◌, not, cond, List, [], ◌∷◌, ◌++◌, length, map, filter, refl, sym, ap, ◌∙◌}
+use Rattle.std.proofs.Common.{◌≡◌, ℕ, ◌==◌, Bool, true, false, ◌&&◌, ◌||◌, not, cond, List, [], ◌∷◌, length, map, filter, refl, sym, ap, ◌∙◌}
 use Rattle.std.specs.List.{flat_map, list_any}
+use Rattle.sg_lists.proofs.Lists.{flat_map-same}
 use Rattle.sg_plan.specs.Ballots.{ballot_row, candidates_of, entry_at, is_over}
 use Rattle.sg_plan.specs.Fates.{has_mark}
 use Rattle.sg_plan.specs.declared.plan.ClaimWord.TheVariants as answer
@@ -64,13 +65,9 @@ columns-counted plan seed marks ballot race false = ap (map (code_line_of plan s
 pub marked-counted : (plan : Plan) (seed : List ℕ) (marks : List Mark) (ballot race : ℕ) → marked_codes plan seed ballot (fate.Cast marks) race ≡ counted_codes plan seed marks ballot race
 marked-counted plan seed marks ballot race = columns-counted plan seed marks ballot race (is_over plan marks race)
 
-flat-same : {A B : Type 0} (f g : A → List B) (xs : List A) → ((x : A) → f x ≡ g x) → flat_map f xs ≡ flat_map g xs
-flat-same f g [] same = refl
-flat-same f g (x ∷ xs) same = ap (λ l. l ++ flat_map f xs) (same x) ∙ ap (λ l. g x ++ l) (flat-same f g xs same)
-
 pub cast-counted : (plan : Plan) (seed : List ℕ) (marks : List Mark) (ballot : ℕ) → cast_codes_of plan seed marks ballot ≡ cast_list plan seed marks ballot
 unfolding cast_codes
-cast-counted plan seed marks ballot = flat-same (marked_codes plan seed ballot (fate.Cast marks)) (counted_codes plan seed marks ballot) (numbers_below (length plan.races)) (marked-counted plan seed marks ballot)
+cast-counted plan seed marks ballot = flat_map-same (marked_codes plan seed ballot (fate.Cast marks)) (counted_codes plan seed marks ballot) (numbers_below (length plan.races)) (marked-counted plan seed marks ballot)
 
 -- ANSWERS TO CLAIMS
 

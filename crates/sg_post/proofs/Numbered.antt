@@ -2,7 +2,6 @@
 use Rattle.std.proofs.Common.{◌≡◌, ℕ, zero, suc, ◌+◌, ◌-◌, ◌<◌, ◌≤◌, ◌==◌, Bool, true, false, ◌||◌, cond, inl, inr, List, [], ◌∷◌, ◌++◌, map, filter, refl, sym, ap, ◌∙◌, append-nil, arith}
 use Rattle.std.specs.List.{flat_map, list_any, range_with_len}
 use Rattle.std.proofs.lemmas.Bool.{cases_eq, eq-eqb, ne_eqb}
-use Rattle.std.proofs.lemmas.List.{map-append}
 use Rattle.std.proofs.lemmas.List.Elements.{filter-append}
 use Rattle.std.proofs.lemmas.List.Concat.{flat_map-append}
 use Rattle.sg_streams.specs.Numbers.{numbers_below}
@@ -51,14 +50,6 @@ pub flat-numbers : {A : Type 0} (f : ℕ → List A) (count : ℕ) → flat_map 
 unfolding numbers_below
 flat-numbers f count = range-flat f 0 count ∙ ap (numbered f 0) (no_less count)
 
-pub map-flat : {A B C : Type 0} (g : B → C) (f : A → List B) (xs : List A) → map g (flat_map f xs) ≡ flat_map (λ x. map g (f x)) xs
-map-flat g f [] = refl
-map-flat g f (x ∷ xs) = map-append g (f x) (flat_map f xs) ∙ ap (λ l. map g (f x) ++ l) (map-flat g f xs)
-
-pub map-single : {A B : Type 0} (g : A → B) (xs : List A) → map g xs ≡ flat_map (λ x. g x ∷ []) xs
-map-single g [] = refl
-map-single g (x ∷ xs) = ap (λ l. g x ∷ l) (map-single g xs)
-
 pub map-passing : {A B : Type 0} (g : A → B) (p : A → Bool) (xs : List A) → map g (filter p xs) ≡ flat_map (λ x. cond (p x) (g x ∷ []) []) xs
 map-passing g p [] = refl
 map-passing {A} {B} g p (x ∷ xs) = at_test (p x) (map-passing g p xs)
@@ -68,21 +59,9 @@ map-passing {A} {B} g p (x ∷ xs) = at_test (p x) (map-passing g p xs)
     at_test true rest = ap (λ l. g x ∷ l) rest
     at_test false rest = rest
 
-pub map-twice : {A B C : Type 0} (g : B → C) (f : A → B) (xs : List A) → map g (map f xs) ≡ map (λ x. g (f x)) xs
-map-twice g f [] = refl
-map-twice g f (x ∷ xs) = ap (λ l. g (f x) ∷ l) (map-twice g f xs)
-
 pub flat-twice : {A B C : Type 0} (g : B → List C) (f : A → List B) (xs : List A) → flat_map g (flat_map f xs) ≡ flat_map (λ x. flat_map g (f x)) xs
 flat-twice g f [] = refl
 flat-twice g f (x ∷ xs) = flat_map-append g (f x) (flat_map f xs) ∙ ap (λ l. flat_map g (f x) ++ l) (flat-twice g f xs)
-
-pub flat-map : {A B C : Type 0} (g : B → List C) (f : A → B) (xs : List A) → flat_map g (map f xs) ≡ flat_map (λ x. g (f x)) xs
-flat-map g f [] = refl
-flat-map g f (x ∷ xs) = ap (λ l. g (f x) ++ l) (flat-map g f xs)
-
-pub flat-same : {A B : Type 0} (f g : A → List B) (xs : List A) → ((x : A) → f x ≡ g x) → flat_map f xs ≡ flat_map g xs
-flat-same f g [] same = refl
-flat-same f g (x ∷ xs) same = ap (λ l. l ++ flat_map f xs) (same x) ∙ ap (λ l. g x ++ l) (flat-same f g xs same)
 
 -- CODES OF ONE RACE
 

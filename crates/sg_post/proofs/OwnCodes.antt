@@ -2,6 +2,7 @@
 use Rattle.std.proofs.Common.{◌≡◌, ℕ, ◌<◌, ◌==◌, Bool, true, false, ◌&&◌, ◌||◌, cond, inl, inr, List, [], ◌∷◌, length, map, filter, None, refl, sym, subst, ap, ◌∙◌, arith}
 use Rattle.std.proofs.lemmas.Bool.{and_parts, cases_Bool, eqb-true}
 use Rattle.std.specs.List.{list_all}
+use Rattle.sg_lists.proofs.Each.{EachOf, of-flat, of-map, of-passing, of-range}
 use Rattle.sg_plan.specs.Ballots.{ballot_has, candidates_of, is_over, races_of_ballot}
 use Rattle.sg_plan.specs.Limits.{fault_of}
 use Rattle.sg_plan.specs.declared.plan.Mark.{Mark}
@@ -9,8 +10,7 @@ use Rattle.sg_plan.specs.declared.plan.Plan.{Plan}
 use Rattle.sg_streams.specs.Numbers.{numbers_below}
 use Rattle.sg_forms.specs.declared.line.CodeLine.{CodeLine}
 use Rattle.sg_post.specs.Posted.{audited_codes, audited_race_codes, code_line_of, race_codes_of}
-use Rattle.sg_post.proofs.Each.{EachOf, of-flat, of-map, of-passing, of-range}
-use Rattle.sg_post.proofs.FormedCodes.{has-within}
+use Rattle.sg_post.proofs.Claims.{has-within}
 use Rattle.sg_post.proofs.MarkedCodes.{cast-counted, cast_codes_of, counted_codes, shows_mark}
 use Rattle.sg_plan.specs.Fates.{has_mark, mark_fits}
 use Rattle.sg_post.proofs.StoryFits.{mark-fits}
@@ -36,9 +36,9 @@ pub race_codes-of : (Q : CodeLine → Type 0) (plan : Plan) (seed : List ℕ) (b
     → EachOf Q (race_codes_of plan seed ballot race)
 unfolding numbers_below
 race_codes-of Q plan seed ballot race fine holds has =
-    of-map Q (λ column. column < candidates_of plan race) (code_line_of plan seed ballot race) (numbers_below (candidates_of plan race))
-    (λ column below. holds race column has (has-within plan ballot race fine has) below)
-    (of-range (λ column. column < candidates_of plan race) 0 (candidates_of plan race) (λ column below. omega (arith, below)))
+    of-map Q (code_line_of plan seed ballot race) (numbers_below (candidates_of plan race))
+    (of-range (λ column. Q (code_line_of plan seed ballot race column)) 0 (candidates_of plan race)
+    (λ column below. holds race column has (has-within plan ballot race fine has) (omega (arith, below))))
 
 pub cast_codes-of : (Q : CodeLine → Type 0) (plan : Plan) (seed : List ℕ) (marks : List Mark) (ballot : ℕ) → HoldsOfOwn Q plan seed ballot → list_all (mark_fits plan (races_of_ballot plan ballot)) marks ≡ true
     → EachOf Q (cast_codes_of plan seed marks ballot)
@@ -52,10 +52,9 @@ cast_codes-of Q plan seed marks ballot holds fit =
         → EachOf Q (cond b [] (map (code_line_of plan seed ballot race) (filter (shows_mark plan seed marks ballot race) (numbers_below (candidates_of plan race)))))
     at_over race true within = tt
     at_over race false within =
-        of-map Q (λ column. (column < candidates_of plan race) × (ballot_has plan ballot race ≡ true)) (code_line_of plan seed ballot race)
-        (filter (shows_mark plan seed marks ballot race) (numbers_below (candidates_of plan race))) (λ column is. holds race column is.1 within is.0)
-        (of-passing (λ column. (column < candidates_of plan race) × (ballot_has plan ballot race ≡ true)) (shows_mark plan seed marks ballot race) 0 (candidates_of plan race)
-        (λ column below shows. (omega (arith, below), marks-have plan ballot race _ marks fit shows)))
+        of-map Q (code_line_of plan seed ballot race) (filter (shows_mark plan seed marks ballot race) (numbers_below (candidates_of plan race)))
+        (of-passing (λ column. Q (code_line_of plan seed ballot race column)) (shows_mark plan seed marks ballot race) 0 (candidates_of plan race)
+        (λ column below shows. holds race column (marks-have plan ballot race _ marks fit shows) within (omega (arith, below))))
 
 pub audited_codes-of : (Q : CodeLine → Type 0) (plan : Plan) (seed : List ℕ) (ballot : ℕ) → fault_of plan ≡ None → HoldsOfOwn Q plan seed ballot → EachOf Q (audited_codes plan seed ballot)
 unfolding audited_codes numbers_below

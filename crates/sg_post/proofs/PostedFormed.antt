@@ -3,6 +3,7 @@ use Rattle.std.proofs.Common.{◌≡◌, ℕ, zero, suc, ◌+◌, ◌==◌, nat_
 use Rattle.std.proofs.lemmas.Bool.{and_from, and_parts, eq-eqb, le-leb, leb-true}
 use Rattle.std.proofs.lemmas.List.{length-map}
 use Rattle.std.specs.List.{list_all, range_with_len}
+use Rattle.sg_lists.proofs.Tests.{list_all-range}
 use Rattle.sg_plan.specs.Ballots.{candidates_of, entries_of}
 use Rattle.sg_plan.specs.Limits.{fault_of, most_claims}
 use Rattle.sg_plan.specs.declared.plan.Draw.{Draw}
@@ -26,13 +27,9 @@ passes-below : {A : Type 0} (test : ℕ → A → Bool) (f : ℕ → A) (count :
 unfolding numbers_below
 passes-below test f count all = passes-range test f 0 count all
 
-all-range : {A : Type 0} (test : A → Bool) (f : ℕ → A) (at count : ℕ) → ((k : ℕ) → test (f k) ≡ true) → list_all test (map f (range_with_len at count)) ≡ true
-all-range test f at zero all = refl
-all-range test f at (suc count) all = and_from (test (f at)) (list_all test (map f (range_with_len (at + 1) count))) (all at) (all-range test f (at + 1) count all)
-
 all-below : {A : Type 0} (test : A → Bool) (f : ℕ → A) (count : ℕ) → ((k : ℕ) → test (f k) ≡ true) → list_all test (map f (numbers_below count)) ≡ true
 unfolding numbers_below
-all-below test f count all = all-range test f 0 count all
+all-below test f count all = list_all-range test f 0 count all
 
 -- as many as there are numbers
 so_many : {A : Type 0} (f : ℕ → A) (count : ℕ) → (length (map f (numbers_below count)) == count) ≡ true

@@ -4,6 +4,7 @@ use Rattle.std.proofs.lemmas.Bool.{and_parts}
 use Rattle.std.proofs.lemmas.List.Elements.{All-append, All-cons, All-nil}
 use Rattle.std.proofs.lemmas.List.Sums.{count_by-le-length}
 use Rattle.std.specs.List.{flat_map, list_all}
+use Rattle.sg_lists.proofs.Each.{EachOf}
 use Rattle.sg_plan.proofs.PlanLaws.{bounds}
 use Rattle.sg_plan.specs.Ballots.{ballot_has, candidates_of, entries_of, entry_at, races_of_ballot}
 use Rattle.sg_plan.specs.Limits.{fault_of}
@@ -35,7 +36,6 @@ use Rattle.sg_post.specs.Posted.{both_sides, code_commit_of, code_in_row, disput
 use Rattle.sg_post.specs.declared.story.Claimed.{Claimed}
 use Rattle.sg_post.specs.declared.story.Told.{Told}
 use Rattle.sg_post.proofs.Bytes.{digest-bytes, key-bytes}
-use Rattle.sg_post.proofs.Each.{EachOf}
 use Rattle.sg_post.proofs.OwnCodes.{HoldsOfOwn, audited_codes-of, cast_codes-of, race_codes-of}
 use Rattle.sg_post.proofs.PostedFormed.{posted-formed}
 use Rattle.sg_plan.specs.Fates.{fate_fits, mark_fits, marks_differ}

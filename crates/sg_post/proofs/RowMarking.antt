@@ -7,6 +7,7 @@ use Rattle.std.proofs.lemmas.List.{get_or-replicate, get_or_default, same_lists}
 use Rattle.std.specs.Prelude.{replicate}
 use Rattle.std.proofs.lemmas.List.Folds.{list_any-append}
 use Rattle.std.specs.List.{list_any}
+use Rattle.std.proofs.Math.Bool.{and-false, or-false, and-true}
 use Rattle.sg_plan.specs.Ballots.{ballot_has, ballot_row, ballots_of, candidates_of, entries_of, is_over, races_of_ballot, rows_of}
 use Rattle.sg_plan.specs.declared.plan.Fate.TheVariants as fate
 use Rattle.sg_plan.specs.declared.plan.Mark.{Mark}
@@ -26,14 +27,6 @@ use Rattle.sg_post.specs.declared.story.Told.{Told}
 use Rattle.sg_post.proofs.Kept.{map-same}
 use Rattle.sg_post.proofs.Marking.{entry-test, set-bit}
 
-and_false : (b : Bool) → (b && false) ≡ false
-and_false true = refl
-and_false false = refl
-
-or_false : (b : Bool) → (b || false) ≡ b
-or_false true = refl
-or_false false = refl
-
 -- no mark yet
 pub marked_row-none : (plan : Plan) (seed : List ℕ) (race row : ℕ) (bits : List Bool) → length bits ≡ entries_of plan race → bits ≡ marked_row plan seed race row [] bits
 marked_row-none plan seed race row bits long =
@@ -43,7 +36,7 @@ marked_row-none plan seed race row bits long =
     (λ k d inside.
     let less : k < entries_of plan race = omega (arith, inside, long) in
     sym (get_or-map_below value (entries_of plan race) k d less
-    ∙ (ap (λ (b : Bool). has_bit bits k || b) (and_false (row == k / candidates_of plan race)) ∙ (or_false (has_bit bits k) ∙ get_or_default bits k false d inside))))
+    ∙ (ap (λ (b : Bool). has_bit bits k || b) (and-false (row == k / candidates_of plan race)) ∙ (or-false (has_bit bits k) ∙ get_or_default bits k false d inside))))
 
 -- one mark more: where it is of the race, the entry's bit is set
 pub marked_row-next : (plan : Plan) (seed : List ℕ) (race row : ℕ) (marks : List Mark) (mark : Mark) (bits : List Bool) → row < rows_of plan race
@@ -70,7 +63,7 @@ marked_row-next plan seed race row marks mark bits in_rows fits =
           (λ entry within. ap (λ (b : Bool). has_bit bits entry || (row == entry / candidates_of plan race && b))
           (sym (list_any-append (λ (m : Mark). m.race == race && m.candidate == shown_by plan seed race entry) marks (mark ∷ [])
           ∙ (ap (λ (b : Bool). has_mark marks race (shown_by plan seed race entry) || ((b && mark.candidate == shown_by plan seed race entry) || false)) (ne_eqb mark.race race other)
-          ∙ or_false (has_mark marks race (shown_by plan seed race entry))))))
+          ∙ or-false (has_mark marks race (shown_by plan seed race entry))))))
     ]
   where
     both : (a r m e : Bool) → ((a || (r && m)) || (r && e)) ≡ (a || (r && (m || e)))
@@ -92,7 +85,7 @@ marked-none test count bits long never =
     let value : ℕ → Bool = λ entry. has_bit bits entry || test entry in
     same_lists bits (map value (numbers_below count)) (long ∙ sym (length-map_below value count))
     (λ k d inside.
-    sym (get_or-map_below value count k d (omega (arith, inside, long)) ∙ (ap (λ (b : Bool). has_bit bits k || b) (never k) ∙ (or_false (has_bit bits k) ∙ get_or_default bits k false d inside))))
+    sym (get_or-map_below value count k d (omega (arith, inside, long)) ∙ (ap (λ (b : Bool). has_bit bits k || b) (never k) ∙ (or-false (has_bit bits k) ∙ get_or_default bits k false d inside))))
 
 pub cast-lacks : (plan : Plan) (seed : List ℕ) (race ballot : ℕ) (marks : List Mark) (bits : List Bool) → length bits ≡ entries_of plan race → ballot_has plan ballot race ≡ false
     → bits ≡ marked_cast plan seed race ballot marks bits
@@ -119,11 +112,7 @@ cast-row plan seed race ballot marks bits has counts =
     (λ entry within. ap (λ (b : Bool). has_bit bits entry || b)
     (sym (ap (λ (b : Bool). (b && ballot_row plan race ballot == entry / candidates_of plan race) && (has_mark marks race (shown_by plan seed race entry) && not (is_over plan marks race))) has
     ∙ (ap (λ (b : Bool). ballot_row plan race ballot == entry / candidates_of plan race && (has_mark marks race (shown_by plan seed race entry) && not b)) counts
-    ∙ ap (λ (b : Bool). ballot_row plan race ballot == entry / candidates_of plan race && b) (and_true (has_mark marks race (shown_by plan seed race entry)))))))
-  where
-    and_true : (b : Bool) → (b && true) ≡ b
-    and_true true = refl
-    and_true false = refl
+    ∙ ap (λ (b : Bool). ballot_row plan race ballot == entry / candidates_of plan race && b) (and-true (has_mark marks race (shown_by plan seed race entry)))))))
 
 -- marks that fit are beside candidates
 pub marks-beside : (plan : Plan) (races : List ℕ) (race : ℕ) (marks : List Mark) → list_all (mark_fits plan races) marks ≡ true → All (λ mark. mark.race ≡ race → mark.candidate < candidates_of plan race) marks
@@ -140,7 +129,7 @@ pub fate-none : (plan : Plan) (seed : List ℕ) (race : ℕ) (told : Told) (bits
     → bits ≡ marked_fates plan seed race (told ∷ []) bits
 fate-none plan seed race told bits long never =
     marked-none (λ entry. told_marks plan seed race entry told || false) (entries_of plan race) bits long
-    (λ entry. ap (λ (b : Bool). (is_entry_of plan race entry told.ballot && b) || false) (never (shown_by plan seed race entry)) ∙ ap (λ (b : Bool). b || false) (and_false (is_entry_of plan race entry told.ballot)))
+    (λ entry. ap (λ (b : Bool). (is_entry_of plan race entry told.ballot && b) || false) (never (shown_by plan seed race entry)) ∙ ap (λ (b : Bool). b || false) (and-false (is_entry_of plan race entry told.ballot)))
 
 pub marked_fates-none : (plan : Plan) (seed : List ℕ) (race : ℕ) (bits : List Bool) → length bits ≡ entries_of plan race → bits ≡ marked_fates plan seed race [] bits
 marked_fates-none plan seed race bits long = marked-none (λ entry. false) (entries_of plan race) bits long (λ entry. refl)

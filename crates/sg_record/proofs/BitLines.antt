@@ -5,6 +5,7 @@ use Rattle.std.proofs.lemmas.Bool.{cases_lt}
 use Rattle.std.proofs.lemmas.List.{append-nil, drop-drop, drop_all, length-append, length-drop, length-take, take-append-drop, take_all}
 use Rattle.sg_forms.specs.Said.{Said}
 use Rattle.sg_grammar.specs.Due.{bits_on, each, lines_for, numbered}
+use Rattle.sg_grammar.specs.Placed.{Placed}
 use Rattle.sg_grammar.specs.declared.state.Slot.{Slot}
 use Rattle.sg_record.proofs.Filling.{Each, Spells, spells-change, spells-each, spells-lines}
 use Rattle.sg_record.proofs.SlotLines.{Counts}
@@ -68,29 +69,35 @@ cut-one (suc count) xs ys few less same =
     sym (take-append-drop 64 xs) ∙ (ap (λ l. l ++ drop 64 xs) first ∙ (ap (λ l. take 64 ys ++ l) rest ∙ take-append-drop 64 ys))
 
 -- the lines by their numbers are those of the pieces
-pub cut-lines : (form : List ℕ → Said) (xs : List Bool) (at count : ℕ)
-    → indexed (λ (line : ℕ) (piece : List Bool). form (map bit_sign piece) ∷ []) at (cut count (drop (64 * at) xs)) ≡ numbered (λ line. form (signs_on xs line) ∷ []) at count
+pub cut-lines : {A : Type 0} (form : ℕ → List ℕ → A) (xs : List Bool) (at count : ℕ)
+    → indexed (λ (line : ℕ) (piece : List Bool). form line (map bit_sign piece) ∷ []) at (cut count (drop (64 * at) xs)) ≡ numbered (λ line. form line (signs_on xs line) ∷ []) at count
 unfolding cut indexed numbered
 cut-lines form xs at zero = refl
 cut-lines form xs at (suc count) =
     let next : 64 * at + 64 ≡ 64 * (at + 1) = omega arith in
     let rest : drop 64 (drop (64 * at) xs) ≡ drop (64 * (at + 1)) xs = drop-drop 64 (64 * at) xs ∙ ap (λ n. drop n xs) next in
-    ap (λ l. form (signs_on xs at) ∷ l)
-    (ap (λ l. indexed (λ (line : ℕ) (piece : List Bool). form (map bit_sign piece) ∷ []) (at + 1) (cut count l)) rest ∙ cut-lines form xs (at + 1) count)
+    ap (λ l. form at (signs_on xs at) ∷ l)
+    (ap (λ l. indexed (λ (line : ℕ) (piece : List Bool). form line (map bit_sign piece) ∷ []) (at + 1) (cut count l)) rest ∙ cut-lines form xs (at + 1) count)
+
+-- and of the lines that so many bits take
+whole-lines : {A : Type 0} (form : ℕ → List ℕ → A) (bits : ℕ) (xs : List Bool) → Counts bits xs
+    → indexed (λ (line : ℕ) (piece : List Bool). form line (map bit_sign piece) ∷ []) 0 (cut (lines_for bits - 0) xs) ≡ each (λ line. form line (signs_on xs line) ∷ []) 0 (lines_for (length xs))
+whole-lines form bits xs many = cut-lines form xs 0 (lines_for bits - 0) ∙ ap (λ n. numbered (λ line. form line (signs_on xs line) ∷ []) 0 (lines_for n - 0)) (sym many)
 
 -- so many bits on lines of 64, where the bits of each line are spelled
-pub bits-spells : (version bits : ℕ) (form : List ℕ → Said) (due : ℕ → List Slot)
-    → ((line : ℕ) → Spells version (Counts (bits_on bits line)) (λ (piece : List Bool). form (map bit_sign piece) ∷ []) (due line))
-    → Spells version (Counts bits) (λ (xs : List Bool). each (λ line. form (signs_on xs line) ∷ []) 0 (lines_for (length xs))) (each due 0 (lines_for bits))
-bits-spells version bits form due spells =
-    let lines : ℕ = lines_for bits - 0 in
+pub bits-spells : (version bits : ℕ) (form : List ℕ → Said) (spot : ℕ → List ℕ → Placed) (due : ℕ → List Slot)
+    → ((line : ℕ) → Spells version (Counts (bits_on bits line)) (λ (piece : List Bool). form (map bit_sign piece) ∷ []) (λ (piece : List Bool). spot line (map bit_sign piece) ∷ []) (due line))
+    → Spells version (Counts bits) (λ (xs : List Bool). each (λ line. form (signs_on xs line) ∷ []) 0 (lines_for (length xs)))
+    (λ (xs : List Bool). each (λ line. spot line (signs_on xs line) ∷ []) 0 (lines_for (length xs))) (each due 0 (lines_for bits))
+bits-spells version bits form spot due spells =
     let all : 0 + (lines_for bits - 0) ≡ lines_for bits = omega arith in
     let g : ℕ → List Bool → List Said = λ line piece. form (map bit_sign piece) ∷ [] in
-    let pieces = spells-each version (Piece bits) g due spells 0 (lines_for bits - 0) in
+    let h : ℕ → List Bool → List Placed = λ line piece. spot line (map bit_sign piece) ∷ [] in
+    let pieces = spells-each version (Piece bits) g h due spells 0 (lines_for bits - 0) in
     spells-lines version (Counts bits) (λ (xs : List Bool). indexed g 0 (cut (lines_for bits - 0) xs)) (λ (xs : List Bool). each (λ line. form (signs_on xs line) ∷ []) 0 (lines_for (length xs)))
-    (each due 0 (lines_for bits))
-    (λ xs many. cut-lines form xs 0 (lines_for bits - 0) ∙ ap (λ n. numbered (λ line. form (signs_on xs line) ∷ []) 0 (lines_for n - 0)) (sym many))
-    (spells-change version (Each (Piece bits) 0 (lines_for bits - 0)) (Counts bits) (indexed g 0) (each due 0 (lines_for bits)) (cut (lines_for bits - 0))
+    (λ (xs : List Bool). indexed h 0 (cut (lines_for bits - 0) xs)) (λ (xs : List Bool). each (λ line. spot line (signs_on xs line) ∷ []) 0 (lines_for (length xs)))
+    (each due 0 (lines_for bits)) (whole-lines (λ line. form) bits) (whole-lines spot bits)
+    (spells-change version (Each (Piece bits) 0 (lines_for bits - 0)) (Counts bits) (indexed g 0) (indexed h 0) (each due 0 (lines_for bits)) (cut (lines_for bits - 0))
     (λ xs many. cut-pieces bits 0 (lines_for bits - 0) xs (omega (arith, many)))
     (λ xs passes. let whole = pieces-joined bits 0 (lines_for bits - 0) xs all passes in (joined xs, omega (arith, whole.0), whole.1))
     (λ xs ys some many same. cut-one (lines_for bits - 0) xs ys (omega (arith, some)) (omega (arith, many)) same)

@@ -19,11 +19,11 @@ use Rattle.sg_grammar.specs.declared.state.Head.TheVariants as head
 use Rattle.sg_grammar.specs.declared.state.Part.{Part}
 use Rattle.sg_grammar.specs.declared.state.Part.TheVariants as part
 use Rattle.sg_grammar.specs.declared.state.Slot.{Slot}
-use Rattle.sg_record.proofs.BlockLines.{due_audit-spells, dispute_codes-spells}
+use Rattle.sg_record.proofs.BlockLines.{columns-spells, due_audit-spells}
 use Rattle.sg_record.proofs.CastLines.{cast-code, cast-none, cast-over, cast_from, marks-earlier, order-least, overs-earlier}
 use Rattle.sg_record.proofs.Filling.{AreIn, AreIn-parts, Fills, behind-are}
 use Rattle.sg_record.proofs.SaidWalk.{Goes, slot-goes}
-use Rattle.sg_record.specs.Formed.{are_blocks, are_due, are_marks, are_overs, is_dispute, is_fate}
+use Rattle.sg_record.specs.Formed.{are_blocks, are_marks, are_overs, has_columns, is_dispute, is_fate}
 use Rattle.sg_record.specs.Lines.{block_lines, dispute_lines, fate_lines}
 use Rattle.sg_record.specs.declared.record.BallotBlock.{BallotBlock}
 use Rattle.sg_record.specs.declared.record.BlockFate.{BlockFate}
@@ -239,11 +239,11 @@ dispute-back plan count (Dispute ballot race code word) lines end taken all know
     let rest = known (race_codes plan block.Dispute ballot race) (part.Disputes (count + 1)) (omega (arith, less)) on.1 in
     let more : DisputesOf plan (count + 1) rest.back = rest.others in
     let kept = AreIn-parts plan.version rest.front rest.back (subst (AreIn plan.version) rest.is all.1) in
-    let found = (dispute_codes-spells plan ballot race).back rest.front rest.fills kept.0 in
+    let found = (columns-spells plan block.Dispute ballot race).back rest.front rest.fills kept.0 in
     let small : is_code plan code ≡ true = lt-ltb code (codes_of plan.version) all.0.2 in
     add_dispute plan count (record { ballot = ballot; race = race; code = code; word = word; codes = found.item }) (Dispute ballot race code word ∷ lines) rest.back
     (behind-are (Dispute ballot race code word) lines rest.front rest.back (map Code found.item) rest.is found.is)
-    (and_from ((nat_lt race (length plan.races) && ballot_has plan ballot race) && is_code plan code) (are_due plan (race_codes plan block.Dispute ballot race) found.item)
+    (and_from ((nat_lt race (length plan.races) && ballot_has plan ballot race) && is_code plan code) (has_columns plan race found.item)
     (and_from (nat_lt race (length plan.races) && ballot_has plan ballot race) (is_code plan code) tests.1 small) found.passes)
     more
 dispute-back plan count said lines end taken all known e goes = cc

@@ -2,6 +2,7 @@
 use Rattle.std.proofs.Common.{◌≡◌, ℕ, ◌+◌, ◌-◌, ◌*◌, Bool, true, false, ◌&&◌, ◌==◌, nat_le, nat_lt, cond, List, [], ◌∷◌, All, length, map, Some, refl, sym, subst, ap, ◌∙◌}
 use Rattle.std.proofs.lemmas.Option.{same_Some}
 use Rattle.std.proofs.lemmas.List.Elements.{All-cons, All-head, All-nil, All-tail}
+use Rattle.sg_lists.proofs.Options.{cond_some-then, option_map-some}
 use Rattle.sg_plan.specs.Ballots.{ballot_has, r_rows}
 use Rattle.sg_plan.specs.Limits.{candidate_keeps, is_version, most_claims, most_instances, most_races, most_styles, race_head_keeps, run_keeps, style_keeps}
 use Rattle.sg_plan.specs.Names.{is_name_word, is_within}
@@ -11,7 +12,7 @@ use Rattle.sg_forms.specs.Reading.{line_of}
 use Rattle.sg_forms.specs.Said.{Said}
 use Rattle.sg_forms.specs.Said.Said.{Audited, Ballots, Cand, Cast, Code, CodeCommit, Dispute, DrawFull, DrawPublic, Election, Flags, Instances, Over, Paper, Places, Race, Row, RowCommit, Seal, Spoiled, Style, Total, Version, Voided}
 use Rattle.sg_forms.specs.Spelling.{IsInRange, spelling}
-use Rattle.sg_grammar.proofs.Claims.{if_some, if_then-claim, option_map-some}
+use Rattle.sg_grammar.proofs.Claims.{if_then-claim}
 use Rattle.sg_grammar.proofs.FirstLines.{take_bytes-line, walk-first, walk-none}
 use Rattle.sg_grammar.specs.Due.{due_audit, commits, race_codes, results}
 use Rattle.sg_grammar.specs.Head.{Making, behind_candidate, head_line, last_candidates, made, no_plan, take_run, take_style, with_cand, with_instances, with_name, with_race, with_run, with_style, with_version}
@@ -176,7 +177,7 @@ head_line-stays plan head.Instances said m later e = cc
 head_line-stays plan head.Races (Race name candidates votes) m later e =
     if_then-claim (StaysMade plan) (nat_lt (length plan.races) most_races && race_head_keeps plan.races name candidates votes) (made (with_race plan name votes) (head.Candidates candidates)) m
     (λ ok. (refl, refl)) e
-head_line-stays plan head.Races (Style name races) m later e = take_style-stays plan name races m (if_some (nat_lt 0 (length plan.races)) (take_style plan (Style name races)) m e)
+head_line-stays plan head.Races (Style name races) m later e = take_style-stays plan name races m (cond_some-then (nat_lt 0 (length plan.races)) (take_style plan (Style name races)) m e)
 head_line-stays plan head.Races said m later e = cc
 head_line-stays plan (head.Candidates left) (Cand name) m later e =
     if_then-claim (StaysMade plan) (candidate_keeps (last_candidates plan.races) name) (made (with_cand plan name) (behind_candidate left)) m (λ ok. (refl, at_last (left == 1))) e
@@ -290,16 +291,7 @@ first_line (Version version) t e =
     }
 first_line said t e = cc
 
--- lines that may stand one after another from the start are walked over
-pub start-walks : (version : ℕ) (lines : List Said) (end : Next) → AreIn version (Version version ∷ lines) → Goes start (Version version ∷ lines) end
-    → WalksTo start (map (spelling version) (Version version ∷ lines)) end
-start-walks version lines end all goes =
-    let first = first_line (Version version) goes.0 goes.1 in
-    let same : first.version ≡ version = let both : Version version ≡ Version first.version = first.is in cc in
-    walks-on start (spelling version (Version version)) (Version version) goes.0 (map (spelling version) lines) end (lines_are_read 0 (Version version) all.0) goes.1
-    (said-walks version goes.0.next lines end (first.stays.0 ∙ same, first.stays.1) all.1 goes.2)
-
--- and what is walked over from the start are such lines
+-- what is walked over from the start are such lines
 pub record Begins (lines : List (List ℕ)) (end : Next) : Type 0 where
   pub version : ℕ
   pub said : List Said

@@ -1,7 +1,8 @@
 -- The lines of a cast ballot: race by race the codes of its marks, and that the race is over.
-use Rattle.std.proofs.Common.{◌≡◌, ℕ, zero, suc, ◌+◌, ◌-◌, ◌<◌, ◌≤◌, ◌==◌, nat_lt, nat_le, Bool, true, false, ◌&&◌, ◌||◌, inl, inr, List, [], ◌∷◌, ◌++◌, length, filter, refl, sym, ap, ◌∙◌, arith}
+use Rattle.std.proofs.Common.{◌≡◌, ℕ, zero, suc, ◌+◌, ◌-◌, ◌<◌, ◌≤◌, ◌==◌, nat_lt, nat_le, true, false, ◌&&◌, inl, inr, List, [], ◌∷◌, ◌++◌, length, filter, refl, sym, ap, ◌∙◌, arith}
 use Rattle.std.proofs.lemmas.Bool.{and_from, and_parts, cases_lt, eq-eqb, eqb-true, le-leb, leb-true, lt-ltb, ltb-true, ne_eqb, or_cases}
 use Rattle.std.specs.List.{list_any}
+use Rattle.std.proofs.Math.Bool.{or-true}
 use Rattle.sg_plan.specs.Ballots.{ballot_has, candidates_of}
 use Rattle.sg_plan.specs.declared.plan.Plan.{Plan}
 use Rattle.sg_forms.specs.Said.{Said}
@@ -11,7 +12,7 @@ use Rattle.sg_grammar.proofs.Each.{each-empty, each-first, each-skip}
 use Rattle.sg_grammar.proofs.Making.{candidates_within}
 use Rattle.sg_grammar.specs.Due.{each, numbered}
 use Rattle.sg_grammar.specs.Walk.{follows_in_order, is_column, is_race_left}
-use Rattle.sg_record.proofs.BlockLines.{numbered-same}
+use Rattle.sg_record.proofs.BallotRaces.{numbered-same}
 use Rattle.sg_plan.specs.Codes.{is_code}
 use Rattle.sg_record.specs.Formed.{are_marks, are_overs}
 use Rattle.sg_record.specs.Lines.{cast_race_lines}
@@ -109,12 +110,8 @@ overs-later plan ballot race later over overs le all =
 order-later : (race next_race next_column : ℕ) → race ≤ next_race → follows_in_order race 0 next_race next_column ≡ true
 order-later race next_race next_column le = elim (cases_lt race next_race) [
   | inl later ↦ rw (lt-ltb race next_race later) refl
-  | inr past ↦ rw (eq-eqb race next_race (omega (arith, past)), le-leb 0 next_column (omega arith)) (or_true (nat_lt race next_race))
+  | inr past ↦ rw (eq-eqb race next_race (omega (arith, past)), le-leb 0 next_column (omega arith)) (or-true (nat_lt race next_race))
 ]
-  where
-    or_true : (b : Bool) → (b || true) ≡ true
-    or_true true = refl
-    or_true false = refl
 
 order-earlier : (race column earlier first next_race next_column : ℕ) → earlier < race → follows_in_order race column next_race next_column ≡ true → follows_in_order earlier first next_race next_column ≡ true
 order-earlier race column earlier first next_race next_column less order =

@@ -1,5 +1,5 @@
 -- The draw line.
-use Rattle.std.proofs.Common.{◌≡◌, ℕ, ◌/◌, ◌%◌, ◌<◌, ◌==◌, nat_le, true, false, inl, inr, List, [], ◌∷◌, All, length, slice_index, refl, sym, subst, ap, ◌∙◌, arith}
+use Rattle.std.proofs.Common.{◌≡◌, ℕ, ◌/◌, ◌%◌, ◌<◌, ◌==◌, nat_le, true, false, inl, inr, List, [], ◌∷◌, All, length, slice_index, Some, refl, sym, subst, ap, ◌∙◌, arith}
 use Rattle.std.proofs.lemmas.Bool.{agree_below_at, and_from, cases_lt, eqb-true, le-leb, true≢false}
 use Rattle.std.proofs.lemmas.List.{get_or_past}
 use Rattle.std.proofs.lemmas.List.Elements.{All-head, All-tail}
@@ -11,10 +11,12 @@ use Rattle.sg_plan.specs.declared.plan.Draw.TheVariants as drawn
 use Rattle.sg_forms.specs.Said.{Said}
 use Rattle.sg_forms.specs.Said.Said.{DrawFull, DrawPublic}
 use Rattle.sg_forms.specs.Spelling.{AreDigits, IsInRange}
+use Rattle.sg_grammar.specs.Walk.{place}
 use Rattle.sg_grammar.specs.declared.state.Slot.TheVariants as slot
 use Rattle.sg_record.proofs.Filling.{Spells, fits, spells-line}
 use Rattle.sg_record.specs.Formed.{is_draw}
 use Rattle.sg_record.specs.Lines.{draw_line}
+use Rattle.sg_record.specs.Places.{draw_place}
 
 -- the digits of values below 16 differ from one another, and from what there is behind them
 digit_one : (a b : ℕ) → b < 16 → slice_index lower_digits a ≡ slice_index lower_digits b → a ≡ b
@@ -60,10 +62,10 @@ draw_one version (drawn.Public xs) (drawn.Public ys) p q same =
     let right : ys ≡ bytes = digits_one ys bytes q.1.2 q.1.1 in
     ap drawn.Public (left ∙ sym right)
 
-pub draw-spells : (version : ℕ) → Spells version (IsDraw version) (λ (draw : Draw). draw_line draw ∷ []) (slot.Draw ∷ [])
-draw-spells version = spells-line version (IsDraw version) draw_line slot.Draw into from (draw_one version)
+pub draw-spells : (version : ℕ) → Spells version (IsDraw version) (λ (draw : Draw). draw_line draw ∷ []) (λ (draw : Draw). draw_place draw ∷ []) (slot.Draw ∷ [])
+draw-spells version = spells-line version (IsDraw version) draw_line draw_place slot.Draw into from (draw_one version)
   where
-    into : (draw : Draw) → IsDraw version draw → fits slot.Draw (draw_line draw) ≡ true
+    into : (draw : Draw) → IsDraw version draw → place slot.Draw (draw_line draw) ≡ Some (draw_place draw)
     into drawn.Full passes = refl
     into (drawn.Public bytes) passes = refl
 

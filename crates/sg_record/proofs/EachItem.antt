@@ -1,8 +1,7 @@
 -- Lists of so many items, each of which passes with its number.
-use Rattle.std.proofs.Common.{◌≡◌, ℕ, zero, suc, ◌+◌, ◌<◌, Bool, true, List, [], ◌∷◌, ◌++◌, length, get_or, refl, sym, ap, ◌∙◌, arith}
+use Rattle.std.proofs.Common.{◌≡◌, ℕ, zero, suc, ◌+◌, ◌<◌, Bool, true, List, [], ◌∷◌, ◌++◌, length, get_or, refl, sym, subst, ap, ◌∙◌, arith}
 use Rattle.std.proofs.lemmas.Bool.{and_from, and_parts}
 use Rattle.std.specs.List.{list_all}
-use Rattle.sg_forms.specs.Said.{Said}
 use Rattle.sg_grammar.specs.Due.{numbered}
 use Rattle.sg_record.proofs.Filling.{Each}
 use Rattle.sg_record.proofs.SlotLines.{Any}
@@ -14,6 +13,20 @@ Each-length P at zero [] passes = refl
 Each-length P at zero (x ∷ xs) passes = absurd passes
 Each-length P at (suc count) [] passes = absurd passes
 Each-length P at (suc count) (x ∷ xs) passes = ap suc (Each-length P (at + 1) count xs passes.1)
+
+-- the item of this number passes
+Each-item : {A : Type 0} (P : ℕ → A → Type 0) (at count k : ℕ) (xs : List A) (other : A) → Each P at count xs → k < count → P (at + k) (get_or xs k other)
+Each-item P at zero k xs other passes less = absurd (omega (arith, less))
+Each-item P at (suc count) k [] other passes less = absurd passes
+Each-item P at (suc count) zero (x ∷ xs) other passes less = let same : at ≡ at + 0 = omega arith in subst (λ (n : ℕ). P n x) same passes.0
+Each-item P at (suc count) (suc k) (x ∷ xs) other passes less =
+    let same : (at + 1) + k ≡ at + suc k = omega arith in
+    subst (λ (n : ℕ). P n (get_or xs k other)) same (Each-item P (at + 1) count k xs other passes.1 (omega (arith, less)))
+
+pub Each-get : {A : Type 0} (P : ℕ → A → Type 0) (count k : ℕ) (xs : List A) (other : A) → Each P 0 count xs → k < count → P k (get_or xs k other)
+Each-get P count k xs other passes less =
+    let same : 0 + k ≡ k = omega arith in
+    subst (λ (n : ℕ). P n (get_or xs k other)) same (Each-item P 0 count k xs other passes less)
 
 -- any list of so many items
 pub Each-any : {A : Type 0} (at count : ℕ) (xs : List A) → length xs ≡ count → Each (λ (k : ℕ) (x : A). Any x) at count xs
@@ -59,13 +72,13 @@ all-from_Each P test to at (suc count) (x ∷ xs) passes =
     and_from (test x) (list_all test xs) (to at x passes.0) (all-from_Each P test to (at + 1) count xs passes.1)
 
 -- lines that are put together by number are those of a list of the items with these numbers
-pub numbered-indexed : {A : Type 0} (g : ℕ → A → List Said) (c : ℕ → A) (d : A) (at count : ℕ) (xs : List A) → length xs ≡ count
+pub numbered-indexed : {A B : Type 0} (g : ℕ → A → List B) (c : ℕ → A) (d : A) (at count : ℕ) (xs : List A) → length xs ≡ count
     → ((i : ℕ) → i < count → get_or xs i d ≡ c (at + i)) → numbered (λ k. g k (c k)) at count ≡ indexed g at xs
 unfolding numbered indexed
 numbered-indexed g c d at zero [] many are = refl
 numbered-indexed g c d at zero (x ∷ xs) many are = absurd (omega (arith, many))
 numbered-indexed g c d at (suc count) [] many are = absurd (omega (arith, many))
-numbered-indexed {A} g c d at (suc count) (x ∷ xs) many are =
+numbered-indexed {A} {B} g c d at (suc count) (x ∷ xs) many are =
     let here : at + 0 ≡ at = omega arith in
     let first : c at ≡ x = sym (are 0 (omega arith) ∙ ap c here) in
     let rest : numbered (λ k. g k (c k)) (at + 1) count ≡ indexed g (at + 1) xs =

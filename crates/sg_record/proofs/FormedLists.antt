@@ -1,9 +1,10 @@
 -- What the test of a record's form says of each of its parts.
-use Rattle.std.proofs.Common.{◌≡◌, ℕ, zero, suc, ◌+◌, ◌^◌, ◌<◌, ◌==◌, nat_le, Bool, true, ◌&&◌, List, [], ◌∷◌, length, get_or, slice_get, All, Option, None, Some, refl, sym, ap, ◌∙◌, arith}
-use Rattle.std.proofs.lemmas.Bool.{and_parts, eqb-true, true≢false}
+use Rattle.std.proofs.Common.{◌≡◌, ℕ, zero, suc, ◌+◌, ◌^◌, ◌<◌, ◌==◌, nat_le, Bool, true, ◌&&◌, List, [], ◌∷◌, length, get_or, slice_get, All, None, Some, ap, ◌∙◌, arith}
+use Rattle.std.proofs.lemmas.Bool.{and_parts, eqb-true}
 use Rattle.std.proofs.lemmas.Option.{get_or_from_slice_get}
 use Rattle.std.specs.List.{list_all}
 use Rattle.std.specs.Option.{is_none}
+use Rattle.sg_lists.proofs.Options.{is_none-true}
 use Rattle.sg_plan.proofs.PlanLaws.{bounds}
 use Rattle.sg_plan.specs.Ballots.{candidates_of, entries_of}
 use Rattle.sg_plan.specs.Limits.{fault_of, most_claims}
@@ -24,10 +25,6 @@ pub record FormedLists (posted : Record) : Type 0 where
   pub draw : is_draw posted.draw ≡ true
   pub rows : has_rows posted.plan posted.rows ≡ true
   pub disputes : list_all (is_dispute posted.plan) posted.disputes ≡ true
-
-none_there : {X : Type 0} (found : Option X) → is_none found ≡ true → found ≡ None
-none_there None e = refl
-none_there (Some x) e = absurd (true≢false (sym e))
 
 pub formed_parts : (posted : Record) → is_formed posted ≡ true → FormedLists posted
 unfolding is_formed
@@ -53,7 +50,7 @@ formed_parts posted e =
     let rows = and_parts (has_rows plan posted.rows) behind_rows draw.1 in
     let disputes = and_parts (nat_le (length posted.disputes) most_claims) (list_all (is_dispute plan) posted.disputes) rows.1 in
     record {
-      plan = none_there (fault_of plan) limits.0;
+      plan = is_none-true (fault_of plan) limits.0;
       code_commits = codes.0;
       row_commits = commits.0;
       blocks = blocks.0;
@@ -66,7 +63,7 @@ formed_parts posted e =
     }
 
 -- the item at a place passes
-each_passes-at : {A : Type 0} (test : ℕ → A → Bool) (from : ℕ) (xs : List A) → each_passes test from xs ≡ true → (k : ℕ) (d : A) → k < length xs → test (from + k) (get_or xs k d) ≡ true
+pub each_passes-at : {A : Type 0} (test : ℕ → A → Bool) (from : ℕ) (xs : List A) → each_passes test from xs ≡ true → (k : ℕ) (d : A) → k < length xs → test (from + k) (get_or xs k d) ≡ true
 each_passes-at test from [] e k d within = absurd (omega arith)
 each_passes-at test from (x ∷ xs) e zero d within =
     let same : from + 0 ≡ from = omega arith in

@@ -3,12 +3,12 @@ use Rattle.std.proofs.Common.{◌≡◌, ℕ, ◌-◌, ◌≤◌, ◌==◌, nat_
 use Rattle.std.proofs.lemmas.Bool.{and_from, and_parts, eq-eqb, eqb-true, le-leb, leb-true}
 use Rattle.std.specs.List.{list_all}
 use Rattle.std.specs.Option.{is_none}
+use Rattle.sg_lists.proofs.Options.{is_none-true}
 use Rattle.sg_commit.specs.declared.Digest.{Digest}
 use Rattle.sg_plan.specs.Ballots.{candidates_of, entries_of}
 use Rattle.sg_plan.specs.Limits.{fault_of, most_claims}
 use Rattle.sg_plan.specs.declared.plan.Plan.{Plan}
 use Rattle.sg_forms.specs.Spelling.{IsInRange}
-use Rattle.sg_grammar.proofs.Claims.{is_none-None}
 use Rattle.sg_record.proofs.EachItem.{Each-any, Each-from_all, Each-from_test, Each-length, all-from_Each, test-from_Each}
 use Rattle.sg_record.proofs.Filling.{Each}
 use Rattle.sg_record.proofs.SectionLines.{AreCommits, AreResults, Commits, HasPlaces, HasTotals, Results}
@@ -125,7 +125,7 @@ form-from posted formed draw =
       second = seals.1;
       third = seals.2;
       is = record {
-        fine = is_none-None (fault_of plan) front.0;
+        fine = is_none-true (fault_of plan) front.0;
         seals = seals.3;
         commits = (
           lists-from (length plan.races) (entries_of plan) (λ race items. Each (λ (k : ℕ) (x : Digest). Any x) 0 (entries_of plan race - 0) items) posted.code_commits

@@ -1,91 +1,48 @@
 -- The lines of a formed record's text give its lists, and lines that are a whole record give those of a formed record.
-use Rattle.std.proofs.Common.{◌≡◌, ℕ, ◌⊎◌, true, false, inl, inr, List, [], ◌∷◌, ◌++◌, map, drop, Option, Some, None, refl, sym, subst, ap, ◌∙◌, arith}
-use Rattle.std.proofs.lemmas.List.{append-nil}
+use Rattle.std.proofs.Common.{◌≡◌, ℕ, ◌+◌, true, false, List, [], ◌∷◌, ◌++◌, map, drop, Option, Some, None, refl, sym, subst, ap, ◌∙◌}
 use Rattle.std.proofs.lemmas.Option.{same_Some}
 use Rattle.std.specs.List.{flat_map}
 use Rattle.std.specs.Option.{is_some, option_map, option_map_or}
 use Rattle.std.specs.Prelude.{option_and_then}
+use Rattle.sg_lists.proofs.Options.{is_some-true, option_and_then-some, option_map-some}
 use Rattle.sg_commit.specs.declared.Digest.{Digest}
 use Rattle.sg_plan.specs.declared.plan.Plan.{Plan}
 use Rattle.sg_forms.proofs.LineLaws.{lines_are_read}
 use Rattle.sg_forms.specs.Reading.{line_of}
 use Rattle.sg_forms.specs.Said.{Said}
-use Rattle.sg_forms.specs.Said.Said.{Ballots, Version}
+use Rattle.sg_forms.specs.Said.Said.{Version}
 use Rattle.sg_forms.specs.Spelling.{spelling}
-use Rattle.sg_grammar.proofs.Claims.{option_and_then-some, option_map-some}
-use Rattle.sg_grammar.proofs.Walking.{some_there, take_line-head}
-use Rattle.sg_grammar.specs.Due.{commits}
+use Rattle.sg_grammar.proofs.Walking.{take_line-head}
 use Rattle.sg_grammar.specs.Head.{head_line, no_plan}
+use Rattle.sg_grammar.specs.Due.{commits, results}
+use Rattle.sg_grammar.specs.Placed.{Placed}
 use Rattle.sg_grammar.specs.Placed.Placed.{OfPlan}
-use Rattle.sg_grammar.specs.Walk.{Next, Taken, Walked, after_run, behind, headed, in_head, is_whole, start, take_at, take_bytes, take_line, walk, walked_on}
-use Rattle.sg_grammar.specs.declared.state.Head.{Head}
-use Rattle.sg_grammar.specs.declared.state.Head.TheVariants as head
-use Rattle.sg_grammar.specs.declared.state.Part.{Part}
+use Rattle.sg_grammar.specs.Walk.{Next, Taken, Walked, behind, headed, is_whole, start, took, take_line, walk, walked_on}
 use Rattle.sg_grammar.specs.declared.state.Part.TheVariants as part
-use Rattle.sg_grammar.specs.declared.state.Slot.{Slot}
 use Rattle.sg_record.proofs.BodyOut.{run_state}
-use Rattle.sg_record.proofs.BytesWalk.{AreIn-from_All, Stays, body-behind, first_line, take_line-stays}
-use Rattle.sg_record.proofs.Filling.{AreIn}
-use Rattle.sg_record.proofs.FormedLaw.{commit_lines-are, end_of, has_form, result_lines-are}
+use Rattle.sg_record.proofs.BytesWalk.{AreIn-from_All, Stays, first_line, take_line-stays}
+use Rattle.sg_record.proofs.Filling.{AreIn, filled}
+use Rattle.sg_record.proofs.FormedLaw.{formed_behind, has_form, later_lines, later_places, lines_in-are}
 use Rattle.sg_record.proofs.FormedParts.{IsFormed, commits_of, results_of}
-use Rattle.sg_record.proofs.GatheredBlocks.{blocks-gathers, disputes-gathers}
-use Rattle.sg_record.proofs.GatheredLines.{Gathers, bare, blank-bare, commits-put, committed, gathers-commits, gathers-results, results-put, resulted}
-use Rattle.sg_record.proofs.HeadOut.{plan-out}
-use Rattle.sg_record.proofs.SaidWalk.{Goes}
-use Rattle.sg_record.proofs.SectionLines.{commits-spells, lines_of_commits, lines_of_results, results-spells}
+use Rattle.sg_record.proofs.GatheredBlocks.{blocks-made, disputes-made}
+use Rattle.sg_record.proofs.GatheredLines.{Gathers, as-gathers, bare, blank-bare, commits-put, committed, gathers-commits, made_of, made_of-due, results-put, resulted}
+use Rattle.sg_record.proofs.Placing.{GoesAs, goes_as-plan, walk-step}
+use Rattle.sg_record.proofs.SectionLines.{Commits, Results, commits-spells, lines_of_commits, lines_of_results, places_of_commits, places_of_results, results-spells}
 use Rattle.sg_record.proofs.WholeLaw.{whole_are_formed}
 use Rattle.sg_record.specs.Formed.{is_formed}
 use Rattle.sg_record.specs.inside.Gathering.{Gathered, added, blank, gather, gather_line, gathered_on, nothing_yet}
 use Rattle.sg_record.specs.Laws.{AreWhole, HasWords}
-use Rattle.sg_record.specs.Lines.{block_lines, commit_lines, dispute_lines, lines_in, opening_lines, plan_lines, result_lines, texts_in}
+use Rattle.sg_record.specs.Lines.{dispute_lines, lines_in, plan_lines, texts_in}
+use Rattle.sg_record.specs.Places.{behind_record, dispute_places}
 use Rattle.sg_record.specs.declared.record.Record.{Record}
 
 -- THE LINES OF THE PLAN
 
--- a line is one of the plan, or the plan is whole behind it
-abbrev IsOfPlan : Said → Taken → Type 0
-IsOfPlan said taken = (taken.placed ≡ OfPlan said) ⊎ (taken.next.head ≡ head.Whole)
-
-head-of_plan : (plan : Plan) (stage : Head) (said : Said) (t : Taken) → in_head plan stage said ≡ Some t → IsOfPlan said t
-head-of_plan plan stage said t e =
-    let from = option_map-some (headed said) (head_line plan stage said) t e in
-    inl (ap (λ (x : Taken). x.placed) (sym from.2))
-
-run-of_plan : (plan : Plan) (said : Said) (t : Taken) → after_run plan said ≡ Some t → IsOfPlan said t
-run-of_plan plan (Ballots style count) t e = head-of_plan plan head.Runs (Ballots style count) t e
-run-of_plan plan said t e = inr (body-behind plan (commits plan) (part.Ballots 0) said t e).1
-
-at-of_plan : (plan : Plan) (stage : Head) (due : List Slot) (may_begin : Part) (said : Said) (t : Taken) → take_at plan stage due may_begin said ≡ Some t → IsOfPlan said t
-at-of_plan plan head.Whole due may_begin said t e = inr (body-behind plan due may_begin said t e).1
-at-of_plan plan head.Runs due may_begin said t e = run-of_plan plan said t e
-at-of_plan plan stage due may_begin said t e = head-of_plan plan stage said t e
-
-line-of_plan : (next : Next) (said : Said) (t : Taken) → take_line next said ≡ Some t → IsOfPlan said t
-unfolding take_line
-line-of_plan next said t e = at-of_plan next.plan next.head next.due next.part said t e
-
--- a whole plan stays whole
-line-whole : (next : Next) (said : Said) (t : Taken) → next.head ≡ head.Whole → take_line next said ≡ Some t → t.next.head ≡ head.Whole
-unfolding take_line
-line-whole next said t whole e =
-    (body-behind next.plan next.due next.part said t (ap (λ h. take_at next.plan h next.due next.part said) (sym whole) ∙ e)).1
-
-lines-whole : (next end : Next) (lines : List Said) → next.head ≡ head.Whole → Goes next lines end → end.head ≡ head.Whole
-lines-whole next end [] whole goes = ap (λ (n : Next). n.head) (sym goes) ∙ whole
-lines-whole next end (said ∷ lines) whole goes = lines-whole goes.0.next end lines (line-whole next said goes.0 whole goes.1) goes.2
-
--- lines that lead to a plan which isn't whole leave the record without lines behind the plan
-plan-gathers : (next end : Next) (lines rest : List Said) (last : Next) (final : Record) → (end.head ≡ head.Whole → ⊥) → Goes next lines end
-    → Gathers end (blank end.plan) rest last final → Gathers next (blank next.plan) (lines ++ rest) last final
-plan-gathers next end [] rest last final open_end goes on = subst (λ (n : Next). Gathers n (blank n.plan) rest last final) (sym goes) on
-plan-gathers next end (said ∷ lines) rest last final open_end goes on =
-    let behind_it = plan-gathers goes.0.next end lines rest last final open_end goes.2 on in
-    elim (line-of_plan next said goes.0 goes.1) [
-      | inl of_plan ↦
-          let same : added goes.0.next.plan (blank next.plan) goes.0.placed said ≡ blank goes.0.next.plan = ap (λ p. added goes.0.next.plan (blank next.plan) p said) of_plan in
-          (goes.0, goes.1, subst (λ (r : Record). Gathers goes.0.next r (lines ++ rest) last final) (sym same) behind_it)
-      | inr whole ↦ absurd (open_end (lines-whole goes.0.next end lines whole goes.2))
-    ]
+-- lines of the plan leave the record without lines behind the plan
+plan-gathers : (next end : Next) (lines rest : List Said) (last : Next) (final : Record) → GoesAs next lines (map OfPlan lines) end → Gathers end (blank end.plan) rest last final
+    → Gathers next (blank next.plan) (lines ++ rest) last final
+plan-gathers next end [] rest last final goes on = subst (λ (n : Next). Gathers n (blank n.plan) rest last final) (sym goes) on
+plan-gathers next end (said ∷ lines) rest last final goes on = (took (OfPlan said) goes.0, goes.1, plan-gathers goes.0 end lines rest last final goes.2 on)
 
 -- ALL LINES OF A FORMED RECORD
 
@@ -97,31 +54,38 @@ whole_of posted first second third =
 whole_of-is : (posted : Record) (first second third : Digest) → posted.seals ≡ first ∷ second ∷ third ∷ [] → whole_of posted first second third ≡ posted
 whole_of-is posted first second third seals = ap (λ (l : List Digest). let it : Record = record posted { seals = l } in it) (sym seals)
 
-formed_gathers : (posted : Record) (first second third : Digest) → IsFormed posted first second third → Gathers start (blank no_plan) (lines_in posted) (end_of posted) (whole_of posted first second third)
-formed_gathers posted first second third is =
+formed_made : (posted : Record) (first second third : Digest) → IsFormed posted first second third
+    → made_of posted.plan (lines_of_commits (commits_of posted first) ++ later_lines posted second third) (places_of_commits (commits_of posted first) ++ later_places posted second third) (bare posted.plan)
+    ≡ whole_of posted first second third
+formed_made posted first second third is =
     let plan : Plan = posted.plan in
     let version : ℕ = posted.plan.version in
-    let end : Next = end_of posted in
-    let final : Record = whole_of posted first second third in
+    let c : Commits = commits_of posted first in
+    let r : Results = results_of posted second third in
     let disputes : List Said = flat_map dispute_lines posted.disputes in
-    let results : List Said = lines_of_results plan (results_of posted second third) in
-    let made : Record = record (committed plan (commits_of posted first)) { ballots = [] ++ posted.ballots } in
-    let on = disputes-gathers plan 0 posted.disputes (resulted made (results_of posted second third)) is.disputes (omega (arith, is.few)) in
-    let put_results = results-put version plan (results_of posted second third) made is.results in
-    let fills = (results-spells version plan).out (results_of posted second third) is.results in
-    let blocks = blocks-gathers plan 0 posted.ballots (committed plan (commits_of posted first)) (results ++ disputes) end final is.fine is.blocks
-    (λ last. gathers-results plan last made results disputes end final fills (subst (λ (r : Record). Gathers (behind plan [] (part.Disputes 0)) r disputes end final) (sym put_results) on)) in
-    let body = subst (λ (l : List Said). Gathers (behind plan [] (part.Ballots 0)) (committed plan (commits_of posted first)) (flat_map (block_lines plan) posted.ballots ++ l) end final)
-    (sym (result_lines-are posted first second third disputes is.seals)) blocks.1 in
-    let rest : List Said = flat_map (block_lines plan) posted.ballots ++ (result_lines posted ++ (opening_lines posted ++ disputes)) in
-    let put_commits = commits-put version plan (commits_of posted first) is.commits in
-    let commits = gathers-commits plan (bare plan) (lines_of_commits (commits_of posted first)) rest end final
-    ((commits-spells version plan).out (commits_of posted first) is.commits)
-    (subst (λ (r : Record). Gathers (behind plan [] (part.Ballots 0)) r rest end final) (sym put_commits) body) in
-    let lines = subst (λ (l : List Said). Gathers (run_state plan) (bare plan) (l ++ rest) end final) (sym (commit_lines-are posted first second third is.seals)) commits in
-    let to_runs : Goes start (plan_lines plan) (run_state plan) = subst (λ (l : List Said). Goes start l (run_state plan)) (append-nil (plan_lines plan)) (plan-out plan [] (run_state plan) is.fine refl) in
-    plan-gathers start (run_state plan) (plan_lines plan) (commit_lines posted ++ rest) end final (λ whole. cc) to_runs
-    (subst (λ (r : Record). Gathers (run_state plan) r (commit_lines posted ++ rest) end final) (sym (blank-bare plan)) lines)
+    let places : List Placed = flat_map dispute_places posted.disputes in
+    let made : Record = record (committed plan c) { ballots = [] ++ posted.ballots } in
+    made_of-due plan (commits plan) (lines_of_commits c) (later_lines posted second third) (places_of_commits c) (later_places posted second third) (bare plan) ((commits-spells version plan).out c is.commits)
+    ∙ (ap (made_of plan (later_lines posted second third) (later_places posted second third)) (commits-put version plan c is.commits)
+    ∙ (blocks-made plan 0 posted.ballots (committed plan c) (lines_of_results plan r ++ disputes) (places_of_results plan r ++ places) is.fine is.blocks
+    ∙ (made_of-due plan (results plan) (lines_of_results plan r) disputes (places_of_results plan r) places made ((results-spells version plan).out r is.results)
+    ∙ (ap (made_of plan disputes places) (results-put version plan r made is.results)
+    ∙ disputes-made plan posted.disputes (resulted made r) is.disputes))))
+
+formed_gathers : (posted : Record) (first second third : Digest) → IsFormed posted first second third → Gathers start (blank no_plan) (lines_in posted) (behind_record posted) (whole_of posted first second third)
+formed_gathers posted first second third is =
+    let plan : Plan = posted.plan in
+    let end : Next = behind_record posted in
+    let final : Record = whole_of posted first second third in
+    let lines : List Said = lines_of_commits (commits_of posted first) in
+    let rest : List Said = later_lines posted second third in
+    let places : List Placed = places_of_commits (commits_of posted first) ++ later_places posted second third in
+    let body = as-gathers plan (behind plan (commits plan) (part.Ballots 0)) end (lines ++ rest) places (bare plan) refl refl (formed_behind posted first second third is) in
+    let commits_on = gathers-commits plan (bare plan) lines rest end final (filled (commits-spells plan.version plan) (commits_of posted first) is.commits)
+    (subst (λ (r : Record). Gathers (behind plan (commits plan) (part.Ballots 0)) (bare plan) (lines ++ rest) end r) (formed_made posted first second third is) body) in
+    subst (λ (l : List Said). Gathers start (blank no_plan) l end final) (sym (lines_in-are posted first second third is.seals))
+    (plan-gathers start (run_state plan) (plan_lines plan) (lines ++ rest) end final (goes_as-plan plan is.fine)
+    (subst (λ (r : Record). Gathers (run_state plan) r (lines ++ rest) end final) (sym (blank-bare plan)) commits_on))
 
 -- ONE LINE, AS BYTES
 
@@ -135,7 +99,7 @@ pub plan_line-gathers : (so_far : Gathered) (bytes : List ℕ) (said : Said) (ne
     → is_some (head_line so_far.next.plan so_far.next.head said) ≡ true → option_map (λ taken. taken.next) (take_line so_far.next said) ≡ Some next
     → gather_line so_far bytes ≡ Some (record { next = next; made = blank next.plan })
 plan_line-gathers so_far bytes said next read of_plan step =
-    let making = some_there (head_line so_far.next.plan so_far.next.head said) of_plan in
+    let making = is_some-true (head_line so_far.next.plan so_far.next.head said) of_plan in
     let taken : take_line so_far.next said ≡ Some (headed said making.0) = take_line-head so_far.next said making.0 making.1 in
     gather_line-is so_far bytes said (headed said making.0) read taken
     ∙ ap (λ (n : Next). Some (record { next = n; made = blank n.plan })) (same_Some (headed said making.0).next next (sym (ap (option_map (λ (t : Taken). t.next)) taken) ∙ step))
@@ -156,17 +120,6 @@ gather-push so_far (first ∷ lines) bytes = at_line (gather_line so_far first) 
         → option_and_then (λ more. gather more (lines ++ bytes ∷ [])) o ≡ option_and_then (λ m. gather_line m bytes) (option_and_then (λ more. gather more lines) o)
     at_line None on = refl
     at_line (Some more) on = on more
-
--- where a line may not stand, no lines with it at their front are gathered
-pub gather-none : (so_far : Gathered) (front : List (List ℕ)) (bytes : List ℕ) (back : List (List ℕ)) (more : Gathered) → gather so_far front ≡ Some more → gather_line more bytes ≡ None
-    → gather so_far (front ++ (bytes ∷ back)) ≡ None
-unfolding gather
-gather-none so_far [] bytes back more is none =
-    let same : so_far ≡ more = same_Some so_far more is in
-    ap (λ (g : Gathered). option_and_then (λ m. gather m back) (gather_line g bytes)) same ∙ ap (λ o. option_and_then (λ m. gather m back) o) none
-gather-none so_far (first ∷ front) bytes back more is none =
-    let from = option_and_then-some (λ m. gather m front) (gather_line so_far first) more is in
-    ap (λ o. option_and_then (λ m. gather m (front ++ (bytes ∷ back))) o) from.1 ∙ gather-none from.0 front bytes back more from.2 none
 
 -- lines in range are gathered as they are taken
 said-gathers : (version : ℕ) (next : Next) (made : Record) (lines : List Said) (end : Next) (final : Record) → Stays version next → AreIn version lines → Gathers next made lines end final
@@ -195,19 +148,13 @@ start-gathers version lines end final all goes =
 -- THE LAWS
 
 -- the lines of a formed record give the record, and it is whole
-pub formed_gathered : (posted : Record) → HasWords posted → is_formed posted ≡ true → gather nothing_yet (texts_in posted) ≡ Some (record { next = end_of posted; made = posted })
+pub formed_gathered : (posted : Record) → HasWords posted → is_formed posted ≡ true → gather nothing_yet (texts_in posted) ≡ Some (record { next = behind_record posted; made = posted })
 formed_gathered posted words formed =
     let form = has_form posted words formed in
     let goes = formed_gathers posted form.first form.second form.third form.is in
-    start-gathers posted.plan.version (drop 1 (lines_in posted)) (end_of posted) (whole_of posted form.first form.second form.third)
+    start-gathers posted.plan.version (drop 1 (lines_in posted)) (behind_record posted) (whole_of posted form.first form.second form.third)
     (AreIn-from_All posted.plan.version (lines_in posted) words) goes
-    ∙ ap (λ (r : Record). Some (record { next = end_of posted; made = r })) (whole_of-is posted form.first form.second form.third form.is.seals)
-
--- one line, and a walk behind it
-walk-on : (next : Next) (bytes : List ℕ) (said : Said) (t : Taken) (lines : List (List ℕ)) (w : Walked) → line_of next.plan.version bytes ≡ Some said → take_line next said ≡ Some t
-    → walk t.next lines ≡ Some w → walk next (bytes ∷ lines) ≡ Some (walked_on bytes t w)
-unfolding walk take_bytes
-walk-on next bytes said t lines w read taken on = rw (read, taken, on) refl
+    ∙ ap (λ (r : Record). Some (record { next = behind_record posted; made = r })) (whole_of-is posted form.first form.second form.third form.is.seals)
 
 -- what is gathered is walked over
 gather-walks : (so_far more : Gathered) (lines : List (List ℕ)) → gather so_far lines ≡ Some more → (w : Walked) × (walk so_far.next lines ≡ Some w) × (w.next ≡ more.next)
@@ -220,7 +167,7 @@ gather-walks so_far more (bytes ∷ lines) e =
     let same : first.0.next ≡ taken.0.next = ap (λ (g : Gathered). g.next) (sym taken.2) in
     let rest = gather-walks first.0 more lines first.2 in
     let others : walk taken.0.next lines ≡ Some rest.0 = ap (λ (n : Next). walk n lines) (sym same) ∙ rest.1 in
-    (walked_on bytes taken.0 rest.0, walk-on so_far.next bytes line.0 taken.0 lines rest.0 line.1 taken.1 others, rest.2)
+    (walked_on bytes taken.0 rest.0, walk-step so_far.next bytes line.0 taken.0 lines rest.0 line.1 taken.1 others, rest.2)
 
 -- what is gathered of a formed record
 pub record GatheredOf (lines : List (List ℕ)) (made : Record) : Type 0 where
@@ -234,6 +181,6 @@ whole_gathered lines so_far e whole =
     let walks = gather-walks nothing_yet so_far lines e in
     let are_whole : AreWhole lines = ap (λ (o : Option Walked). option_map_or (λ (w : Walked). is_whole w.next) o false) walks.1 ∙ (ap is_whole walks.2 ∙ whole) in
     let found = whole_are_formed lines are_whole in
-    let both : Some so_far ≡ Some (record { next = end_of found.0; made = found.0 }) = sym e ∙ (ap (gather nothing_yet) found.3 ∙ formed_gathered found.0 found.1 found.2) in
-    let same : so_far.made ≡ found.0 = ap (λ (g : Gathered). g.made) (same_Some so_far (record { next = end_of found.0; made = found.0 }) both) in
+    let both : Some so_far ≡ Some (record { next = behind_record found.0; made = found.0 }) = sym e ∙ (ap (gather nothing_yet) found.3 ∙ formed_gathered found.0 found.1 found.2) in
+    let same : so_far.made ≡ found.0 = ap (λ (g : Gathered). g.made) (same_Some so_far (record { next = behind_record found.0; made = found.0 }) both) in
     subst (λ (r : Record). GatheredOf lines r) (sym same) (record { words = found.1; formed = found.2; is = found.3 })

@@ -1,30 +1,33 @@
 -- The blocks of ballots and of disputes, put together line by line.
-use Rattle.std.proofs.Common.{◌≡◌, ℕ, ◌+◌, ◌-◌, ◌≤◌, ◌==◌, nat_lt, Bool, true, false, ◌&&◌, not, cond, List, [], ◌∷◌, ◌++◌, length, map, None, refl, sym, subst, ap, ◌∙◌, arith}
-use Rattle.std.proofs.lemmas.Bool.{and_parts, eq-eqb, lt-ltb}
+use Rattle.std.proofs.Common.{◌≡◌, ℕ, ◌-◌, ◌==◌, nat_lt, Bool, true, false, ◌&&◌, List, [], ◌∷◌, ◌++◌, length, map, None, refl, sym, subst, ap, ◌∙◌}
+use Rattle.std.proofs.lemmas.Bool.{and_from, and_parts, eq-eqb}
 use Rattle.std.proofs.lemmas.List.{append-nil, append_assoc}
+use Rattle.std.proofs.lemmas.List.Folds.{list_all-append}
 use Rattle.std.specs.List.{flat_map, list_all}
 use Rattle.sg_plan.specs.Ballots.{ballot_has, candidates_of, races_of_ballot}
-use Rattle.sg_plan.specs.Limits.{fault_of, most_claims}
+use Rattle.sg_plan.specs.Limits.{fault_of}
 use Rattle.sg_plan.specs.declared.plan.Plan.{Plan}
 use Rattle.sg_forms.specs.Said.{Said}
 use Rattle.sg_forms.specs.Said.Said.{Code}
 use Rattle.sg_forms.specs.declared.line.CodeLine.{CodeLine}
-use Rattle.sg_grammar.specs.Due.{due_audit, ballot_codes, code_line, each, race_codes}
-use Rattle.sg_grammar.specs.Placed.Placed.{Begun, CodeAt, Disputed, OverAt}
-use Rattle.sg_grammar.specs.Walk.{Next, behind, is_later, take_line, took}
+use Rattle.sg_grammar.specs.Due.{code_line, due_audit, each, race_codes}
+use Rattle.sg_grammar.specs.Placed.{Placed}
+use Rattle.sg_grammar.specs.Placed.Placed.{CodeAt}
+use Rattle.sg_grammar.specs.Walk.{is_later}
 use Rattle.sg_grammar.specs.declared.state.Block.TheVariants as block
-use Rattle.sg_grammar.specs.declared.state.Part.TheVariants as part
 use Rattle.sg_grammar.specs.declared.state.Slot.{Slot}
 use Rattle.sg_grammar.specs.declared.state.Slot.TheVariants as slot
-use Rattle.sg_record.proofs.BlockLines.{due_audit-spells, dispute_codes-spells, numbered-all, paper_slots, papers-due, papers-out}
+use Rattle.sg_record.proofs.BlockLines.{audit-due, audit_codes, audit_lines, audit_places, columns-spells, due_audit-spells, numbered-all, paper_slots, papers-spells, races-spells}
 use Rattle.sg_record.proofs.CastLines.{Steps, by_steps}
-use Rattle.sg_record.proofs.GatheredLines.{Gathers, gathers-due, same_first}
+use Rattle.sg_record.proofs.Filling.{Fills, filled, passed}
+use Rattle.sg_record.proofs.GatheredLines.{made_of, made_of-due}
 use Rattle.sg_record.proofs.GatheredLists.{put, put-append}
-use Rattle.sg_record.proofs.SaidWalk.{cast-other, is_cast_line, opens}
+use Rattle.sg_record.proofs.PlacedBlocks.{cast-mapped, cast_place}
 use Rattle.sg_plan.specs.Codes.{is_code}
-use Rattle.sg_record.specs.Formed.{are_blocks, are_due, are_marks, are_overs, are_papers, is_dispute, is_fate}
+use Rattle.sg_record.specs.Formed.{are_blocks, are_columns, are_marks, are_overs, are_papers, has_columns, is_dispute, is_fate}
 use Rattle.sg_record.specs.inside.Gathering.{dispute_with, last_with, with_code, with_over, with_paper}
-use Rattle.sg_record.specs.Lines.{block_lines, dispute_lines, fate_lines, paper_lines}
+use Rattle.sg_record.specs.Lines.{block_lines, cast_race_lines, dispute_lines, fate_lines, paper_lines}
+use Rattle.sg_record.specs.Places.{block_places, code_place, dispute_places, fate_places}
 use Rattle.sg_record.specs.declared.record.BallotBlock.{BallotBlock}
 use Rattle.sg_record.specs.declared.record.BlockFate.{BlockFate}
 use Rattle.sg_record.specs.declared.record.BlockFate.TheVariants as fate
@@ -50,44 +53,20 @@ changed made ballot what change = ap (λ (l : List BallotBlock). let it : Record
 
 -- CAST BALLOTS
 
--- behind the block of a cast ballot what may follow any block may follow
-gathers-open : (plan : Plan) (ballot race column : ℕ) (made : Record) (lines : List Said) (end : Next) (final : Record) → opens lines ≡ true
-    → Gathers (behind plan [] (part.Ballots ballot)) made lines end final → Gathers (behind plan [] (part.Cast ballot race column)) made lines end final
-unfolding take_line
-gathers-open plan ballot race column made [] end final open_end goes = cc
-gathers-open plan ballot race column made (said ∷ lines) end final open_end goes =
-    same_first (behind plan [] (part.Cast ballot race column)) (behind plan [] (part.Ballots ballot)) made said lines end final
-    (cast-other plan ballot race column said (not_true (is_cast_line said) open_end)) goes
-  where
-    not_true : (b : Bool) → not b ≡ true → b ≡ false
-    not_true true e = cc
-    not_true false e = refl
-
-cast-gathers : (plan : Plan) (ballot : ℕ) (made : Record) (all_codes : List CodeLine) (all_overs : List ℕ) (rest : List Said) (end : Next) (final : Record) → opens rest ≡ true
-    → Gathers (behind plan [] (part.Ballots ballot)) (with_block made ballot (fate.Cast all_codes all_overs)) rest end final
+cast-made : (plan : Plan) (ballot : ℕ) (made : Record) (all_codes : List CodeLine) (all_overs : List ℕ) (rest : List Said) (others : List Placed)
     → Steps plan ballot (λ (race column : ℕ) (codes : List CodeLine) (overs : List ℕ) (lines : List Said).
     (before : List CodeLine) (overs_before : List ℕ) → before ++ codes ≡ all_codes → overs_before ++ overs ≡ all_overs
-    → Gathers (behind plan [] (part.Cast ballot race column)) (with_block made ballot (fate.Cast before overs_before)) (lines ++ rest) end final)
-unfolding take_line
-cast-gathers plan ballot made all_codes all_overs rest end final open_end goes = record {
+    → made_of plan (lines ++ rest) (map (cast_place ballot) lines ++ others) (with_block made ballot (fate.Cast before overs_before)) ≡ made_of plan rest others (with_block made ballot (fate.Cast all_codes all_overs)))
+cast-made plan ballot made all_codes all_overs rest others = record {
   none = λ race column before overs_before codes_are overs_are.
-      let left : all_codes ≡ before = sym codes_are ∙ append-nil before in
-      let right : all_overs ≡ overs_before = sym overs_are ∙ append-nil overs_before in
-      gathers-open plan ballot race column (with_block made ballot (fate.Cast before overs_before)) rest end final open_end
-      (subst (λ (l : List CodeLine). Gathers (behind plan [] (part.Ballots ballot)) (with_block made ballot (fate.Cast l overs_before)) rest end final) left
-      (subst (λ (l : List ℕ). Gathers (behind plan [] (part.Ballots ballot)) (with_block made ballot (fate.Cast all_codes l)) rest end final) right goes));
-  mark = λ race column code codes overs lines place on before overs_before codes_are overs_are. (
-    took (CodeAt block.Cast ballot code.race code.column code) (behind plan [] (part.Cast ballot code.race (code.column + 1))),
-    rw place refl,
-    subst (λ (r : Record). Gathers (behind plan [] (part.Cast ballot code.race (code.column + 1))) r (lines ++ rest) end final) (sym (changed made ballot (fate.Cast before overs_before) (with_code code)))
-        (on (before ++ code ∷ []) overs_before (append_assoc before (code ∷ []) codes ∙ codes_are) overs_are),
-  );
-  over = λ race column over codes overs lines left on before overs_before codes_are overs_are. (
-    took (OverAt ballot over) (behind plan [] (part.Cast ballot (over + 1) 0)),
-    rw left refl,
-    subst (λ (r : Record). Gathers (behind plan [] (part.Cast ballot (over + 1) 0)) r (lines ++ rest) end final) (sym (changed made ballot (fate.Cast before overs_before) (with_over over)))
-        (on before (overs_before ++ over ∷ []) codes_are (append_assoc overs_before (over ∷ []) overs ∙ overs_are)),
-  );
+      ap (λ (l : List CodeLine). made_of plan rest others (with_block made ballot (fate.Cast l overs_before))) (sym (append-nil before) ∙ codes_are)
+      ∙ ap (λ (l : List ℕ). made_of plan rest others (with_block made ballot (fate.Cast all_codes l))) (sym (append-nil overs_before) ∙ overs_are);
+  mark = λ race column code codes overs lines place on before overs_before codes_are overs_are.
+      ap (made_of plan (lines ++ rest) (map (cast_place ballot) lines ++ others)) (changed made ballot (fate.Cast before overs_before) (with_code code))
+      ∙ on (before ++ code ∷ []) overs_before (append_assoc before (code ∷ []) codes ∙ codes_are) overs_are;
+  over = λ race column over codes overs lines left on before overs_before codes_are overs_are.
+      ap (made_of plan (lines ++ rest) (map (cast_place ballot) lines ++ others)) (changed made ballot (fate.Cast before overs_before) (with_over over))
+      ∙ on before (overs_before ++ over ∷ []) codes_are (append_assoc overs_before (over ∷ []) overs ∙ overs_are);
 }
 
 -- AUDITED BALLOTS
@@ -115,85 +94,69 @@ abbrev is_dispute_code : Slot → Bool
 is_dispute_code (slot.Code block.Dispute ballot race column) = true
 is_dispute_code due = false
 
-codes-put : (plan : Plan) (ballot : ℕ) (made : Record) (due : List Slot) (codes before : List CodeLine) (papers : List (List ℕ)) → list_all is_ballot_code due ≡ true → are_due plan due codes ≡ true
+codes-put : (plan : Plan) (ballot : ℕ) (made : Record) (due : List Slot) (codes before : List CodeLine) (papers : List (List ℕ)) → list_all is_ballot_code due ≡ true → Fills due (map Code codes)
     → put plan due (map Code codes) (with_block made ballot (fate.Audited papers before)) ≡ with_block made ballot (fate.Audited papers (before ++ codes))
 unfolding put
-codes-put plan ballot made [] [] before papers are passes = ap (λ l. with_block made ballot (fate.Audited papers l)) (sym (append-nil before))
-codes-put plan ballot made [] (code ∷ codes) before papers are passes = cc
-codes-put plan ballot made (first ∷ due) [] before papers are passes = cc
-codes-put plan ballot made (slot.Code block.Audited of race column ∷ due) (code ∷ codes) before papers are passes =
-    let parts = and_parts ((code.race == race && code.column == column) && is_code plan code.code) (are_due plan due codes) passes in
-    let tests = and_parts (code.race == race && code.column == column) (is_code plan code.code) parts.0 in
-    rw tests.0
+codes-put plan ballot made [] [] before papers are fills = ap (λ l. with_block made ballot (fate.Audited papers l)) (sym (append-nil before))
+codes-put plan ballot made [] (code ∷ codes) before papers are fills = absurd fills
+codes-put plan ballot made (first ∷ due) [] before papers are fills = absurd fills
+codes-put plan ballot made (slot.Code block.Audited of race column ∷ due) (code ∷ codes) before papers are fills =
+    rw (passed (code.race == race && code.column == column) (CodeAt block.Audited of race column code) fills.0)
     (ap (put plan due (map Code codes)) (changed made ballot (fate.Audited papers before) (with_code code))
-    ∙ (codes-put plan ballot made due codes (before ++ code ∷ []) papers are parts.1 ∙ ap (λ l. with_block made ballot (fate.Audited papers l)) (append_assoc before (code ∷ []) codes)))
-codes-put plan ballot made (slot.Code block.Dispute of race column ∷ due) (code ∷ codes) before papers are passes = cc
-codes-put plan ballot made (slot.Code block.Cast of race column ∷ due) (code ∷ codes) before papers are passes = cc
-codes-put plan ballot made (first ∷ due) (code ∷ codes) before papers are passes = cc
+    ∙ (codes-put plan ballot made due codes (before ++ code ∷ []) papers are fills.1 ∙ ap (λ l. with_block made ballot (fate.Audited papers l)) (append_assoc before (code ∷ []) codes)))
+codes-put plan ballot made (slot.Code block.Dispute of race column ∷ due) (code ∷ codes) before papers are fills = cc
+codes-put plan ballot made (slot.Code block.Cast of race column ∷ due) (code ∷ codes) before papers are fills = cc
+codes-put plan ballot made (first ∷ due) (code ∷ codes) before papers are fills = cc
 
-audit_codes-are : (plan : Plan) (ballot : ℕ) → list_all is_ballot_code (each (ballot_codes plan ballot) 0 (length plan.races)) ≡ true
-audit_codes-are plan ballot = numbered-all is_ballot_code (ballot_codes plan ballot) 0 (length plan.races - 0) (λ race. at_test race (ballot_has plan ballot race))
-  where
-    at_test : (race : ℕ) (b : Bool) → list_all is_ballot_code (cond b (race_codes plan block.Audited ballot race) []) ≡ true
-    at_test race true = numbered-all is_ballot_code (code_line block.Audited ballot race) 0 (candidates_of plan race - 0) (λ column. refl)
-    at_test race false = refl
+audit_codes-are : (plan : Plan) (ballot : ℕ) (races : List ℕ) → list_all is_ballot_code (flat_map (race_codes plan block.Audited ballot) races) ≡ true
+audit_codes-are plan ballot [] = refl
+audit_codes-are plan ballot (race ∷ races) =
+    list_all-append is_ballot_code (race_codes plan block.Audited ballot race) (flat_map (race_codes plan block.Audited ballot) races)
+    ∙ and_from (list_all is_ballot_code (race_codes plan block.Audited ballot race)) _
+    (numbered-all is_ballot_code (code_line block.Audited ballot race) 0 (candidates_of plan race - 0) (λ column. refl)) (audit_codes-are plan ballot races)
 
 -- the papers and codes of an audited ballot
 due_audit-put : (plan : Plan) (ballot : ℕ) (made : Record) (papers : List (List ℕ)) (codes : List CodeLine) → fault_of plan ≡ None
-    → are_papers plan (races_of_ballot plan ballot) papers ≡ true → are_due plan (each (ballot_codes plan ballot) 0 (length plan.races)) codes ≡ true
+    → are_papers plan (races_of_ballot plan ballot) papers ≡ true → are_columns plan (races_of_ballot plan ballot) codes ≡ true
     → put plan (due_audit plan ballot) (paper_lines (races_of_ballot plan ballot) papers ++ map Code codes) (with_block made ballot (fate.Audited [] [])) ≡ with_block made ballot (fate.Audited papers codes)
 due_audit-put plan ballot made papers codes fine papers_are codes_are =
-    let last : List Slot = each (ballot_codes plan ballot) 0 (length plan.races) in
+    let last : List Slot = audit_codes plan ballot in
     let races : List ℕ = races_of_ballot plan ballot in
-    ap (λ l. put plan (l ++ last) (paper_lines races papers ++ map Code codes) (with_block made ballot (fate.Audited [] []))) (papers-due plan ballot fine)
-    ∙ (put-append plan (paper_slots plan ballot races) last (paper_lines races papers) (map Code codes) (with_block made ballot (fate.Audited [] [])) (papers-out plan ballot races papers papers_are)
-    ∙ (ap (put plan last (map Code codes)) (papers-put plan ballot made races papers [] [] papers_are) ∙ codes-put plan ballot made last codes [] papers (audit_codes-are plan ballot) codes_are))
+    ap (λ l. put plan l (paper_lines races papers ++ map Code codes) (with_block made ballot (fate.Audited [] []))) (audit-due plan ballot fine)
+    ∙ (put-append plan (paper_slots plan ballot races) last (paper_lines races papers) (map Code codes) (with_block made ballot (fate.Audited [] [])) (filled (papers-spells plan ballot races) papers papers_are)
+    ∙ (ap (put plan last (map Code codes)) (papers-put plan ballot made races papers [] [] papers_are)
+    ∙ codes-put plan ballot made last codes [] papers (audit_codes-are plan ballot races) (filled (races-spells plan block.Audited ballot races) codes codes_are)))
 
 -- BLOCKS
 
-fate-gathers : (plan : Plan) (last ballot : ℕ) (what : BlockFate) (made : Record) (rest : List Said) (end : Next) (final : Record) → fault_of plan ≡ None
-    → is_later plan last ballot ≡ true → is_fate plan ballot what ≡ true → opens rest ≡ true → Gathers (behind plan [] (part.Ballots ballot)) (with_block made ballot what) rest end final
-    → (opens (fate_lines plan ballot what ++ rest) ≡ true) × Gathers (behind plan [] (part.Ballots last)) made (fate_lines plan ballot what ++ rest) end final
-unfolding take_line
-fate-gathers plan last ballot (fate.Cast codes overs) made rest end final fine later passes open_end goes =
+fate-made : (plan : Plan) (ballot : ℕ) (what : BlockFate) (made : Record) (rest : List Said) (others : List Placed) → fault_of plan ≡ None → is_fate plan ballot what ≡ true
+    → made_of plan (fate_lines plan ballot what ++ rest) (fate_places plan ballot what ++ others) made ≡ made_of plan rest others (with_block made ballot what)
+fate-made plan ballot (fate.Cast codes overs) made rest others fine passes =
     let parts = and_parts (are_marks plan ballot 0 0 codes) (are_overs plan ballot 0 overs) passes in
-    let lines = by_steps plan ballot (λ (race column : ℕ) (cs : List CodeLine) (os : List ℕ) (ls : List Said).
+    let all : Record = made_of plan rest others (with_block made ballot (fate.Cast codes overs)) in
+    subst (λ (ps : List Placed). made_of plan (each (cast_race_lines codes overs) 0 (length plan.races) ++ rest) (ps ++ others) (with_block made ballot (fate.Cast [] [])) ≡ all) (cast-mapped plan ballot codes overs)
+    (by_steps plan ballot (λ (race column : ℕ) (cs : List CodeLine) (os : List ℕ) (ls : List Said).
     (before : List CodeLine) (overs_before : List ℕ) → before ++ cs ≡ codes → overs_before ++ os ≡ overs
-    → Gathers (behind plan [] (part.Cast ballot race column)) (with_block made ballot (fate.Cast before overs_before)) (ls ++ rest) end final)
-    (cast-gathers plan ballot made codes overs rest end final open_end goes) 0 0 codes overs parts.0 parts.1 in
-    (refl, (took (Begun ballot) (behind plan [] (part.Cast ballot 0 0)), rw later refl, lines [] [] refl refl))
-fate-gathers plan last ballot fate.Spoiled made rest end final fine later passes open_end goes =
-    (refl, (took (Begun ballot) (behind plan [] (part.Ballots ballot)), rw later refl, goes))
-fate-gathers plan last ballot (fate.Audited papers codes) made rest end final fine later passes open_end goes =
-    let parts = and_parts _ _ passes in (
-      refl,
-      (
-        took (Begun ballot) (behind plan (due_audit plan ballot) (part.Ballots ballot)),
-        rw later refl,
-        gathers-due plan (due_audit plan ballot) (part.Ballots ballot) (with_block made ballot (fate.Audited [] [])) _ rest end final
-            ((due_audit-spells plan ballot fine).out (papers, codes) (parts.0, parts.1))
-            (subst (λ (r : Record). Gathers (behind plan [] (part.Ballots ballot)) r rest end final) (sym (due_audit-put plan ballot made papers codes fine parts.0 parts.1)) goes),
-      ),
-    )
-fate-gathers plan last ballot fate.Voided made rest end final fine later passes open_end goes =
-    (refl, (took (Begun ballot) (behind plan [] (part.Ballots ballot)), rw (passes, later) refl, goes))
+    → made_of plan (ls ++ rest) (map (cast_place ballot) ls ++ others) (with_block made ballot (fate.Cast before overs_before)) ≡ all)
+    (cast-made plan ballot made codes overs rest others) 0 0 codes overs parts.0 parts.1 [] [] refl refl)
+fate-made plan ballot fate.Spoiled made rest others fine passes = refl
+fate-made plan ballot (fate.Audited papers codes) made rest others fine passes =
+    let parts = and_parts (are_papers plan (races_of_ballot plan ballot) papers) (are_columns plan (races_of_ballot plan ballot) codes) passes in
+    made_of-due plan (due_audit plan ballot) (audit_lines plan ballot (papers, codes)) rest (audit_places plan ballot (papers, codes)) others (with_block made ballot (fate.Audited [] []))
+    ((due_audit-spells plan ballot fine).out (papers, codes) (parts.0, parts.1))
+    ∙ ap (made_of plan rest others) (due_audit-put plan ballot made papers codes fine parts.0 parts.1)
+fate-made plan ballot fate.Voided made rest others fine passes = refl
 
-pub blocks-gathers : (plan : Plan) (last : ℕ) (blocks : List BallotBlock) (made : Record) (rest : List Said) (end : Next) (final : Record) → fault_of plan ≡ None → are_blocks plan last blocks ≡ true
-    → ((ballot : ℕ) → (opens rest ≡ true) × Gathers (behind plan [] (part.Ballots ballot)) (record made { ballots = made.ballots ++ blocks }) rest end final)
-    → (opens (flat_map (block_lines plan) blocks ++ rest) ≡ true) × Gathers (behind plan [] (part.Ballots last)) made (flat_map (block_lines plan) blocks ++ rest) end final
-blocks-gathers plan last [] made rest end final fine pass goes =
-    let on = goes last in
-    (on.0, subst (λ (l : List BallotBlock). Gathers (behind plan [] (part.Ballots last)) (record made { ballots = l }) rest end final) (append-nil made.ballots) on.1)
-blocks-gathers plan last (one ∷ blocks) made rest end final fine pass goes =
+pub blocks-made : (plan : Plan) (last : ℕ) (blocks : List BallotBlock) (made : Record) (rest : List Said) (others : List Placed) → fault_of plan ≡ None → are_blocks plan last blocks ≡ true
+    → made_of plan (flat_map (block_lines plan) blocks ++ rest) (flat_map (block_places plan) blocks ++ others) made ≡ made_of plan rest others (record made { ballots = made.ballots ++ blocks })
+blocks-made plan last [] made rest others fine pass = ap (λ (l : List BallotBlock). made_of plan rest others (record made { ballots = l })) (sym (append-nil made.ballots))
+blocks-made plan last (one ∷ blocks) made rest others fine pass =
     let parts = and_parts (is_later plan last one.ballot && is_fate plan one.ballot one.fate) (are_blocks plan one.ballot blocks) pass in
     let first = and_parts (is_later plan last one.ballot) (is_fate plan one.ballot one.fate) parts.0 in
-    let joined : made.ballots ++ (one ∷ blocks) ≡ (made.ballots ++ one ∷ []) ++ blocks = sym (append_assoc made.ballots (one ∷ []) blocks) in
-    let others = blocks-gathers plan one.ballot blocks (with_block made one.ballot one.fate) rest end final fine parts.1
-    (λ ballot.
-    let on = goes ballot in
-    (on.0, subst (λ (l : List BallotBlock). Gathers (behind plan [] (part.Ballots ballot)) (record made { ballots = l }) rest end final) joined on.1)) in
-    rw (append_assoc (block_lines plan one) (flat_map (block_lines plan) blocks) rest)
-    (fate-gathers plan last one.ballot one.fate made (flat_map (block_lines plan) blocks ++ rest) end final fine first.0 first.1 others.0 others.1)
+    rw (append_assoc (block_lines plan one) (flat_map (block_lines plan) blocks) rest, append_assoc (block_places plan one) (flat_map (block_places plan) blocks) others)
+    (fate-made plan one.ballot one.fate made (flat_map (block_lines plan) blocks ++ rest) (flat_map (block_places plan) blocks ++ others) fine first.1
+    ∙ (blocks-made plan one.ballot blocks (with_block made one.ballot one.fate) rest others fine parts.1
+    ∙ ap (λ (l : List BallotBlock). made_of plan rest others (record made { ballots = l })) (append_assoc made.ballots (one ∷ []) blocks)))
 
 -- DISPUTES
 
@@ -206,51 +169,32 @@ dispute-with code [] one = refl
 dispute-with code (first ∷ []) one = refl
 dispute-with code (first ∷ second ∷ blocks) one = ap (λ l. first ∷ l) (dispute-with code (second ∷ blocks) one)
 
-dispute_codes-put : (plan : Plan) (made : Record) (one : DisputeBlock) (due : List Slot) (codes before : List CodeLine) → list_all is_dispute_code due ≡ true → are_due plan due codes ≡ true
+dispute_codes-put : (plan : Plan) (made : Record) (one : DisputeBlock) (due : List Slot) (codes before : List CodeLine) → list_all is_dispute_code due ≡ true → Fills due (map Code codes)
     → put plan due (map Code codes) (with_dispute made one before) ≡ with_dispute made one (before ++ codes)
 unfolding put
-dispute_codes-put plan made one [] [] before are passes = ap (with_dispute made one) (sym (append-nil before))
-dispute_codes-put plan made one [] (code ∷ codes) before are passes = cc
-dispute_codes-put plan made one (first ∷ due) [] before are passes = cc
-dispute_codes-put plan made one (slot.Code block.Dispute ballot race column ∷ due) (code ∷ codes) before are passes =
-    let parts = and_parts ((code.race == race && code.column == column) && is_code plan code.code) (are_due plan due codes) passes in
-    let tests = and_parts (code.race == race && code.column == column) (is_code plan code.code) parts.0 in
-    rw tests.0
+dispute_codes-put plan made one [] [] before are fills = ap (with_dispute made one) (sym (append-nil before))
+dispute_codes-put plan made one [] (code ∷ codes) before are fills = absurd fills
+dispute_codes-put plan made one (first ∷ due) [] before are fills = absurd fills
+dispute_codes-put plan made one (slot.Code block.Dispute ballot race column ∷ due) (code ∷ codes) before are fills =
+    rw (passed (code.race == race && code.column == column) (CodeAt block.Dispute ballot race column code) fills.0)
     (ap (put plan due (map Code codes)) (ap (λ (l : List DisputeBlock). let it : Record = record made { disputes = l } in it) (dispute-with code made.disputes (record one { codes = before })))
-    ∙ (dispute_codes-put plan made one due codes (before ++ code ∷ []) are parts.1 ∙ ap (with_dispute made one) (append_assoc before (code ∷ []) codes)))
-dispute_codes-put plan made one (slot.Code block.Audited ballot race column ∷ due) (code ∷ codes) before are passes = cc
-dispute_codes-put plan made one (slot.Code block.Cast ballot race column ∷ due) (code ∷ codes) before are passes = cc
-dispute_codes-put plan made one (first ∷ due) (code ∷ codes) before are passes = cc
+    ∙ (dispute_codes-put plan made one due codes (before ++ code ∷ []) are fills.1 ∙ ap (with_dispute made one) (append_assoc before (code ∷ []) codes)))
+dispute_codes-put plan made one (slot.Code block.Audited ballot race column ∷ due) (code ∷ codes) before are fills = cc
+dispute_codes-put plan made one (slot.Code block.Cast ballot race column ∷ due) (code ∷ codes) before are fills = cc
+dispute_codes-put plan made one (first ∷ due) (code ∷ codes) before are fills = cc
 
-pub disputes-gathers : (plan : Plan) (count : ℕ) (disputes : List DisputeBlock) (made : Record) → list_all (is_dispute plan) disputes ≡ true → count + length disputes ≤ most_claims
-    → Gathers (behind plan [] (part.Disputes count)) made (flat_map dispute_lines disputes) (behind plan [] (part.Disputes (count + length disputes)))
-    (record made { disputes = made.disputes ++ disputes })
-unfolding take_line
-disputes-gathers plan count [] made pass few =
-    let same : count ≡ count + 0 = omega arith in (
-      ap (λ n. behind plan [] (part.Disputes n)) same,
-      ap (λ (l : List DisputeBlock). let it : Record = record made { disputes = l } in it) (sym (append-nil made.disputes)),
-    )
-disputes-gathers plan count (one ∷ disputes) made pass few =
+pub disputes-made : (plan : Plan) (disputes : List DisputeBlock) (made : Record) → list_all (is_dispute plan) disputes ≡ true
+    → made_of plan (flat_map dispute_lines disputes) (flat_map dispute_places disputes) made ≡ record made { disputes = made.disputes ++ disputes }
+disputes-made plan [] made pass = ap (λ (l : List DisputeBlock). let it : Record = record made { disputes = l } in it) (sym (append-nil made.disputes))
+disputes-made plan (one ∷ disputes) made pass =
     let parts = and_parts (is_dispute plan one) (list_all (is_dispute plan) disputes) pass in
     let sides = and_parts ((nat_lt one.race (length plan.races) && ballot_has plan one.ballot one.race) && is_code plan one.code)
-    (are_due plan (race_codes plan block.Dispute one.ballot one.race) one.codes) parts.0 in
-    let tests = and_parts (nat_lt one.race (length plan.races) && ballot_has plan one.ballot one.race) (is_code plan one.code) sides.0 in
-    let less : nat_lt count most_claims ≡ true = lt-ltb count most_claims (omega arith) in
+    (has_columns plan one.race one.codes) parts.0 in
     let due : List Slot = race_codes plan block.Dispute one.ballot one.race in
-    let sum : (count + 1) + length disputes ≡ count + length (one ∷ disputes) = omega arith in
-    let end : Next = behind plan [] (part.Disputes (count + length (one ∷ disputes))) in
-    let final : Record = record made { disputes = made.disputes ++ (one ∷ disputes) } in
-    let codes = dispute_codes-put plan made one due one.codes []
-    (numbered-all is_dispute_code (code_line block.Dispute one.ballot one.race) 0 (candidates_of plan one.race - 0) (λ column. refl)) sides.1 in
-    let rest = disputes-gathers plan (count + 1) disputes (with_dispute made one one.codes) parts.1 (omega arith) in
-    let joined : (made.disputes ++ one ∷ []) ++ disputes ≡ made.disputes ++ (one ∷ disputes) = append_assoc made.disputes (one ∷ []) disputes in (
-      took (Disputed one.ballot one.race one.code one.word) (behind plan due (part.Disputes (count + 1))),
-      rw (less, tests.0) refl,
-      gathers-due plan due (part.Disputes (count + 1)) (with_dispute made one []) (map Code one.codes) (flat_map dispute_lines disputes) end final
-          ((dispute_codes-spells plan one.ballot one.race).out one.codes sides.1)
-          (subst (λ (r : Record). Gathers (behind plan [] (part.Disputes (count + 1))) r (flat_map dispute_lines disputes) end final) (sym codes)
-          (subst (λ (l : List DisputeBlock). Gathers (behind plan [] (part.Disputes (count + 1))) (with_dispute made one one.codes) (flat_map dispute_lines disputes) end (record made { disputes = l })) joined
-          (subst (λ (n : ℕ). Gathers (behind plan [] (part.Disputes (count + 1))) (with_dispute made one one.codes) (flat_map dispute_lines disputes) (behind plan [] (part.Disputes n))
-          (record made { disputes = (made.disputes ++ one ∷ []) ++ disputes })) sum rest))),
-    )
+    let spells = columns-spells plan block.Dispute one.ballot one.race in
+    made_of-due plan due (map Code one.codes) (flat_map dispute_lines disputes) (map (code_place block.Dispute one.ballot) one.codes) (flat_map dispute_places disputes) (with_dispute made one [])
+    (spells.out one.codes sides.1)
+    ∙ (ap (made_of plan (flat_map dispute_lines disputes) (flat_map dispute_places disputes))
+    (dispute_codes-put plan made one due one.codes [] (numbered-all is_dispute_code (code_line block.Dispute one.ballot one.race) 0 (candidates_of plan one.race - 0) (λ column. refl)) (filled spells one.codes sides.1))
+    ∙ (disputes-made plan disputes (with_dispute made one one.codes) parts.1
+    ∙ ap (λ (l : List DisputeBlock). let it : Record = record made { disputes = l } in it) (append_assoc made.disputes (one ∷ []) disputes)))

@@ -1,8 +1,6 @@
 -- A record, put together line by line behind the plan.
-use Rattle.std.proofs.Common.{◌≡◌, ℕ, ◌-◌, ◌<◌, Bool, true, false, not, List, [], ◌∷◌, ◌++◌, length, replicate, Option, Some, None, refl, sym, subst, ap, ◌∙◌, arith}
-use Rattle.std.proofs.lemmas.Bool.{and_parts}
-use Rattle.std.specs.List.{list_all}
-use Rattle.std.specs.Option.{is_some, option_map_or}
+use Rattle.std.proofs.Common.{◌≡◌, ℕ, ◌-◌, ◌<◌, List, [], ◌∷◌, ◌++◌, length, replicate, Some, refl, sym, subst, ap, ◌∙◌, arith}
+use Rattle.std.specs.Option.{option_map_or}
 use Rattle.sg_lines.specs.Words.{encode_lower}
 use Rattle.sg_plan.specs.declared.plan.Draw.{Draw}
 use Rattle.sg_plan.specs.declared.plan.Draw.TheVariants as drawn
@@ -14,17 +12,17 @@ use Rattle.sg_forms.specs.Said.{Said}
 use Rattle.sg_forms.specs.Said.Said.{Seal}
 use Rattle.sg_grammar.specs.Due.{commits, each, race_code_commits, race_results, race_row_commits, race_rows, results}
 use Rattle.sg_grammar.specs.Placed.{Placed}
-use Rattle.sg_grammar.specs.Walk.{Next, Taken, behind, body_line, first_taken, place, take_line, taking, took}
-use Rattle.sg_grammar.specs.declared.state.Part.{Part}
+use Rattle.sg_grammar.specs.Walk.{Next, Taken, behind, body_line, take_line, took}
+use Rattle.sg_grammar.specs.declared.state.Head.TheVariants as head
 use Rattle.sg_grammar.specs.declared.state.Part.TheVariants as part
 use Rattle.sg_grammar.specs.declared.state.Slot.{Slot}
 use Rattle.sg_grammar.specs.declared.state.Slot.TheVariants as slot
-use Rattle.sg_record.proofs.BlockLines.{is_code_slot}
 use Rattle.sg_record.proofs.BodyOut.{commits-some, run-other, run_state}
 use Rattle.sg_record.proofs.DrawLine.{IsDraw, digits_one}
-use Rattle.sg_record.proofs.Filling.{Fills, fits}
+use Rattle.sg_record.proofs.Filling.{Fills, FillsAs, filled}
 use Rattle.sg_record.proofs.GatheredLists.{code_commits-put, put, put-append, put-one, put_line, row_commits-put, rows-put, tallies-put, with_code_commits, with_row_commits, with_rows}
-use Rattle.sg_record.proofs.SaidWalk.{block-other, fits-block, fits-no_cast, fits-no_run, is_cast_line, is_other_slot, opens, results-no_code, results-some}
+use Rattle.sg_record.proofs.Placing.{GoesAs, whole-step}
+use Rattle.sg_record.proofs.SaidWalk.{fits-no_run}
 use Rattle.sg_record.proofs.SectionLines.{AreCommits, AreResults, Commits, Results, code_commits-spells, lines_of_commits, lines_of_results, lines_of_tallies, row_commits-spells, rows-spells, tallies-spells}
 use Rattle.sg_record.specs.inside.Gathering.{added, blank, no_digest, sealed}
 use Rattle.sg_record.specs.Lines.{draw_line, indexed, race_code_commit_lines, race_row_commit_lines, race_row_lines}
@@ -36,35 +34,38 @@ Gathers next made [] end final = (next ≡ end) × (made ≡ final)
 Gathers next made (said ∷ lines) end final =
     (taken : Taken) × (take_line next said ≡ Some taken) × Gathers taken.next (added taken.next.plan made taken.placed said) lines end final
 
--- a state that takes the first line as another one does
-pub same_first : (a b : Next) (made : Record) (said : Said) (lines : List Said) (end : Next) (final : Record) → take_line a said ≡ take_line b said
-    → Gathers b made (said ∷ lines) end final → Gathers a made (said ∷ lines) end final
-same_first a b made said lines end final same goes = (goes.0, same ∙ goes.1, goes.2)
+-- a record with the lines, each in its place
+abbrev pub made_of : Plan → List Said → List Placed → Record → Record
+made_of plan [] places made = made
+made_of plan (said ∷ lines) [] made = made
+made_of plan (said ∷ lines) (placed ∷ places) made = made_of plan lines places (added plan made placed said)
 
--- LINES THAT ARE DUE
+-- lines behind the plan, in their places, make the record with them
+pub as-gathers : (plan : Plan) (next end : Next) (lines : List Said) (places : List Placed) (made : Record) → next.plan ≡ plan → next.head ≡ head.Whole → GoesAs next lines places end
+    → Gathers next made lines end (made_of plan lines places made)
+as-gathers plan next end [] [] made same whole goes = (goes, refl)
+as-gathers plan next end [] (p ∷ ps) made same whole goes = absurd goes
+as-gathers plan next end (s ∷ ls) [] made same whole goes = absurd goes
+as-gathers plan next end (s ∷ ls) (p ∷ ps) made same whole goes =
+    let is = whole-step next s (took p goes.0) whole goes.1 in
+    let stays : goes.0.plan ≡ plan = is.0 ∙ same in (
+      took p goes.0,
+      goes.1,
+      subst (λ (q : Plan). Gathers goes.0 (added q made p s) ls end (made_of plan ls ps (added plan made p s))) (sym stays) (as-gathers plan goes.0 end ls ps (added plan made p s) stays is.1 goes.2),
+    )
 
-gathers-slot : (plan : Plan) (first : Slot) (due : List Slot) (may_begin : Part) (made : Record) (said : Said) (lines : List Said) (end : Next) (final : Record)
-    → fits first said ≡ true → Gathers (behind plan due may_begin) (put_line plan first said made) lines end final → Gathers (behind plan (first ∷ due) may_begin) made (said ∷ lines) end final
-unfolding take_line
-gathers-slot plan first due may_begin made said lines end final there goes = at_place (place first said) refl there
-  where
-    at_place : (o : Option Placed) → place first said ≡ o → is_some o ≡ true → Gathers (behind plan (first ∷ due) may_begin) made (said ∷ lines) end final
-    at_place None e none = cc
-    at_place (Some placed) e some =
-        let same : put_line plan first said made ≡ added plan made placed said = ap (λ o. option_map_or (λ p. added plan made p said) o made) e in (
-          took placed (behind plan due may_begin),
-          ap (λ o. taking plan due may_begin o) e,
-          subst (λ (r : Record). Gathers (behind plan due may_begin) r lines end final) same goes,
-        )
-
-pub gathers-due : (plan : Plan) (due : List Slot) (may_begin : Part) (made : Record) (lines rest : List Said) (end : Next) (final : Record)
-    → Fills due lines → Gathers (behind plan [] may_begin) (put plan due lines made) rest end final → Gathers (behind plan due may_begin) made (lines ++ rest) end final
+-- lines that fill what is due
+pub made_of-due : (plan : Plan) (due : List Slot) (lines rest : List Said) (places others : List Placed) (made : Record) → FillsAs due lines places
+    → made_of plan (lines ++ rest) (places ++ others) made ≡ made_of plan rest others (put plan due lines made)
 unfolding put
-gathers-due plan [] may_begin made [] rest end final fills goes = goes
-gathers-due plan [] may_begin made (said ∷ lines) rest end final fills goes = absurd fills
-gathers-due plan (first ∷ due) may_begin made [] rest end final fills goes = absurd fills
-gathers-due plan (first ∷ due) may_begin made (said ∷ lines) rest end final fills goes =
-    gathers-slot plan first due may_begin made said (lines ++ rest) end final fills.0 (gathers-due plan due may_begin (put_line plan first said made) lines rest end final fills.1 goes)
+made_of-due plan [] [] rest [] others made fills = refl
+made_of-due plan [] [] rest (p ∷ ps) others made fills = absurd fills
+made_of-due plan [] (s ∷ ls) rest ps others made fills = absurd fills
+made_of-due plan (d ∷ due) [] rest ps others made fills = absurd fills
+made_of-due plan (d ∷ due) (s ∷ ls) rest [] others made fills = absurd fills
+made_of-due plan (d ∷ due) (s ∷ ls) rest (p ∷ ps) others made fills =
+    let same : put_line plan d s made ≡ added plan made p s = ap (λ o. option_map_or (λ placed. added plan made placed s) o made) fills.0 in
+    made_of-due plan due ls rest ps others (added plan made p s) fills.1 ∙ ap (λ (r : Record). made_of plan rest others (put plan due ls r)) (sym same)
 
 -- COMMITMENTS
 
@@ -96,28 +97,26 @@ committed plan c = record (bare plan) { code_commits = c.0; row_commits = c.1.0;
 pub commits-put : (version : ℕ) (plan : Plan) (c : Commits) → AreCommits plan c → put plan (commits plan) (lines_of_commits c) (bare plan) ≡ committed plan c
 commits-put version plan c are =
     put-append plan (each (race_code_commits plan) 0 (length plan.races)) (each (race_row_commits plan) 0 (length plan.races) ++ slot.Seal 1 ∷ [])
-    (indexed race_code_commit_lines 0 c.0) (indexed race_row_commit_lines 0 c.1.0 ++ Seal 1 c.1.1 ∷ []) (bare plan) ((code_commits-spells version plan).out c.0 are.0)
+    (indexed race_code_commit_lines 0 c.0) (indexed race_row_commit_lines 0 c.1.0 ++ Seal 1 c.1.1 ∷ []) (bare plan) (filled (code_commits-spells version plan) c.0 are.0)
     ∙ (ap (put plan (each (race_row_commits plan) 0 (length plan.races) ++ slot.Seal 1 ∷ []) (indexed race_row_commit_lines 0 c.1.0 ++ Seal 1 c.1.1 ∷ []))
     (code_commits-put version plan (bare plan) c.0 are.0)
     ∙ (put-append plan (each (race_row_commits plan) 0 (length plan.races)) (slot.Seal 1 ∷ []) (indexed race_row_commit_lines 0 c.1.0) (Seal 1 c.1.1 ∷ [])
-    (with_code_commits (bare plan) c.0) ((row_commits-spells version plan).out c.1.0 are.1.0)
+    (with_code_commits (bare plan) c.0) (filled (row_commits-spells version plan) c.1.0 are.1.0)
     ∙ (ap (put plan (slot.Seal 1 ∷ []) (Seal 1 c.1.1 ∷ [])) (row_commits-put version plan (with_code_commits (bare plan) c.0) c.1.0 are.1.0)
     ∙ put-one plan (slot.Seal 1) (Seal 1 c.1.1) (with_row_commits (with_code_commits (bare plan) c.0) c.1.0))))
 
 -- the commitments, behind the plan
 pub gathers-commits : (plan : Plan) (made : Record) (lines rest : List Said) (end : Next) (final : Record)
-    → Fills (commits plan) lines → Gathers (behind plan [] (part.Ballots 0)) (put plan (commits plan) lines made) rest end final → Gathers (run_state plan) made (lines ++ rest) end final
+    → Fills (commits plan) lines → Gathers (behind plan (commits plan) (part.Ballots 0)) made (lines ++ rest) end final → Gathers (run_state plan) made (lines ++ rest) end final
 unfolding take_line
-gathers-commits plan made lines rest end final fills goes =
-    from (commits plan) lines refl (commits-some plan) fills (gathers-due plan (commits plan) (part.Ballots 0) made lines rest end final fills goes)
+gathers-commits plan made lines rest end final fills goes = from (commits plan) lines refl (commits-some plan) fills goes
   where
     from : (slots : List Slot) (front : List Said) → commits plan ≡ slots → 0 < length slots → Fills slots front
         → Gathers (behind plan slots (part.Ballots 0)) made (front ++ rest) end final → Gathers (run_state plan) made (front ++ rest) end final
     from [] front are some filled on = absurd (omega arith)
     from (first ∷ due) [] are some filled on = absurd filled
     from (first ∷ due) (said ∷ front) are some filled on =
-        same_first (run_state plan) (behind plan (first ∷ due) (part.Ballots 0)) made said (front ++ rest) end final
-        (run-other plan said (fits-no_run first said filled.0) ∙ ap (λ l. body_line plan l (part.Ballots 0) said) are) on
+        (on.0, run-other plan said (fits-no_run first said filled.0) ∙ (ap (λ l. body_line plan l (part.Ballots 0) said) are ∙ on.1), on.2)
 
 -- RESULTS
 
@@ -151,39 +150,11 @@ results-put version plan r made are =
     let closed : Record = record tallied { seals = sealed made.seals 2 r.1.0 } in
     let opened : Record = record closed { draw = r.1.1.0 } in
     put-append plan (each (race_results plan) 0 (length plan.races)) (slot.Seal 2 ∷ slot.Draw ∷ (each (race_rows plan) 0 (length plan.races) ++ slot.Seal 3 ∷ []))
-    (lines_of_tallies plan r.0) (Seal 2 r.1.0 ∷ draw_line r.1.1.0 ∷ (indexed race_row_lines 0 r.1.1.1.0 ++ Seal 3 r.1.1.1.1 ∷ [])) (unresulted plan made) ((tallies-spells version plan).out r.0 are.0)
+    (lines_of_tallies plan r.0) (Seal 2 r.1.0 ∷ draw_line r.1.1.0 ∷ (indexed race_row_lines 0 r.1.1.1.0 ++ Seal 3 r.1.1.1.1 ∷ [])) (unresulted plan made) (filled (tallies-spells version plan) r.0 are.0)
     ∙ (ap (put plan (slot.Seal 2 ∷ slot.Draw ∷ (each (race_rows plan) 0 (length plan.races) ++ slot.Seal 3 ∷ [])) (Seal 2 r.1.0 ∷ draw_line r.1.1.0 ∷ (indexed race_row_lines 0 r.1.1.1.0 ++ Seal 3 r.1.1.1.1 ∷ [])))
     (tallies-put version plan (record made { rows = (bare plan).rows }) r.0 are.0)
     ∙ (ap (put plan (each (race_rows plan) 0 (length plan.races) ++ slot.Seal 3 ∷ []) (indexed race_row_lines 0 r.1.1.1.0 ++ Seal 3 r.1.1.1.1 ∷ []))
     (draw-put version plan r.1.1.0 closed are.1.1.0)
-    ∙ (put-append plan (each (race_rows plan) 0 (length plan.races)) (slot.Seal 3 ∷ []) (indexed race_row_lines 0 r.1.1.1.0) (Seal 3 r.1.1.1.1 ∷ []) opened ((rows-spells version plan).out r.1.1.1.0 are.1.1.1.0)
+    ∙ (put-append plan (each (race_rows plan) 0 (length plan.races)) (slot.Seal 3 ∷ []) (indexed race_row_lines 0 r.1.1.1.0) (Seal 3 r.1.1.1.1 ∷ []) opened (filled (rows-spells version plan) r.1.1.1.0 are.1.1.1.0)
     ∙ (ap (put plan (slot.Seal 3 ∷ []) (Seal 3 r.1.1.1.1 ∷ [])) (rows-put version plan opened r.1.1.1.0 are.1.1.1.0)
     ∙ put-one plan (slot.Seal 3) (Seal 3 r.1.1.1.1) (with_rows opened r.1.1.1.0)))))
-
--- the results, in any place of ballots
-pub gathers-results : (plan : Plan) (last : ℕ) (made : Record) (lines rest : List Said) (end : Next) (final : Record)
-    → Fills (results plan) lines → Gathers (behind plan [] (part.Disputes 0)) (put plan (results plan) lines made) rest end final
-    → (opens (lines ++ rest) ≡ true) × Gathers (behind plan [] (part.Ballots last)) made (lines ++ rest) end final
-unfolding take_line
-gathers-results plan last made lines rest end final fills goes =
-    from (results plan) lines refl (results-some plan) (results-no_code plan) fills (gathers-due plan (results plan) (part.Disputes 0) made lines rest end final fills goes)
-  where
-    not_false : (b : Bool) → not b ≡ true → b ≡ false
-    not_false true e = cc
-    not_false false e = refl
-
-    opened : (b : Bool) → b ≡ false → not b ≡ true
-    opened true e = cc
-    opened false e = refl
-
-    from : (slots : List Slot) (front : List Said) → results plan ≡ slots → 0 < length slots → list_all is_other_slot slots ≡ true → Fills slots front
-        → Gathers (behind plan slots (part.Disputes 0)) made (front ++ rest) end final
-        → (opens (front ++ rest) ≡ true) × Gathers (behind plan [] (part.Ballots last)) made (front ++ rest) end final
-    from [] front are some other filled on = absurd (omega arith)
-    from (first ∷ due) [] are some other filled on = absurd filled
-    from (first ∷ due) (said ∷ front) are some other filled on =
-        let tests = and_parts (is_other_slot first) (list_all is_other_slot due) other in (
-          opened (is_cast_line said) (fits-no_cast first said (not_false (is_code_slot first) tests.0) filled.0),
-          same_first (behind plan [] (part.Ballots last)) (behind plan (first ∷ due) (part.Disputes 0)) made said (front ++ rest) end final
-              (block-other plan last said (fits-block first said filled.0) ∙ ap (λ l. first_taken plan l said) are) on,
-        )

@@ -2,8 +2,9 @@
 use Rattle.std.proofs.Common.{◌≡◌, ℕ, zero, suc, ◌+◌, ◌-◌, ◌*◌, ◌≤◌, ◌==◌, Bool, true, false, List, [], ◌∷◌, ◌++◌, length, map, take, drop, replicate, refl, sym, subst, ap, ◌∙◌, arith}
 use Rattle.std.proofs.Math.Seq.{get_or-append_seam, set-append_seam}
 use Rattle.std.proofs.lemmas.Bool.{eq-eqb}
-use Rattle.std.proofs.lemmas.List.{append-nil, append_assoc, length-append, length-drop, map-append, take-append-drop}
+use Rattle.std.proofs.lemmas.List.{append-nil, append_assoc, length-append, length-drop, map-append, take-append-drop, length-map}
 use Rattle.std.specs.Option.{option_map_or}
+use Rattle.sg_lists.proofs.Lists.{map-map}
 use Rattle.sg_commit.specs.declared.Digest.{Digest}
 use Rattle.sg_plan.specs.Ballots.{candidates_of, entries_of}
 use Rattle.sg_plan.specs.declared.plan.Plan.{Plan}
@@ -11,15 +12,17 @@ use Rattle.sg_forms.specs.Said.{Said}
 use Rattle.sg_forms.specs.Said.Said.{Flags, Places}
 use Rattle.sg_forms.specs.declared.line.RowOpening.{RowOpening}
 use Rattle.sg_grammar.specs.Due.{bits_on, code_commit, each, due_flags, instance_flags, instance_row_commits, instance_rows, lines_for, numbered, due_places, race_code_commits, race_places, race_results, race_row_commits, race_rows, race_totals, row_commit, row_opening, due_totals}
+use Rattle.sg_grammar.specs.Placed.Placed.{FlagsAt}
 use Rattle.sg_grammar.specs.Walk.{place}
 use Rattle.sg_grammar.specs.declared.state.Slot.{Slot}
 use Rattle.sg_record.proofs.BitLines.{Piece, bits-spells, cut, cut-lines, cut-pieces, joined}
 use Rattle.sg_record.proofs.EachItem.{zipped, zipped-length}
-use Rattle.sg_record.proofs.Filling.{Each, Fills, Spells, spells-each}
-use Rattle.sg_record.proofs.SectionLines.{AreTallies, HasEntries, HasFlags, HasPlaces, HasRows, HasTotals, IsTally, Tallies, Tally, by_race, flags_all-spells, lines_of_tallies, places_all-spells, tallies-into, tallies-lines, tallies-lengths, tally-spells, tally_lines}
+use Rattle.sg_record.proofs.Filling.{Each, Fills, filled, spells-each}
+use Rattle.sg_record.proofs.SectionLines.{AreTallies, HasEntries, HasFlags, HasPlaces, HasRows, HasTotals, IsTally, Tallies, Tally, by_race, flags_all-spells, lines_of_tallies, places_all-spells, tallies-each, tallies-into, tallies-lengths, tally-spells, tally_lines}
 use Rattle.sg_record.proofs.SlotLines.{Any, Counts, code_commit-spells, flags-spells, places-spells, row-spells, row_commit-spells, signs_length, total-spells}
 use Rattle.sg_record.specs.inside.Gathering.{added, append_at, append_in, bits_of}
 use Rattle.sg_record.specs.Lines.{bit_sign, code_commit_line, flag_lines, indexed, instance_row_commit_lines, instance_row_lines, place_lines, race_code_commit_lines, race_row_commit_lines, race_row_lines, row_commit_line, row_line, signs_on, total_line as total_lines}
+use Rattle.sg_record.specs.Places.{code_commit_place, instance_row_commit_places, instance_row_places, row_commit_place, row_place}
 use Rattle.sg_record.specs.declared.record.Record.{Record}
 use Rattle.sg_record.specs.declared.record.RowCommit.{RowCommit as RowDigests}
 
@@ -48,31 +51,31 @@ put-append plan (first ∷ due) more [] back made fills = absurd fills
 put-append plan (first ∷ due) more (said ∷ front) back made fills = put-append plan due more front back (put_line plan first said made) fills.1
 
 -- a list that grows item by item
-pub put-items : {A : Type 0} (version : ℕ) (plan : Plan) (P : ℕ → A → Type 0) (g : ℕ → A → List Said) (f : ℕ → List Slot) → ((k : ℕ) → Spells version (P k) (g k) (f k))
+pub put-items : {A : Type 0} (plan : Plan) (P : ℕ → A → Type 0) (g : ℕ → A → List Said) (f : ℕ → List Slot) → ((k : ℕ) (x : A) → P k x → Fills (f k) (g k x))
     → (L : List A → Record) → ((k : ℕ) (x : A) (done : List A) → P k x → put plan (f k) (g k x) (L done) ≡ L (done ++ x ∷ []))
     → (at count : ℕ) (xs done : List A) → Each P at count xs → put plan (numbered f at count) (indexed g at xs) (L done) ≡ L (done ++ xs)
 unfolding put numbered indexed
-put-items version plan P g f spells L step at zero [] done passes = ap L (sym (append-nil done))
-put-items version plan P g f spells L step at zero (x ∷ xs) done passes = absurd passes
-put-items version plan P g f spells L step at (suc count) [] done passes = absurd passes
-put-items version plan P g f spells L step at (suc count) (x ∷ xs) done passes =
-    put-append plan (f at) (numbered f (at + 1) count) (g at x) (indexed g (at + 1) xs) (L done) ((spells at).out x passes.0)
+put-items plan P g f fills L step at zero [] done passes = ap L (sym (append-nil done))
+put-items plan P g f fills L step at zero (x ∷ xs) done passes = absurd passes
+put-items plan P g f fills L step at (suc count) [] done passes = absurd passes
+put-items plan P g f fills L step at (suc count) (x ∷ xs) done passes =
+    put-append plan (f at) (numbered f (at + 1) count) (g at x) (indexed g (at + 1) xs) (L done) (fills at x passes.0)
     ∙ (ap (put plan (numbered f (at + 1) count) (indexed g (at + 1) xs)) (step at x done passes.0)
-    ∙ (put-items version plan P g f spells L step (at + 1) count xs (done ++ x ∷ []) passes.1 ∙ ap L (append_assoc done (x ∷ []) xs)))
+    ∙ (put-items plan P g f fills L step (at + 1) count xs (done ++ x ∷ []) passes.1 ∙ ap L (append_assoc done (x ∷ []) xs)))
 
 -- a list of lists, each of which is filled in its turn
-pub put-lists : {A : Type 0} (version : ℕ) (plan : Plan) (P : ℕ → A → Type 0) (g : ℕ → A → List Said) (f : ℕ → List Slot) → ((k : ℕ) → Spells version (P k) (g k) (f k))
+pub put-lists : {A : Type 0} (plan : Plan) (P : ℕ → A → Type 0) (g : ℕ → A → List Said) (f : ℕ → List Slot) → ((k : ℕ) (x : A) → P k x → Fills (f k) (g k x))
     → (L : List A → Record) (none : A) → ((k : ℕ) (x : A) (done rest : List A) → P k x → length done ≡ k → put plan (f k) (g k x) (L (done ++ none ∷ rest)) ≡ L (done ++ x ∷ rest))
     → (at count : ℕ) (xs done : List A) → Each P at count xs → length done ≡ at → put plan (numbered f at count) (indexed g at xs) (L (done ++ replicate count none)) ≡ L (done ++ xs)
 unfolding put numbered indexed
-put-lists version plan P g f spells L none step at zero [] done passes many = refl
-put-lists version plan P g f spells L none step at zero (x ∷ xs) done passes many = absurd passes
-put-lists version plan P g f spells L none step at (suc count) [] done passes many = absurd passes
-put-lists version plan P g f spells L none step at (suc count) (x ∷ xs) done passes many =
-    put-append plan (f at) (numbered f (at + 1) count) (g at x) (indexed g (at + 1) xs) (L (done ++ none ∷ replicate count none)) ((spells at).out x passes.0)
+put-lists plan P g f fills L none step at zero [] done passes many = refl
+put-lists plan P g f fills L none step at zero (x ∷ xs) done passes many = absurd passes
+put-lists plan P g f fills L none step at (suc count) [] done passes many = absurd passes
+put-lists plan P g f fills L none step at (suc count) (x ∷ xs) done passes many =
+    put-append plan (f at) (numbered f (at + 1) count) (g at x) (indexed g (at + 1) xs) (L (done ++ none ∷ replicate count none)) (fills at x passes.0)
     ∙ (ap (put plan (numbered f (at + 1) count) (indexed g (at + 1) xs))
     (step at x done (replicate count none) passes.0 many ∙ ap L (sym (append_assoc done (x ∷ []) (replicate count none))))
-    ∙ (put-lists version plan P g f spells L none step (at + 1) count xs (done ++ x ∷ []) passes.1 (omega (arith, length-append done (x ∷ []), many))
+    ∙ (put-lists plan P g f fills L none step (at + 1) count xs (done ++ x ∷ []) passes.1 (omega (arith, length-append done (x ∷ []), many))
     ∙ ap L (append_assoc done (x ∷ []) xs)))
 
 -- IN ITS PLACE
@@ -99,7 +102,7 @@ race_code_commits-put : (version : ℕ) (plan : Plan) (made : Record) (race : �
     → Each (λ (entry : ℕ) (x : Digest). Any x) 0 (entries_of plan race - 0) items → length done ≡ race
     → put plan (race_code_commits plan race) (race_code_commit_lines race items) (with_code_commits made (done ++ [] ∷ rest)) ≡ with_code_commits made (done ++ items ∷ rest)
 race_code_commits-put version plan made race items done rest all many =
-    put-items version plan (λ (entry : ℕ) (x : Digest). Any x) (code_commit_line race) (code_commit race) (code_commit-spells version race)
+    put-items plan (λ (entry : ℕ) (x : Digest). Any x) (code_commit_line race) (code_commit race) (λ entry. filled (code_commit-spells version race entry))
     (λ (list : List Digest). with_code_commits made (done ++ list ∷ rest))
     (λ entry digest list any.
     put-one plan _ _ _
@@ -109,8 +112,8 @@ race_code_commits-put version plan made race items done rest all many =
 pub code_commits-put : (version : ℕ) (plan : Plan) (made : Record) (lists : List (List Digest)) → HasEntries plan lists
     → put plan (each (race_code_commits plan) 0 (length plan.races)) (indexed race_code_commit_lines 0 lists) (with_code_commits made (replicate (length plan.races - 0) [])) ≡ with_code_commits made lists
 code_commits-put version plan made lists all =
-    put-lists version plan (λ (race : ℕ). Each (λ (entry : ℕ) (x : Digest). Any x) 0 (entries_of plan race - 0)) race_code_commit_lines (race_code_commits plan)
-    (λ race. spells-each version (λ (entry : ℕ) (x : Digest). Any x) (code_commit_line race) (code_commit race) (code_commit-spells version race) 0 (entries_of plan race - 0))
+    put-lists plan (λ (race : ℕ). Each (λ (entry : ℕ) (x : Digest). Any x) 0 (entries_of plan race - 0)) race_code_commit_lines (race_code_commits plan)
+    (λ race. filled (spells-each version (λ (entry : ℕ) (x : Digest). Any x) (code_commit_line race) (code_commit_place race) (code_commit race) (code_commit-spells version race) 0 (entries_of plan race - 0)))
     (with_code_commits made) [] (λ race items done rest passes many. race_code_commits-put version plan made race items done rest passes many)
     0 (length plan.races - 0) lists [] all refl
 
@@ -123,7 +126,7 @@ instance_row_commits-put : (version : ℕ) (plan : Plan) (made : Record) (race i
     → put plan (instance_row_commits plan race instance) (instance_row_commit_lines race instance items) (with_row_commits made (before ++ (done ++ [] ∷ rest) ∷ after))
     ≡ with_row_commits made (before ++ (done ++ items ∷ rest) ∷ after)
 instance_row_commits-put version plan made race instance items before after done rest all some many =
-    put-items version plan (λ (row : ℕ) (x : RowDigests). Any x) (row_commit_line race instance) (row_commit race instance) (row_commit-spells version race instance)
+    put-items plan (λ (row : ℕ) (x : RowDigests). Any x) (row_commit_line race instance) (row_commit race instance) (λ row. filled (row_commit-spells version race instance row))
     (λ (list : List RowDigests). with_row_commits made (before ++ (done ++ list ∷ rest) ∷ after))
     (λ row digests list any.
     put-one plan _ _ _
@@ -134,17 +137,18 @@ pub row_commits-put : (version : ℕ) (plan : Plan) (made : Record) (lists : Lis
     → put plan (each (race_row_commits plan) 0 (length plan.races)) (indexed race_row_commit_lines 0 lists)
     (with_row_commits made (replicate (length plan.races - 0) (replicate (plan.instances - 0) []))) ≡ with_row_commits made lists
 row_commits-put version plan made lists all =
-    put-lists version plan (λ (race : ℕ). Each (λ (instance : ℕ). Each (λ (row : ℕ) (x : RowDigests). Any x) 0 (entries_of plan race - 0)) 0 (plan.instances - 0))
+    put-lists plan (λ (race : ℕ). Each (λ (instance : ℕ). Each (λ (row : ℕ) (x : RowDigests). Any x) 0 (entries_of plan race - 0)) 0 (plan.instances - 0))
     race_row_commit_lines (race_row_commits plan)
-    (λ race. spells-each version (λ (instance : ℕ). Each (λ (row : ℕ) (x : RowDigests). Any x) 0 (entries_of plan race - 0)) (instance_row_commit_lines race) (instance_row_commits plan race)
-    (λ instance. spells-each version (λ (row : ℕ) (x : RowDigests). Any x) (row_commit_line race instance) (row_commit race instance) (row_commit-spells version race instance)
-    0 (entries_of plan race - 0))
-    0 (plan.instances - 0))
+    (λ race. filled (spells-each version (λ (instance : ℕ). Each (λ (row : ℕ) (x : RowDigests). Any x) 0 (entries_of plan race - 0)) (instance_row_commit_lines race) (instance_row_commit_places race)
+    (instance_row_commits plan race)
+    (λ instance. spells-each version (λ (row : ℕ) (x : RowDigests). Any x) (row_commit_line race instance) (row_commit_place race instance) (row_commit race instance)
+    (row_commit-spells version race instance) 0 (entries_of plan race - 0))
+    0 (plan.instances - 0)))
     (with_row_commits made) (replicate (plan.instances - 0) [])
     (λ race instances before after passes some.
-    put-lists version plan (λ (instance : ℕ). Each (λ (row : ℕ) (x : RowDigests). Any x) 0 (entries_of plan race - 0)) (instance_row_commit_lines race) (instance_row_commits plan race)
-    (λ instance. spells-each version (λ (row : ℕ) (x : RowDigests). Any x) (row_commit_line race instance) (row_commit race instance) (row_commit-spells version race instance)
-    0 (entries_of plan race - 0))
+    put-lists plan (λ (instance : ℕ). Each (λ (row : ℕ) (x : RowDigests). Any x) 0 (entries_of plan race - 0)) (instance_row_commit_lines race) (instance_row_commits plan race)
+    (λ instance. filled (spells-each version (λ (row : ℕ) (x : RowDigests). Any x) (row_commit_line race instance) (row_commit_place race instance) (row_commit race instance)
+    (row_commit-spells version race instance) 0 (entries_of plan race - 0)))
     (λ (l : List (List RowDigests)). with_row_commits made (before ++ l ∷ after)) []
     (λ instance items done rest all_items many. instance_row_commits-put version plan made race instance items before after done rest all_items some many)
     0 (plan.instances - 0) instances [] passes refl)
@@ -160,7 +164,7 @@ instance_rows-put : (version : ℕ) (plan : Plan) (made : Record) (race instance
     → put plan (instance_rows plan race instance) (instance_row_lines instance items) (with_rows made (before ++ (done ++ [] ∷ rest) ∷ after))
     ≡ with_rows made (before ++ (done ++ items ∷ rest) ∷ after)
 instance_rows-put version plan made race instance items before after done rest all some many =
-    put-items version plan (λ (row : ℕ) (x : RowOpening). Any x) row_line (row_opening race instance) (row-spells version race instance)
+    put-items plan (λ (row : ℕ) (x : RowOpening). Any x) row_line (row_opening race instance) (λ row. filled (row-spells version race instance row))
     (λ (list : List RowOpening). with_rows made (before ++ (done ++ list ∷ rest) ∷ after))
     (λ row opening list any. put-one plan _ _ _ ∙ ap (with_rows made) (append_in-seam before after race done rest instance list (opening ∷ []) some many))
     0 (entries_of plan race - 0) items [] all
@@ -169,15 +173,15 @@ pub rows-put : (version : ℕ) (plan : Plan) (made : Record) (lists : List (List
     → put plan (each (race_rows plan) 0 (length plan.races)) (indexed race_row_lines 0 lists)
     (with_rows made (replicate (length plan.races - 0) (replicate (plan.instances - 0) []))) ≡ with_rows made lists
 rows-put version plan made lists all =
-    put-lists version plan (λ (race : ℕ). Each (λ (instance : ℕ). Each (λ (row : ℕ) (x : RowOpening). Any x) 0 (entries_of plan race - 0)) 0 (plan.instances - 0))
+    put-lists plan (λ (race : ℕ). Each (λ (instance : ℕ). Each (λ (row : ℕ) (x : RowOpening). Any x) 0 (entries_of plan race - 0)) 0 (plan.instances - 0))
     race_row_lines (race_rows plan)
-    (λ race. spells-each version (λ (instance : ℕ). Each (λ (row : ℕ) (x : RowOpening). Any x) 0 (entries_of plan race - 0)) instance_row_lines (instance_rows plan race)
-    (λ instance. spells-each version (λ (row : ℕ) (x : RowOpening). Any x) row_line (row_opening race instance) (row-spells version race instance) 0 (entries_of plan race - 0))
-    0 (plan.instances - 0))
+    (λ race. filled (spells-each version (λ (instance : ℕ). Each (λ (row : ℕ) (x : RowOpening). Any x) 0 (entries_of plan race - 0)) instance_row_lines (instance_row_places race) (instance_rows plan race)
+    (λ instance. spells-each version (λ (row : ℕ) (x : RowOpening). Any x) row_line (row_place race instance) (row_opening race instance) (row-spells version race instance) 0 (entries_of plan race - 0))
+    0 (plan.instances - 0)))
     (with_rows made) (replicate (plan.instances - 0) [])
     (λ race instances before after passes some.
-    put-lists version plan (λ (instance : ℕ). Each (λ (row : ℕ) (x : RowOpening). Any x) 0 (entries_of plan race - 0)) instance_row_lines (instance_rows plan race)
-    (λ instance. spells-each version (λ (row : ℕ) (x : RowOpening). Any x) row_line (row_opening race instance) (row-spells version race instance) 0 (entries_of plan race - 0))
+    put-lists plan (λ (instance : ℕ). Each (λ (row : ℕ) (x : RowOpening). Any x) 0 (entries_of plan race - 0)) instance_row_lines (instance_rows plan race)
+    (λ instance. filled (spells-each version (λ (row : ℕ) (x : RowOpening). Any x) row_line (row_place race instance) (row_opening race instance) (row-spells version race instance) 0 (entries_of plan race - 0)))
     (λ (l : List (List RowOpening)). with_rows made (before ++ l ∷ after)) []
     (λ instance items done rest all_items many. instance_rows-put version plan made race instance items before after done rest all_items some many)
     0 (plan.instances - 0) instances [] passes refl)
@@ -205,17 +209,17 @@ joined-cut zero (bit ∷ bits) few = absurd (omega arith)
 joined-cut (suc count) bits few = ap (λ l. take 64 bits ++ l) (joined-cut count (drop 64 bits) (omega (arith, length-drop 64 bits))) ∙ take-append-drop 64 bits
 
 -- the bits of all lines
-bits-put : (version bits : ℕ) (plan : Plan) (form : List ℕ → Said) (due : ℕ → List Slot)
-    → ((line : ℕ) → Spells version (Counts (bits_on bits line)) (λ (piece : List Bool). form (map bit_sign piece) ∷ []) (due line))
+bits-put : (bits : ℕ) (plan : Plan) (form : List ℕ → Said) (due : ℕ → List Slot)
+    → ((line : ℕ) (piece : List Bool) → Counts (bits_on bits line) piece → Fills (due line) (form (map bit_sign piece) ∷ []))
     → (L : List Bool → Record) → ((line : ℕ) (piece done : List Bool) → Counts (bits_on bits line) piece → put plan (due line) (form (map bit_sign piece) ∷ []) (L done) ≡ L (done ++ piece))
     → (xs : List Bool) → Counts bits xs → put plan (each due 0 (lines_for bits)) (each (λ line. form (signs_on xs line) ∷ []) 0 (lines_for (length xs))) (L []) ≡ L xs
 unfolding joined
-bits-put version bits plan form due spells L step xs many =
+bits-put bits plan form due fills L step xs many =
     let g : ℕ → List Bool → List Said = λ line piece. form (map bit_sign piece) ∷ [] in
     let lines : each (λ line. form (signs_on xs line) ∷ []) 0 (lines_for (length xs)) ≡ indexed g 0 (cut (lines_for bits - 0) xs)
-    = ap (λ n. numbered (λ line. form (signs_on xs line) ∷ []) 0 (lines_for n - 0)) many ∙ sym (cut-lines form xs 0 (lines_for bits - 0)) in
+    = ap (λ n. numbered (λ line. form (signs_on xs line) ∷ []) 0 (lines_for n - 0)) many ∙ sym (cut-lines (λ line. form) xs 0 (lines_for bits - 0)) in
     ap (λ l. put plan (each due 0 (lines_for bits)) l (L [])) lines
-    ∙ (put-items version plan (Piece bits) g due spells (λ (pieces : List (List Bool)). L (joined pieces))
+    ∙ (put-items plan (Piece bits) g due fills (λ (pieces : List (List Bool)). L (joined pieces))
     (λ line piece done counts. step line piece (joined done) counts ∙ ap L (sym (joined-push done piece)))
     0 (lines_for bits - 0) (cut (lines_for bits - 0) xs) [] (cut-pieces bits 0 (lines_for bits - 0) xs (omega (arith, many)))
     ∙ ap L (joined-cut (lines_for bits - 0) xs (omega (arith, many))))
@@ -233,10 +237,6 @@ with_tally made before after t = record made {
 abbrev with_tallies : Record → List Tally → Record
 with_tallies made list = record made { flags = map (λ (x : Tally). x.0) list; places = map (λ (x : Tally). x.1.0) list; totals = map (λ (x : Tally). x.1.1) list }
 
-length-map : {A B : Type 0} (f : A → B) (xs : List A) → length (map f xs) ≡ length xs
-length-map f [] = refl
-length-map f (x ∷ xs) = ap suc (length-map f xs)
-
 with_tally-is : (made : Record) (before after : List Tally) (t : Tally) → with_tallies made (before ++ t ∷ after) ≡ with_tally made before after t
 with_tally-is made before after t =
     rw (map-append (λ (x : Tally). x.0) before (t ∷ after), map-append (λ (x : Tally). x.1.0) before (t ∷ after), map-append (λ (x : Tally). x.1.1) before (t ∷ after)) refl
@@ -246,12 +246,13 @@ flags-put : (version : ℕ) (plan : Plan) (made : Record) (race : ℕ) (before a
     → put plan (each (instance_flags plan race) 0 plan.instances) (indexed (flag_lines race) 0 flags) (with_tally made before after (replicate (plan.instances - 0) [], (places, totals)))
     ≡ with_tally made before after (flags, (places, totals))
 flags-put version plan made race before after flags places totals some all =
-    let here : length (map (λ (x : Tally). x.0) before) ≡ race = length-map (λ (x : Tally). x.0) before ∙ some in
-    put-lists version plan (λ (instance : ℕ). Counts (entries_of plan race)) (flag_lines race) (instance_flags plan race)
-    (λ instance. bits-spells version (entries_of plan race) (Flags race instance) (due_flags plan race instance) (λ line. flags-spells version race instance line _))
+    let here : length (map (λ (x : Tally). x.0) before) ≡ race = length-map before (λ (x : Tally). x.0) ∙ some in
+    put-lists plan (λ (instance : ℕ). Counts (entries_of plan race)) (flag_lines race) (instance_flags plan race)
+    (λ instance. filled (bits-spells version (entries_of plan race) (Flags race instance) (λ line. FlagsAt race instance (64 * line)) (due_flags plan race instance)
+    (λ line. flags-spells version race instance line _)))
     (λ (l : List (List Bool)). with_tally made before after (l, (places, totals))) []
     (λ instance bits done rest counts many.
-    bits-put version (entries_of plan race) plan (Flags race instance) (due_flags plan race instance) (λ line. flags-spells version race instance line _)
+    bits-put (entries_of plan race) plan (Flags race instance) (due_flags plan race instance) (λ line. filled (flags-spells version race instance line _))
     (λ (b : List Bool). with_tally made before after (done ++ b ∷ rest, (places, totals)))
     (λ line piece list counted. put_flags instance line piece list done rest here many counted)
     bits counts)
@@ -271,8 +272,8 @@ places-put : (version : ℕ) (plan : Plan) (made : Record) (race : ℕ) (before 
     → HasPlaces plan race places
     → put plan (race_places plan race) (place_lines race places) (with_tally made before after (flags, ([], totals))) ≡ with_tally made before after (flags, (places, totals))
 places-put version plan made race before after flags places totals some all =
-    let here : length (map (λ (x : Tally). x.1.0) before) ≡ race = length-map (λ (x : Tally). x.1.0) before ∙ some in
-    bits-put version (entries_of plan race) plan (Places race) (due_places plan race) (λ line. places-spells version race line _)
+    let here : length (map (λ (x : Tally). x.1.0) before) ≡ race = length-map before (λ (x : Tally). x.1.0) ∙ some in
+    bits-put (entries_of plan race) plan (Places race) (due_places plan race) (λ line. filled (places-spells version race line _))
     (λ (b : List Bool). with_tally made before after (flags, (b, totals)))
     (λ line piece list counted. put_places line piece list here counted)
     places all
@@ -290,8 +291,8 @@ totals-put : (version : ℕ) (plan : Plan) (made : Record) (race : ℕ) (before 
     → HasTotals plan race totals
     → put plan (race_totals plan race) (indexed (total_lines race) 0 totals) (with_tally made before after (flags, (places, []))) ≡ with_tally made before after (flags, (places, totals))
 totals-put version plan made race before after flags places totals some all =
-    let here : length (map (λ (x : Tally). x.1.1) before) ≡ race = length-map (λ (x : Tally). x.1.1) before ∙ some in
-    put-items version plan (λ (candidate : ℕ) (x : ℕ). Any x) (total_lines race) (due_totals race) (total-spells version race)
+    let here : length (map (λ (x : Tally). x.1.1) before) ≡ race = length-map before (λ (x : Tally). x.1.1) ∙ some in
+    put-items plan (λ (candidate : ℕ) (x : ℕ). Any x) (total_lines race) (due_totals race) (λ candidate. filled (total-spells version race candidate))
     (λ (list : List ℕ). with_tally made before after (flags, (places, list)))
     (λ candidate count list any.
     put-one plan _ _ _
@@ -309,18 +310,12 @@ tally-put : (version : ℕ) (plan : Plan) (made : Record) (race : ℕ) (t : Tall
 tally-put version plan made race t before after is some =
     ap (put plan (race_results plan race) (tally_lines race t)) (with_tally-is made before after (no_tally plan))
     ∙ (put-append plan (each (instance_flags plan race) 0 plan.instances) (race_places plan race ++ race_totals plan race) (indexed (flag_lines race) 0 t.0)
-    (place_lines race t.1.0 ++ indexed (total_lines race) 0 t.1.1) (with_tally made before after (no_tally plan)) (flags.out t.0 is.0)
+    (place_lines race t.1.0 ++ indexed (total_lines race) 0 t.1.1) (with_tally made before after (no_tally plan)) (filled (flags_all-spells version plan race) t.0 is.0)
     ∙ (ap (put plan (race_places plan race ++ race_totals plan race) (place_lines race t.1.0 ++ indexed (total_lines race) 0 t.1.1))
     (flags-put version plan made race before after t.0 [] [] some is.0)
-    ∙ (put-append plan (race_places plan race) (race_totals plan race) (place_lines race t.1.0) (indexed (total_lines race) 0 t.1.1) (with_tally made before after (t.0, ([], []))) (places.out t.1.0 is.1.0)
+    ∙ (put-append plan (race_places plan race) (race_totals plan race) (place_lines race t.1.0) (indexed (total_lines race) 0 t.1.1) (with_tally made before after (t.0, ([], []))) (filled (places_all-spells version plan race) t.1.0 is.1.0)
     ∙ (ap (put plan (race_totals plan race) (indexed (total_lines race) 0 t.1.1)) (places-put version plan made race before after t.0 t.1.0 [] some is.1.0)
     ∙ (totals-put version plan made race before after t.0 t.1.0 t.1.1 some is.1.1 ∙ sym (with_tally-is made before after t))))))
-  where
-    flags : Spells version (HasFlags plan race) (indexed (flag_lines race) 0) (each (instance_flags plan race) 0 plan.instances)
-    flags = flags_all-spells version plan race
-
-    places : Spells version (HasPlaces plan race) (place_lines race) (race_places plan race)
-    places = places_all-spells version plan race
 
 map-replicate : {A B : Type 0} (f : A → B) (count : ℕ) (x : A) → map f (replicate count x) ≡ replicate count (f x)
 map-replicate f zero x = refl
@@ -339,10 +334,6 @@ rights [] (y ∷ ys) many = absurd (omega (arith, many))
 rights (x ∷ xs) [] many = absurd (omega (arith, many))
 rights (x ∷ xs) (y ∷ ys) many = ap (λ l. y ∷ l) (rights xs ys (omega (arith, many)))
 
-map-map : {A B C : Type 0} (g : B → C) (f : A → B) (xs : List A) → map (λ (x : A). g (f x)) xs ≡ map g (map f xs)
-map-map g f [] = refl
-map-map g f (x ∷ xs) = ap (λ l. g (f x) ∷ l) (map-map g f xs)
-
 pub tallies-put : (version : ℕ) (plan : Plan) (made : Record) (t : Tallies) → AreTallies plan t
     → put plan (each (race_results plan) 0 (length plan.races)) (lines_of_tallies plan t)
     (record made {
@@ -359,9 +350,9 @@ tallies-put version plan made t are =
     let flags : map (λ (x : Tally). x.0) (by_race t) ≡ t.0 = lefts t.0 (zipped t.1.0 t.1.1) outer in
     let others : map (λ (x : Tally). x.1) (by_race t) ≡ zipped t.1.0 t.1.1 = rights t.0 (zipped t.1.0 t.1.1) outer in
     let places : map (λ (x : Tally). x.1.0) (by_race t) ≡ t.1.0
-    = map-map (λ (p : List Bool × List ℕ). p.0) (λ (x : Tally). x.1) (by_race t) ∙ (ap (map (λ (p : List Bool × List ℕ). p.0)) others ∙ lefts t.1.0 t.1.1 (many.2 ∙ sym many.1)) in
+    = sym (map-map (λ (p : List Bool × List ℕ). p.0) (λ (x : Tally). x.1) (by_race t)) ∙ (ap (map (λ (p : List Bool × List ℕ). p.0)) others ∙ lefts t.1.0 t.1.1 (many.2 ∙ sym many.1)) in
     let totals : map (λ (x : Tally). x.1.1) (by_race t) ≡ t.1.1
-    = map-map (λ (p : List Bool × List ℕ). p.1) (λ (x : Tally). x.1) (by_race t) ∙ (ap (map (λ (p : List Bool × List ℕ). p.1)) others ∙ rights t.1.0 t.1.1 (many.2 ∙ sym many.1)) in
+    = sym (map-map (λ (p : List Bool × List ℕ). p.1) (λ (x : Tally). x.1) (by_race t)) ∙ (ap (map (λ (p : List Bool × List ℕ). p.1)) others ∙ rights t.1.0 t.1.1 (many.2 ∙ sym many.1)) in
     let before : with_tallies made (replicate (length plan.races - 0) (no_tally plan)) ≡ record made {
       flags = replicate (length plan.races - 0) (replicate (plan.instances - 0) []);
       places = replicate (length plan.races - 0) [];
@@ -374,7 +365,7 @@ tallies-put version plan made t are =
     ) refl in
     let behind : with_tallies made (by_race t) ≡ record made { flags = t.0; places = t.1.0; totals = t.1.1 } = rw (flags, places, totals) refl in
     ap (put plan (each (race_results plan) 0 (length plan.races)) (lines_of_tallies plan t)) (sym before)
-    ∙ (ap (λ l. put plan (each (race_results plan) 0 (length plan.races)) l (with_tallies made (replicate (length plan.races - 0) (no_tally plan)))) (sym (tallies-lines plan t are))
-    ∙ (put-lists version plan (IsTally plan) tally_lines (race_results plan) (tally-spells version plan) (with_tallies made) (no_tally plan)
+    ∙ (ap (λ l. put plan (each (race_results plan) 0 (length plan.races)) l (with_tallies made (replicate (length plan.races - 0) (no_tally plan)))) (sym (tallies-each tally_lines plan t are))
+    ∙ (put-lists plan (IsTally plan) tally_lines (race_results plan) (λ race. filled (tally-spells version plan race)) (with_tallies made) (no_tally plan)
     (λ race one done rest is some. tally-put version plan made race one done rest is some)
     0 (length plan.races - 0) (by_race t) [] (tallies-into plan t are) refl ∙ behind))

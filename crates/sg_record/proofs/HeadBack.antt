@@ -1,8 +1,9 @@
 -- Lines that may stand one after another up to a whole record begin with the lines of a plan that keeps its limits.
 use Rattle.std.proofs.Common.{◌≡◌, ℕ, ◌+◌, ◌-◌, ◌<◌, nat_lt, nat_le, Bool, true, false, ◌&&◌, inl, inr, List, [], ◌∷◌, ◌++◌, length, map, Some, refl, sym, subst, ap, ◌∙◌, arith}
 use Rattle.std.proofs.lemmas.Bool.{cases_eq, eq-eqb, ne_eqb}
-use Rattle.std.proofs.lemmas.List.{append-nil, append_assoc, length-append}
+use Rattle.std.proofs.lemmas.List.{append-nil, append_assoc, length-append, map_push}
 use Rattle.std.specs.List.{flat_map}
+use Rattle.sg_lists.proofs.Options.{cond_some-then, option_map-some}
 use Rattle.sg_plan.specs.Ballots.{r_rows}
 use Rattle.sg_plan.specs.Limits.{candidate_keeps, is_version, most_instances, most_races, most_styles, race_head_keeps, run_keeps, style_keeps}
 use Rattle.sg_plan.specs.Names.{is_name_word, is_within}
@@ -12,7 +13,7 @@ use Rattle.sg_plan.specs.declared.plan.Run.{Run}
 use Rattle.sg_plan.specs.declared.plan.Style.{Style as PlanStyle}
 use Rattle.sg_forms.specs.Said.{Said}
 use Rattle.sg_forms.specs.Said.Said.{Ballots, Cand, Election, Instances, Race, Style, Version}
-use Rattle.sg_grammar.proofs.Claims.{if_some, if_then-claim, option_map-some}
+use Rattle.sg_grammar.proofs.Claims.{if_then-claim}
 use Rattle.sg_grammar.proofs.Making.{candidates-race, made-line, made-start}
 use Rattle.sg_grammar.specs.Due.{commits}
 use Rattle.sg_grammar.specs.Head.{Making, behind_candidate, head_line, last_candidates, made, no_plan, take_run, take_style, with_cand, with_candidate, with_instances, with_name, with_race, with_run, with_style, with_version}
@@ -61,10 +62,6 @@ is_head stage = true
 abbrev pub Adds : List Said → Said → Making → Type 0
 Adds lines said making = (head_lines making.plan making.head ≡ lines ++ said ∷ []) × (is_head making.head ≡ true)
 
-map-push : {A B : Type 0} (f : A → B) (xs : List A) (y : A) → map f (xs ++ y ∷ []) ≡ map f xs ++ f y ∷ []
-map-push f [] y = refl
-map-push f (x ∷ xs) y = ap (λ l. f x ∷ l) (map-push f xs y)
-
 -- RACES
 
 but-none : (races : List PlanRace) → races_but 0 races ≡ flat_map race_lines races
@@ -92,7 +89,7 @@ but-candidate left [] name some = absurd (omega arith)
 but-candidate left (race ∷ []) name some =
     let same : length (race.candidates ++ name ∷ []) + left ≡ length race.candidates + (left + 1) = omega (arith, length-append race.candidates (name ∷ [])) in
     ap (λ n. Race race.name n race.votes ∷ map Cand (race.candidates ++ name ∷ [])) same
-    ∙ ap (λ l. Race race.name (length race.candidates + (left + 1)) race.votes ∷ l) (map-push Cand race.candidates name)
+    ∙ ap (λ l. Race race.name (length race.candidates + (left + 1)) race.votes ∷ l) (map_push Cand race.candidates name)
 but-candidate left (race ∷ next ∷ []) name some =
     ap (λ l. race_lines race ++ l) (but-candidate left (next ∷ []) name (omega arith)) ∙ sym (append_assoc (race_lines race) (races_but (left + 1) (next ∷ [])) (Cand name ∷ []))
 but-candidate left (race ∷ next ∷ third ∷ races) name some =
@@ -122,7 +119,7 @@ style-adds plan name races m none e =
     let front : List Said → List Said = λ l. Version plan.version ∷ Election plan.name ∷ Instances plan.instances ∷ (flat_map race_lines plan.races ++ l) in
     let one : map style_line (plan.styles ++ style ∷ []) ++ map run_line plan.runs ≡ map style_line plan.styles ++ Style name races ∷ []
     = ap (λ (l : List Run). map style_line (plan.styles ++ style ∷ []) ++ map run_line l) none
-    ∙ (append-nil (map style_line (plan.styles ++ style ∷ [])) ∙ map-push style_line plan.styles style) in
+    ∙ (append-nil (map style_line (plan.styles ++ style ∷ [])) ∙ map_push style_line plan.styles style) in
     let two : map style_line plan.styles ++ Style name races ∷ [] ≡ later_lines plan ++ Style name races ∷ []
     = ap (λ l. l ++ Style name races ∷ []) (sym (append-nil (map style_line plan.styles)) ∙ ap (λ (l : List Run). map style_line plan.styles ++ map run_line l) (sym none)) in
     (ap front (one ∙ two) ∙ ap (λ l. Version plan.version ∷ Election plan.name ∷ Instances plan.instances ∷ l) (sym (append_assoc (flat_map race_lines plan.races) (later_lines plan) (Style name races ∷ []))), refl)) e
@@ -135,7 +132,7 @@ run-adds plan (Ballots style count) m e =
     let run : Run = record { style = style; count = count } in
     let front : List Said → List Said = λ l. Version plan.version ∷ Election plan.name ∷ Instances plan.instances ∷ (flat_map race_lines plan.races ++ l) in
     let one : map style_line plan.styles ++ map run_line (plan.runs ++ run ∷ []) ≡ later_lines plan ++ Ballots style count ∷ []
-    = ap (λ l. map style_line plan.styles ++ l) (map-push run_line plan.runs run) ∙ sym (append_assoc (map style_line plan.styles) (map run_line plan.runs) (Ballots style count ∷ [])) in
+    = ap (λ l. map style_line plan.styles ++ l) (map_push run_line plan.runs run) ∙ sym (append_assoc (map style_line plan.styles) (map run_line plan.runs) (Ballots style count ∷ [])) in
     (ap front one ∙ ap (λ l. Version plan.version ∷ Election plan.name ∷ Instances plan.instances ∷ l) (sym (append_assoc (flat_map race_lines plan.races) (later_lines plan) (Ballots style count ∷ []))), refl)) e
 run-adds plan said m e = cc
 
@@ -162,7 +159,7 @@ head-adds plan head.Races (Race name candidates votes) m kept e =
       refl,
     )) e
 head-adds plan head.Races (Style name races) m kept e =
-    style-adds plan name races m kept.stands.2.runs (if_some (nat_lt 0 (length plan.races)) (take_style plan (Style name races)) m e)
+    style-adds plan name races m kept.stands.2.runs (cond_some-then (nat_lt 0 (length plan.races)) (take_style plan (Style name races)) m e)
 head-adds plan head.Races said m kept e = cc
 head-adds plan (head.Candidates left) (Cand name) m kept e =
     if_then-claim (Adds (lines_with plan (races_but left plan.races)) (Cand name)) (candidate_keeps (last_candidates plan.races) name) (made (with_cand plan name) (behind_candidate left)) m

@@ -4,8 +4,8 @@ use Rattle.std.proofs.lemmas.Bool.{and_parts, le-leb, leb-true, lt-ltb, ne_eqb}
 use Rattle.std.proofs.lemmas.List.{append-nil, append_assoc}
 use Rattle.std.proofs.lemmas.Nat.{mul-le}
 use Rattle.std.specs.List.{flat_map}
+use Rattle.sg_lists.proofs.Counting.{count_by-append}
 use Rattle.sg_plan.proofs.BallotLists.{ballot_styles-append}
-use Rattle.sg_plan.proofs.Counting.{count_by-append}
 use Rattle.sg_plan.proofs.LimitLaws.{passes_tests}
 use Rattle.sg_plan.proofs.Lists.{first_fault-None}
 use Rattle.sg_plan.proofs.NameTests.{is_within-true}

@@ -1,5 +1,6 @@
 -- The proofs of records: their writers, their reader and their laws.
 pub mod Appending
+pub mod BallotRaces
 pub mod BitLines
 pub mod Bits
 pub mod BlockLines
@@ -9,6 +10,7 @@ pub mod BodyOut
 pub mod Bounds
 pub mod BytesWalk
 pub mod CastLines
+pub mod Columns
 pub mod DrawLine
 pub mod EachItem
 pub mod Filling
@@ -24,7 +26,6 @@ pub mod HeadOut
 pub mod Limits
 pub mod Marks
 pub mod PlacedBlocks
-pub mod PlacedSections
 pub mod PlacesLaw
 pub mod Placing
 pub mod Putting

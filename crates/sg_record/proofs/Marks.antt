@@ -1,22 +1,23 @@
 -- The codes and the races that are over on a cast ballot, race by race.
-use Rattle.std.proofs.Common.{◌≡◌, ℕ, ◌+◌, ◌<◌, ◌≤◌, ◌==◌, ◌&&◌, true, false, cond, List, [], ◌∷◌, ◌++◌, length, map, nat_lt, nat_le, get_or, All, refl, sym, ap, ◌∙◌, inl, inr, arith}
+use Rattle.std.proofs.Common.{◌≡◌, ℕ, ◌+◌, ◌<◌, ◌≤◌, ◌==◌, ◌&&◌, true, false, cond, List, [], ◌∷◌, ◌++◌, length, map, nat_lt, nat_le, get_or, All, None, refl, sym, ap, ◌∙◌, inl, inr, arith}
 use Rattle.std.proofs.lemmas.Bool.{and_parts, eq-eqb, eqb-true, leb-true, ltb-true, ne_eqb, or_cases, true≢false}
 use Rattle.std.proofs.lemmas.List.Sums.{AllPass-from_list_all}
 use Rattle.std.proofs.lemmas.List.Elements.{All-head, All-tail}
 use Rattle.std.specs.List.{list_all}
-use Rattle.sg_plan.specs.Ballots.{ballot_has, ballots_of, candidates_of}
+use Rattle.sg_plan.specs.Ballots.{ballot_has, ballots_of, candidates_of, races_of_ballot, style_of_ballot}
 use Rattle.sg_plan.specs.Codes.{codes_of, is_code}
+use Rattle.sg_plan.specs.Limits.{fault_of}
 use Rattle.sg_plan.specs.declared.plan.Plan.{Plan}
 use Rattle.sg_forms.specs.declared.line.CodeLine.{CodeLine}
 use Rattle.sg_forms.specs.Said.Said.{Code, Over, Paper}
 use Rattle.sg_forms.specs.Spelling.{IsCode}
 use Rattle.sg_grammar.specs.Walk.{follows_in_order, is_column, is_later, is_race_left}
-use Rattle.sg_grammar.specs.Due.{race_codes}
-use Rattle.sg_grammar.specs.declared.state.Block.TheVariants as block
-use Rattle.sg_grammar.specs.declared.state.Slot.{Slot}
-use Rattle.sg_grammar.specs.declared.state.Slot.TheVariants as slot
-use Rattle.sg_record.specs.Formed.{are_blocks, are_due, are_marks, are_overs, are_papers, is_dispute, is_due, is_fate}
+use Rattle.sg_record.proofs.Bounds.{few_candidates}
+use Rattle.sg_record.proofs.Columns.{IsOfRaces, codes-own, race_codes-own}
+use Rattle.sg_record.proofs.Limits.{ballot_two}
+use Rattle.sg_record.specs.Formed.{are_blocks, are_columns, are_marks, are_overs, are_papers, has_columns, is_dispute, is_fate}
 use Rattle.sg_record.specs.declared.record.BallotBlock.{BallotBlock}
+use Rattle.sg_record.specs.declared.record.BlockFate.TheVariants as fate
 use Rattle.sg_record.specs.declared.record.DisputeBlock.{DisputeBlock}
 use Rattle.sg_record.specs.Lines.{cast_race_lines, paper_lines}
 use Rattle.sg_record.specs.Writing.{HaveCodes}
@@ -104,25 +105,11 @@ overs_rise plan ballot race (x ∷ xs) e =
     let low = and_parts (nat_lt x (length plan.races) && ballot_has plan ballot x) (nat_le race x) whole.0 in
     (leb-true race x low.1, overs_rise plan ballot (x + 1) xs whole.1)
 
--- a code that is due is one of the version
-due_code : (plan : Plan) (due : Slot) (code : CodeLine) → is_due plan due code ≡ true → IsCode plan.version code.code
-due_code plan (slot.Code kind ballot race column) code e = code_passes plan code.code (and_parts (code.race == race && code.column == column) (is_code plan code.code) e).1
-due_code plan (slot.CodeCommit race entry) code e = absurd (true≢false (sym e))
-due_code plan (slot.RowCommit race instance row) code e = absurd (true≢false (sym e))
-due_code plan (slot.Seal number) code e = absurd (true≢false (sym e))
-due_code plan (slot.Paper ballot race count) code e = absurd (true≢false (sym e))
-due_code plan (slot.Flags race instance line count) code e = absurd (true≢false (sym e))
-due_code plan (slot.Places race line count) code e = absurd (true≢false (sym e))
-due_code plan (slot.Total race candidate) code e = absurd (true≢false (sym e))
-due_code plan slot.Draw code e = absurd (true≢false (sym e))
-due_code plan (slot.Row race instance row) code e = absurd (true≢false (sym e))
-
-pub due_codes : (plan : Plan) (slots : List Slot) (codes : List CodeLine) → are_due plan slots codes ≡ true → HaveCodes plan.version codes
-due_codes plan slots [] e = tt
-due_codes plan [] (code ∷ codes) e = absurd (true≢false (sym e))
-due_codes plan (due ∷ slots) (code ∷ codes) e =
-    let parts = and_parts (is_due plan due code) (are_due plan slots codes) e in
-    (due_code plan due code parts.0, due_codes plan slots codes parts.1)
+-- codes of columns are of the version
+pub own_codes : (plan : Plan) (races : List ℕ) (codes : List CodeLine) → All (IsOfRaces plan races) codes → HaveCodes plan.version codes
+own_codes plan races [] own = tt
+own_codes plan races (code ∷ codes) own =
+    (code_passes plan code.code (All-head (IsOfRaces plan races) code codes own).is, own_codes plan races codes (All-tail (IsOfRaces plan races) code codes own))
 
 -- PAPERS
 
@@ -167,6 +154,18 @@ papers_pass plan (race ∷ races) (list ∷ papers) most some e =
       len = omega (arith, rest.len);
       each = (codes_pass plan list here.1, omega (arith, count, first), omega (arith, count, most race), rest.each);
     }
+
+-- an audited ballot's
+pub audit_papers : (plan : Plan) (ballot : ℕ) (papers : List (List ℕ)) (codes : List CodeLine) → fault_of plan ≡ None → is_fate plan ballot (fate.Audited papers codes) ≡ true
+    → Papers plan (races_of_ballot plan ballot) papers
+audit_papers plan ballot papers codes fine e =
+    papers_pass plan (races_of_ballot plan ballot) papers (λ race. few_candidates plan race fine) (ballot_two plan fine (style_of_ballot plan ballot)) (and_parts _ _ e).0
+
+-- and its codes
+pub audit_have : (plan : Plan) (ballot : ℕ) (papers : List (List ℕ)) (codes : List CodeLine) → is_fate plan ballot (fate.Audited papers codes) ≡ true → HaveCodes plan.version codes
+audit_have plan ballot papers codes e =
+    own_codes plan (races_of_ballot plan ballot) codes
+    (codes-own plan (races_of_ballot plan ballot) codes (and_parts (are_papers plan (races_of_ballot plan ballot) papers) (are_columns plan (races_of_ballot plan ballot) codes) e).1)
 
 -- BLOCKS
 
@@ -213,6 +212,6 @@ claims_pass plan [] e = tt
 claims_pass plan (one ∷ disputes) e =
     let whole = and_parts (is_dispute plan one) (list_all (is_dispute plan) disputes) e in
     let claim = (nat_lt one.race (length plan.races) && ballot_has plan one.ballot one.race) && is_code plan one.code in
-    let here = and_parts claim (are_due plan (race_codes plan block.Dispute one.ballot one.race) one.codes) whole.0 in
+    let here = and_parts claim (has_columns plan one.race one.codes) whole.0 in
     let code = and_parts (nat_lt one.race (length plan.races) && ballot_has plan one.ballot one.race) (is_code plan one.code) here.0 in
-    (code_passes plan one.code code.1, due_codes plan (race_codes plan block.Dispute one.ballot one.race) one.codes here.1, claims_pass plan disputes whole.1)
+    (code_passes plan one.code code.1, own_codes plan (one.race ∷ []) one.codes (race_codes-own plan one.race [] one.codes here.1), claims_pass plan disputes whole.1)

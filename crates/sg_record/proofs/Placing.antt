@@ -1,6 +1,7 @@
 -- Lines that may stand one after another, each in its place.
-use Rattle.std.proofs.Common.{◌≡◌, ℕ, zero, suc, ◌+◌, ◌<◌, ◌≤◌, ◌⊎◌, inl, inr, List, [], ◌∷◌, ◌++◌, length, map, Option, Some, None, refl, sym, subst, ap, ◌∙◌, arith}
+use Rattle.std.proofs.Common.{◌≡◌, ℕ, ◌<◌, ◌⊎◌, inl, inr, List, [], ◌∷◌, ◌++◌, length, map, Option, Some, None, refl, sym, subst, ap, ◌∙◌, arith}
 use Rattle.std.specs.Option.{is_some}
+use Rattle.sg_lists.proofs.Options.{option_map-some}
 use Rattle.sg_plan.specs.Limits.{fault_of}
 use Rattle.sg_plan.specs.declared.plan.Plan.{Plan}
 use Rattle.sg_forms.proofs.LineLaws.{lines_are_read}
@@ -8,76 +9,23 @@ use Rattle.sg_forms.specs.Reading.{line_of}
 use Rattle.sg_forms.specs.Said.{Said}
 use Rattle.sg_forms.specs.Said.Said.{Ballots, Version}
 use Rattle.sg_forms.specs.Spelling.{spelling}
-use Rattle.sg_grammar.proofs.Claims.{option_map-some}
-use Rattle.sg_grammar.specs.Due.{commits, numbered, results}
+use Rattle.sg_grammar.specs.Due.{commits, results}
 use Rattle.sg_grammar.specs.Head.{head_line}
 use Rattle.sg_grammar.specs.Placed.{Placed}
 use Rattle.sg_grammar.specs.Placed.Placed.{OfPlan}
-use Rattle.sg_grammar.specs.Walk.{Next, Taken, Walked, after_run, behind, body_line, first_taken, headed, in_head, place, start, take_at, take_bytes, take_line, taking, took, walk, walked_on}
+use Rattle.sg_grammar.specs.Walk.{Next, Taken, Walked, after_run, behind, body_line, first_taken, headed, in_head, start, take_at, take_bytes, take_line, taking, took, walk, walked_on}
 use Rattle.sg_grammar.specs.declared.state.Head.{Head}
 use Rattle.sg_grammar.specs.declared.state.Head.TheVariants as head
 use Rattle.sg_grammar.specs.declared.state.Part.{Part}
 use Rattle.sg_grammar.specs.declared.state.Part.TheVariants as part
 use Rattle.sg_grammar.specs.declared.state.Slot.{Slot}
 use Rattle.sg_record.proofs.BodyOut.{commits-some, run-other, run_state}
-use Rattle.sg_record.proofs.BytesWalk.{Stays, body-behind, first_line, take_line-stays}
-use Rattle.sg_record.proofs.Filling.{AreIn, Each, Fills}
+use Rattle.sg_record.proofs.BytesWalk.{IsBehind, Stays, body-behind, first_line, take_line-stays}
+use Rattle.sg_record.proofs.Filling.{AreIn, FillsAs}
 use Rattle.sg_record.proofs.HeadOut.{plan-out}
 use Rattle.sg_record.proofs.SaidWalk.{Goes, fits-block, fits-no_run, block-other, results-some}
-use Rattle.sg_record.specs.Lines.{indexed, plan_lines}
+use Rattle.sg_record.specs.Lines.{plan_lines}
 use Rattle.sg_record.specs.Places.{posts}
-
--- THE LINES THAT ARE DUE
-
--- each line stands in its slot, in this place
-abbrev pub FillsAs : List Slot → List Said → List Placed → Type 0
-FillsAs [] [] [] = Unit {0}
-FillsAs [] [] (placed ∷ places) = ⊥
-FillsAs [] (said ∷ lines) places = ⊥
-FillsAs (slot ∷ due) [] places = ⊥
-FillsAs (slot ∷ due) (said ∷ lines) [] = ⊥
-FillsAs (slot ∷ due) (said ∷ lines) (placed ∷ places) = (place slot said ≡ Some placed) × FillsAs due lines places
-
-pub as-append : (due more : List Slot) (lines behind_them : List Said) (places others : List Placed)
-    → FillsAs due lines places → FillsAs more behind_them others → FillsAs (due ++ more) (lines ++ behind_them) (places ++ others)
-as-append [] more [] bs [] os here there = there
-as-append [] more [] bs (p ∷ ps) os here there = absurd here
-as-append [] more (s ∷ ls) bs ps os here there = absurd here
-as-append (d ∷ due) more [] bs ps os here there = absurd here
-as-append (d ∷ due) more (s ∷ ls) bs [] os here there = absurd here
-as-append (d ∷ due) more (s ∷ ls) bs (p ∷ ps) os here there = (here.0, as-append due more ls bs ps os here.1 there)
-
-pub as-each : (f : ℕ → List Slot) (g : ℕ → List Said) (h : ℕ → List Placed) (at count : ℕ)
-    → ((k : ℕ) → at ≤ k → k < at + count → FillsAs (f k) (g k) (h k)) → FillsAs (numbered f at count) (numbered g at count) (numbered h at count)
-unfolding numbered
-as-each f g h at zero fills = tt
-as-each f g h at (suc count) fills =
-    as-append (f at) (numbered f (at + 1) count) (g at) (numbered g (at + 1) count) (h at) (numbered h (at + 1) count) (fills at (omega arith) (omega arith))
-    (as-each f g h (at + 1) count (λ k after before. fills k (omega arith) (omega arith)))
-
--- the lines of each item of a list
-pub as-items : {A : Type 0} (P : ℕ → A → Type 0) (f : ℕ → List Slot) (g : ℕ → A → List Said) (h : ℕ → A → List Placed) → ((k : ℕ) (x : A) → P k x → FillsAs (f k) (g k x) (h k x))
-    → (at count : ℕ) (xs : List A) → Each P at count xs → FillsAs (numbered f at count) (indexed g at xs) (indexed h at xs)
-unfolding numbered indexed
-as-items P f g h fills at zero [] passes = tt
-as-items P f g h fills at zero (x ∷ xs) passes = absurd passes
-as-items P f g h fills at (suc count) [] passes = absurd passes
-as-items P f g h fills at (suc count) (x ∷ xs) passes =
-    as-append (f at) (numbered f (at + 1) count) (g at x) (indexed g (at + 1) xs) (h at x) (indexed h (at + 1) xs) (fills at x passes.0)
-    (as-items P f g h fills (at + 1) count xs passes.1)
-
--- one line in one slot
-pub as-one : (slot : Slot) (said : Said) (placed : Placed) → place slot said ≡ Some placed → FillsAs (slot ∷ []) (said ∷ []) (placed ∷ [])
-as-one slot said placed is = (is, tt)
-
--- without the places
-pub as-fills : (due : List Slot) (lines : List Said) (places : List Placed) → FillsAs due lines places → Fills due lines
-as-fills [] [] [] fills = tt
-as-fills [] [] (p ∷ ps) fills = absurd fills
-as-fills [] (s ∷ ls) ps fills = absurd fills
-as-fills (d ∷ due) [] ps fills = absurd fills
-as-fills (d ∷ due) (s ∷ ls) [] fills = absurd fills
-as-fills (d ∷ due) (s ∷ ls) (p ∷ ps) fills = (ap is_some fills.0, as-fills due ls ps fills.1)
 
 -- THE WALK
 
@@ -124,10 +72,9 @@ goes_as-due plan (d ∷ due) may_begin (s ∷ ls) rest (p ∷ ps) others end fil
 -- THE COMMITMENTS, behind the plan's lines
 
 pub goes_as-commits : (plan : Plan) (lines rest : List Said) (places others : List Placed) (end : Next)
-    → FillsAs (commits plan) lines places → GoesAs (behind plan [] (part.Ballots 0)) rest others end → GoesAs (run_state plan) (lines ++ rest) (places ++ others) end
+    → FillsAs (commits plan) lines places → GoesAs (behind plan (commits plan) (part.Ballots 0)) (lines ++ rest) (places ++ others) end → GoesAs (run_state plan) (lines ++ rest) (places ++ others) end
 unfolding take_line
-goes_as-commits plan lines rest places others end fills goes =
-    from (commits plan) lines places refl (commits-some plan) fills (goes_as-due plan (commits plan) (part.Ballots 0) lines rest places others end fills goes)
+goes_as-commits plan lines rest places others end fills goes = from (commits plan) lines places refl (commits-some plan) fills goes
   where
     from : (slots : List Slot) (front : List Said) (ps : List Placed) → commits plan ≡ slots → 0 < length slots → FillsAs slots front ps
         → GoesAs (behind plan slots (part.Ballots 0)) (front ++ rest) (ps ++ others) end → GoesAs (run_state plan) (front ++ rest) (ps ++ others) end
@@ -177,15 +124,15 @@ pub take_line-ends : (next : Next) (said : Said) (t : Taken) → take_line next 
 unfolding take_line
 take_line-ends next said t e = take_at-ends next.plan next.head next.due next.part said t e
 
-whole-step : (next : Next) (said : Said) (t : Taken) → next.head ≡ head.Whole → take_line next said ≡ Some t → t.next.head ≡ head.Whole
+pub whole-step : (next : Next) (said : Said) (t : Taken) → next.head ≡ head.Whole → take_line next said ≡ Some t → IsBehind next.plan t
 unfolding take_line
 whole-step next said t whole e =
-    (body-behind next.plan next.due next.part said t (sym (ap (λ (h : Head). take_at next.plan h next.due next.part said) whole) ∙ e)).1
+    body-behind next.plan next.due next.part said t (sym (ap (λ (h : Head). take_at next.plan h next.due next.part said) whole) ∙ e)
 
 -- a whole plan stays whole
 whole-stays : (next end : Next) (lines : List Said) → next.head ≡ head.Whole → Goes next lines end → end.head ≡ head.Whole
 whole-stays next end [] whole goes = ap (λ (n : Next). n.head) (sym goes) ∙ whole
-whole-stays next end (said ∷ lines) whole goes = whole-stays goes.0.next end lines (whole-step next said goes.0 whole goes.1) goes.2
+whole-stays next end (said ∷ lines) whole goes = whole-stays goes.0.next end lines (whole-step next said goes.0 whole goes.1).1 goes.2
 
 -- so lines behind which it is not are lines of the plan
 goes_as-head : (next end : Next) (lines : List Said) → (end.head ≡ head.Whole → ⊥) → Goes next lines end → GoesAs next lines (map OfPlan lines) end
@@ -211,7 +158,7 @@ goes_as-plan plan fine =
 
 -- THE BYTES
 
-walk-step : (next : Next) (bytes : List ℕ) (said : Said) (t : Taken) (lines : List (List ℕ)) (w : Walked)
+pub walk-step : (next : Next) (bytes : List ℕ) (said : Said) (t : Taken) (lines : List (List ℕ)) (w : Walked)
     → line_of next.plan.version bytes ≡ Some said → take_line next said ≡ Some t → walk t.next lines ≡ Some w → walk next (bytes ∷ lines) ≡ Some (walked_on bytes t w)
 unfolding walk take_bytes
 walk-step next bytes said t lines w read taken on = rw (read, taken, on) refl

@@ -1,12 +1,12 @@
 -- Lines that are written one after another.
-use Rattle.std.proofs.Common.{◌≡◌, ℕ, ◌≤◌, List, [], ◌∷◌, ◌++◌, ◌+◌, ◌-◌, ◌<◌, length, map, drop, All, slice_get, Option, Some, None, Result, Ok, Err, refl, sym, subst, ap, ◌∙◌, append_assoc, append-nil, arith}
+use Rattle.std.proofs.Common.{◌≡◌, ℕ, ◌≤◌, List, [], ◌∷◌, ◌++◌, ◌+◌, ◌-◌, ◌<◌, length, map, drop, slice_get, Option, Some, None, Result, Ok, Err, refl, sym, subst, ap, ◌∙◌, append_assoc, append-nil, arith}
 use Rattle.std.specs.Io.KnownBytes.{Appends}
 use Rattle.std.specs.List.{concat, flat_map}
 use Rattle.std.specs.Prelude.{IsErr}
 use Rattle.std.proofs.lemmas.Bool.{true≢false}
-use Rattle.std.proofs.lemmas.Option.{get_or_from_slice_get, slice_get_within}
-use Rattle.std.proofs.lemmas.List.{drop_all, drop_more, map-append}
+use Rattle.std.proofs.lemmas.List.{drop_all, map-append}
 use Rattle.std.proofs.lemmas.List.Folds.{concat-append}
+use Rattle.sg_lists.proofs.Lists.{drop_from_slice_get}
 use Rattle.sg_outside.proofs.StreamLemmas.{Appends-nil, Appends-trans, AppendsFront-more, AppendsFront-trans}
 use Rattle.sg_commit.specs.declared.Digest.{Digest}
 use Rattle.sg_forms.specs.Said.{Said}
@@ -184,20 +184,12 @@ pub list_end : {A T E : Type 0} (before now : Moment) (value : T) (f : ℕ → A
 list_end before now value f xs at left end =
     left_none before now value (indexed f 0 xs) (rw (indexed-end f at xs end) at left)
 
--- what holds of each item holds of the one at this place
-pub item_of : {A : Type 0} (P : A → Type 0) (xs : List A) (at : ℕ) (x : A) → All P xs → slice_get xs at ≡ Some x → P x
-item_of P xs at x each e = rw (get_or_from_slice_get xs at x x e) at (each at x (slice_get_within xs at x e))
-
 -- SEALS
-
--- the item at this place stands before those behind it
-pub drop_at : {A : Type 0} (xs : List A) (at : ℕ) (x : A) → slice_get xs at ≡ Some x → drop at xs ≡ x ∷ drop (at + 1) xs
-drop_at xs at x e = drop_more xs at x (slice_get_within xs at x e) ∙ ap (λ y. y ∷ drop (at + 1) xs) (get_or_from_slice_get xs at x x e)
 
 -- the seal of a section
 pub seal_is : (number : ℕ) (seals : List Digest) (digest : Digest) → slice_get seals (number - 1) ≡ Some digest → seal_line number seals ≡ Seal number digest ∷ []
 seal_is number seals digest e =
-    let split = drop_at seals (number - 1) digest e in
+    let split = drop_from_slice_get seals (number - 1) digest e in
     rw split refl
 
 -- LISTS THAT ANOTHER FUNCTION PUTS TOGETHER

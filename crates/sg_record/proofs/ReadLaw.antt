@@ -10,12 +10,12 @@ use Rattle.sg_outside.proofs.LineLemmas.{concat-lines_of, lines_of-concat}
 use Rattle.sg_outside.specs.TextLines.{lines_of}
 use Rattle.sg_grammar.specs.Walk.{is_whole}
 use Rattle.sg_record.proofs.BytesWalk.{AreIn-from_All}
-use Rattle.sg_record.proofs.FormedLaw.{end_of}
 use Rattle.sg_record.proofs.GatherLaw.{formed_gathered, gather-push, whole_gathered}
 use Rattle.sg_record.proofs.TextLaw.{spelled_lines}
 use Rattle.sg_record.specs.inside.Gathering.{Gathered, gather, gather_line, nothing_yet}
 use Rattle.sg_record.specs.Laws.{AreLinesOf, HasWords, IsTextOf}
 use Rattle.sg_record.specs.Lines.{lines_in, text_of, texts_in}
+use Rattle.sg_record.specs.Places.{behind_record}
 use Rattle.sg_record.specs.declared.record.Record.{Record}
 
 -- THE LOOP: what is left to gather
@@ -68,13 +68,13 @@ pub lines_found : (lines : List (List ℕ)) (so_far : Gathered) → Some so_far 
 lines_found lines so_far e whole = let found = whole_gathered lines so_far (sym e) whole in record { words = found.words; formed = found.formed; text = found.is }
 
 -- the lines of a formed record give the record
-lines_only : (lines : List (List ℕ)) (posted : Record) → AreLinesOf lines posted → gather nothing_yet lines ≡ Some (record { next = end_of posted; made = posted })
+lines_only : (lines : List (List ℕ)) (posted : Record) → AreLinesOf lines posted → gather nothing_yet lines ≡ Some (record { next = behind_record posted; made = posted })
 lines_only lines posted are = ap (gather nothing_yet) are.text ∙ formed_gathered posted are.words are.formed
 
 -- so where nothing is gathered, they are those of no formed record
 pub lines_none : (lines : List (List ℕ)) (posted : Record) → None ≡ gather nothing_yet lines → AreLinesOf lines posted → ⊥
 lines_none lines posted none are =
-    let found : Gathered = record { next = end_of posted; made = posted } in
+    let found : Gathered = record { next = behind_record posted; made = posted } in
     nothing found (none ∙ lines_only lines posted are)
   where
     nothing : (found : Gathered) → ◌≡◌ {A = Option Gathered} None (Some found) → ⊥
@@ -82,8 +82,8 @@ lines_none lines posted none are =
 
 -- what is gathered of a formed record's lines is the record
 gathered_is : (lines : List (List ℕ)) (so_far : Gathered) (posted : Record) → Some so_far ≡ gather nothing_yet lines → AreLinesOf lines posted
-    → so_far ≡ record { next = end_of posted; made = posted }
-gathered_is lines so_far posted e are = same_Some so_far (record { next = end_of posted; made = posted }) (e ∙ lines_only lines posted are)
+    → so_far ≡ record { next = behind_record posted; made = posted }
+gathered_is lines so_far posted e are = same_Some so_far (record { next = behind_record posted; made = posted }) (e ∙ lines_only lines posted are)
 
 -- so where it isn't whole, the lines are those of no formed record either
 pub lines_part : (lines : List (List ℕ)) (so_far : Gathered) (posted : Record) → Some so_far ≡ gather nothing_yet lines → is_whole so_far.next ≡ false → AreLinesOf lines posted → ⊥

@@ -1,6 +1,6 @@
 -- The words of each line of a formed record are of their kinds, where its numbers are of their types.
-use Rattle.std.proofs.Common.{◌≡◌, ℕ, zero, suc, ◌+◌, ◌-◌, ◌*◌, ◌<◌, ◌≤◌, ◌==◌, nat_lt, nat_le, Bool, true, false, ◌&&◌, cond, List, [], ◌∷◌, ◌++◌, All, length, map, filter, take, drop, slice_index_or, None, refl, sym, subst, ◌∙◌, arith}
-use Rattle.std.proofs.lemmas.Bool.{and_from, and_parts, eqb-true, leb-true, lt-ltb, ltb-true}
+use Rattle.std.proofs.Common.{◌≡◌, ℕ, zero, suc, ◌+◌, ◌-◌, ◌*◌, ◌<◌, ◌≤◌, ◌==◌, nat_lt, nat_le, Bool, true, false, ◌&&◌, cond, List, [], ◌∷◌, ◌++◌, All, length, get_or, map, filter, take, drop, slice_index_or, None, refl, subst, arith}
+use Rattle.std.proofs.lemmas.Bool.{and_parts, eqb-true, leb-true, ltb-true}
 use Rattle.std.proofs.lemmas.List.{length-append, length-drop, length-replicate, length-take}
 use Rattle.std.proofs.lemmas.List.Elements.{All-cons, All-head, All-nil, All-tail}
 use Rattle.std.specs.List.{flat_map, list_all, list_any}
@@ -22,25 +22,21 @@ use Rattle.sg_forms.specs.Said.Said.{Cand, Code, Flags, Over, Places, Seal}
 use Rattle.sg_forms.specs.Spelling.{AreFewBits, IsCode, IsInRange, IsNumber, IsRow}
 use Rattle.sg_forms.specs.declared.line.CodeLine.{CodeLine}
 use Rattle.sg_forms.specs.declared.line.RowOpening.{RowOpening}
-use Rattle.sg_grammar.specs.Due.{ballot_codes, code_line, each, lines_for, numbered, race_codes}
+use Rattle.sg_grammar.specs.Due.{each, lines_for, numbered}
 use Rattle.sg_grammar.specs.Walk.{is_later}
-use Rattle.sg_grammar.specs.declared.state.Block.{Block}
-use Rattle.sg_grammar.specs.declared.state.Block.TheVariants as block
-use Rattle.sg_grammar.specs.declared.state.Slot.{Slot}
-use Rattle.sg_grammar.specs.declared.state.Slot.TheVariants as slot
-use Rattle.std.proofs.lemmas.List.Folds.{list_all-append}
 use Rattle.sg_record.proofs.Bits.{few_bits, on_line}
 use Rattle.sg_record.proofs.BytesWalk.{All-from_AreIn}
 use Rattle.sg_grammar.proofs.Making.{candidates_within}
 use Rattle.sg_record.proofs.CastLines.{first_mark}
+use Rattle.sg_record.proofs.Columns.{IsOfRaces, codes-own, race_codes-own}
 use Rattle.sg_record.proofs.Filling.{AreIn, AreIn-append, Each}
 use Rattle.sg_record.proofs.FormedLists.{formed_parts}
 use Rattle.sg_record.proofs.FormedParts.{form-from}
 use Rattle.sg_record.proofs.Limits.{ballot_two, limits_of, styles_of}
-use Rattle.sg_record.proofs.PlacedSections.{Each-get}
+use Rattle.sg_record.proofs.EachItem.{Each-get}
 use Rattle.sg_record.proofs.SectionLines.{HasFlags, HasTotals, HasEntries, HasRows}
 use Rattle.sg_record.proofs.SlotLines.{Any, Counts}
-use Rattle.sg_record.specs.Formed.{are_blocks, are_due, are_marks, are_overs, are_papers, is_dispute, is_draw, is_fate, is_formed}
+use Rattle.sg_record.specs.Formed.{are_blocks, are_columns, are_marks, are_overs, are_papers, has_columns, is_dispute, is_draw, is_fate, is_formed}
 use Rattle.sg_record.specs.Laws.{TypedHaveWords}
 use Rattle.sg_record.specs.Lines.{block_lines, cast_race_lines, code_commit_line, commit_lines, dispute_lines, draw_line, fate_lines, flag_lines, indexed, instance_row_commit_lines, instance_row_lines, lines_in, opening_lines, paper_lines, place_lines, plan_lines, race_code_commit_lines, race_lines, race_result_lines, race_row_commit_lines, race_row_lines, result_lines, row_commit_line, row_line, run_line, signs_on, style_line, total_line}
 use Rattle.sg_record.specs.Typed.{AreDigests, AreDrawn, BlockHasKeys, DisputeHasKeys, HasKey, HaveKeys, IsDigest, IsTyped}
@@ -180,52 +176,10 @@ marks-in plan ballot race column (code ∷ codes) fine marks keys =
     All-cons (IsIn plan.version) code codes (code-in plan code fine first.within below first.is (All-head HasKey code codes keys))
     (marks-in plan ballot code.race (code.column + 1) codes fine first.others (All-tail HasKey code codes keys))
 
--- a slot of a code of a column
-abbrev is_column_slot : Plan → Slot → Bool
-is_column_slot plan (slot.Code kind ballot race column) = nat_lt race (length plan.races) && nat_lt column (candidates_of plan race)
-is_column_slot plan due = false
-
-due-in : (plan : Plan) (due : List Slot) (codes : List CodeLine) → fault_of plan ≡ None → list_all (is_column_slot plan) due ≡ true → are_due plan due codes ≡ true → All HasKey codes
-    → All (IsIn plan.version) codes
-due-in plan [] [] fine are passes keys = All-nil (IsIn plan.version)
-due-in plan [] (code ∷ codes) fine are passes keys = cc
-due-in plan (first ∷ due) [] fine are passes keys = cc
-due-in plan (slot.Code kind ballot race column ∷ due) (code ∷ codes) fine are passes keys =
-    let kinds = and_parts (nat_lt race (length plan.races) && nat_lt column (candidates_of plan race)) (list_all (is_column_slot plan) due) are in
-    let sizes = and_parts (nat_lt race (length plan.races)) (nat_lt column (candidates_of plan race)) kinds.0 in
-    let parts = and_parts ((code.race == race && code.column == column) && is_code plan code.code) (are_due plan due codes) passes in
-    let tests = and_parts (code.race == race && code.column == column) (is_code plan code.code) parts.0 in
-    let names = and_parts (code.race == race) (code.column == column) tests.0 in
-    let in_race : race ≡ code.race = sym (eqb-true code.race race names.0) in
-    let in_column : column ≡ code.column = sym (eqb-true code.column column names.1) in
-    let within : code.race < length plan.races = subst (λ (r : ℕ). r < length plan.races) in_race (ltb-true race (length plan.races) sizes.0) in
-    let below : code.column < candidates_of plan code.race
-    = subst (λ (r : ℕ). code.column < candidates_of plan r) in_race (subst (λ (c : ℕ). c < candidates_of plan race) in_column (ltb-true column (candidates_of plan race) sizes.1)) in
-    All-cons (IsIn plan.version) code codes (code-in plan code fine within below tests.1 (All-head HasKey code codes keys))
-    (due-in plan due codes fine kinds.1 parts.1 (All-tail HasKey code codes keys))
-due-in plan (first ∷ due) (code ∷ codes) fine are passes keys = other first are
-  where
-    other : (s : Slot) → (is_column_slot plan s && list_all (is_column_slot plan) due) ≡ true → All (IsIn plan.version) (code ∷ codes)
-    other s e = cc
-
-numbered-passes : {A : Type 0} (test : A → Bool) (f : ℕ → List A) (at count : ℕ) → ((k : ℕ) → k < at + count → list_all test (f k) ≡ true) → list_all test (numbered f at count) ≡ true
-unfolding numbered
-numbered-passes test f at zero all = refl
-numbered-passes test f at (suc count) all =
-    list_all-append test (f at) (numbered f (at + 1) count)
-    ∙ and_from (list_all test (f at)) (list_all test (numbered f (at + 1) count)) (all at (omega arith)) (numbered-passes test f (at + 1) count (λ k b. all k (omega (arith, b))))
-
-race_slots : (plan : Plan) (kind : Block) (ballot race : ℕ) → race < length plan.races → list_all (is_column_slot plan) (race_codes plan kind ballot race) ≡ true
-race_slots plan kind ballot race within =
-    numbered-passes (is_column_slot plan) (code_line kind ballot race) 0 (candidates_of plan race - 0)
-    (λ column below. rw (lt-ltb race (length plan.races) within, lt-ltb column (candidates_of plan race) (omega (arith, below))) refl)
-
-ballot_slots : (plan : Plan) (ballot : ℕ) → list_all (is_column_slot plan) (each (ballot_codes plan ballot) 0 (length plan.races)) ≡ true
-ballot_slots plan ballot = numbered-passes (is_column_slot plan) (ballot_codes plan ballot) 0 (length plan.races - 0) (λ race below. at_test race (omega (arith, below)) (ballot_has plan ballot race))
-  where
-    at_test : (race : ℕ) → race < length plan.races → (b : Bool) → list_all (is_column_slot plan) (cond b (race_codes plan block.Audited ballot race) []) ≡ true
-    at_test race within true = race_slots plan block.Audited ballot race within
-    at_test race within false = refl
+own-in : (plan : Plan) (races : List ℕ) (codes : List CodeLine) → fault_of plan ≡ None → All (IsOfRaces plan races) codes → All HasKey codes → All (IsIn plan.version) codes
+own-in plan races codes fine own keys = λ k d within.
+    let it = own k d within in
+    code-in plan (get_or codes k d) fine (candidates_within plan (get_or codes k d).race (omega (arith, it.column))) it.column it.is (keys k d within)
 
 -- SECTION 2: BLOCKS
 
@@ -269,11 +223,11 @@ fate-in plan ballot (fate.Cast codes overs) fine last passes keys =
     )
 fate-in plan ballot fate.Spoiled fine last passes keys = (omega (arith, last, (bounds plan fine).few_ballots), tt)
 fate-in plan ballot (fate.Audited papers codes) fine last passes keys =
-    let parts = and_parts (are_papers plan (races_of_ballot plan ballot) papers) (are_due plan (each (ballot_codes plan ballot) 0 (length plan.races)) codes) passes in (
+    let parts = and_parts (are_papers plan (races_of_ballot plan ballot) papers) (are_columns plan (races_of_ballot plan ballot) codes) passes in (
       omega (arith, last, (bounds plan fine).few_ballots),
       AreIn-append plan.version (paper_lines (races_of_ballot plan ballot) papers) (map Code codes)
           (papers-in plan (races_of_ballot plan ballot) papers fine (ballot_two plan fine (style_of_ballot plan ballot)) parts.0)
-          (codes-in plan.version codes (due-in plan (each (ballot_codes plan ballot) 0 (length plan.races)) codes fine (ballot_slots plan ballot) parts.1 keys)),
+          (codes-in plan.version codes (own-in plan (races_of_ballot plan ballot) codes fine (codes-own plan (races_of_ballot plan ballot) codes parts.1) keys)),
     )
 fate-in plan ballot fate.Voided fine last passes keys = (omega (arith, last, (bounds plan fine).few_ballots), tt)
 
@@ -335,7 +289,7 @@ disputes-in plan [] fine pass keys = tt
 disputes-in plan (one ∷ disputes) fine pass keys =
     let parts = and_parts (is_dispute plan one) (list_all (is_dispute plan) disputes) pass in
     let sides = and_parts ((nat_lt one.race (length plan.races) && ballot_has plan one.ballot one.race) && is_code plan one.code)
-    (are_due plan (race_codes plan block.Dispute one.ballot one.race) one.codes) parts.0 in
+    (has_columns plan one.race one.codes) parts.0 in
     let tests = and_parts (nat_lt one.race (length plan.races) && ballot_has plan one.ballot one.race) (is_code plan one.code) sides.0 in
     let names = and_parts (nat_lt one.race (length plan.races)) (ballot_has plan one.ballot one.race) tests.0 in
     let within = ltb-true one.race (length plan.races) names.0 in
@@ -343,7 +297,7 @@ disputes-in plan (one ∷ disputes) fine pass keys =
     let sizes = bounds plan fine in
     AreIn-append plan.version (dispute_lines one) (flat_map dispute_lines disputes) (
       (omega (arith, last, sizes.few_ballots), omega (arith, within, sizes.few_races), ltb-true one.code (codes_of plan.version) tests.1),
-      codes-in plan.version one.codes (due-in plan (race_codes plan block.Dispute one.ballot one.race) one.codes fine (race_slots plan block.Dispute one.ballot one.race within) sides.1 (All-head DisputeHasKeys one disputes keys)),
+      codes-in plan.version one.codes (own-in plan (one.race ∷ []) one.codes fine (race_codes-own plan one.race [] one.codes sides.1) (All-head DisputeHasKeys one disputes keys)),
     )
     (disputes-in plan disputes fine parts.1 (All-tail DisputeHasKeys one disputes keys))
 

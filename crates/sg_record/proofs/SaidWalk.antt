@@ -2,15 +2,15 @@
 use Rattle.std.proofs.Common.{◌≡◌, ℕ, ◌-◌, ◌<◌, Bool, true, false, not, List, [], ◌∷◌, ◌++◌, length, Option, Some, None, refl, sym, subst, ap, ◌∙◌, arith}
 use Rattle.std.proofs.lemmas.List.{length-append}
 use Rattle.std.proofs.lemmas.List.Folds.{list_all-append}
-use Rattle.std.proofs.lemmas.Bool.{and_from, and_parts}
+use Rattle.std.proofs.lemmas.Bool.{and_from, and_parts, not-true, not_from_false}
 use Rattle.std.specs.List.{list_all}
 use Rattle.std.specs.Option.{is_some}
+use Rattle.sg_lists.proofs.Options.{option_map-some}
 use Rattle.sg_plan.specs.Ballots.{candidates_of, entries_of}
 use Rattle.sg_plan.specs.declared.plan.Plan.{Plan}
 use Rattle.sg_forms.specs.Said.{Said}
 use Rattle.sg_forms.specs.Said.Said.{Audited, Ballots, Cast, Code, Over, Spoiled, Voided}
 use Rattle.sg_forms.specs.declared.line.CodeLine.{CodeLine}
-use Rattle.sg_grammar.proofs.Claims.{option_map-some}
 use Rattle.sg_grammar.specs.Due.{each, instance_flags, instance_rows, due_flags, lines_for, due_places, race_places, race_results, race_rows, race_totals, results, row_opening, due_totals}
 use Rattle.sg_grammar.specs.Placed.{Placed}
 use Rattle.sg_grammar.specs.Walk.{Next, Taken, after_block, behind, first_taken, in_cast, place, take_line, taking, took}
@@ -191,11 +191,7 @@ pub goes-open : (plan : Plan) (ballot race column : ℕ) (lines : List Said) (en
 unfolding take_line
 goes-open plan ballot race column [] end is_open goes = cc
 goes-open plan ballot race column (said ∷ lines) end is_open goes =
-    (goes.0, cast-other plan ballot race column said (not_true (is_cast_line said) is_open) ∙ goes.1, goes.2)
-  where
-    not_true : (b : Bool) → not b ≡ true → b ≡ false
-    not_true true e = cc
-    not_true false e = refl
+    (goes.0, cast-other plan ballot race column said (not-true (is_cast_line said) is_open) ∙ goes.1, goes.2)
 
 -- the results, in any place of ballots
 pub goes-results : (plan : Plan) (last : ℕ) (lines rest : List Said) (end : Next)
@@ -205,14 +201,6 @@ unfolding take_line
 goes-results plan last lines rest end fills goes =
     from (results plan) lines refl (results-some plan) (results-no_code plan) fills (goes-due plan (results plan) (part.Disputes 0) lines rest end fills goes)
   where
-    not_false : (b : Bool) → not b ≡ true → b ≡ false
-    not_false true e = cc
-    not_false false e = refl
-
-    opened : (b : Bool) → b ≡ false → not b ≡ true
-    opened true e = cc
-    opened false e = refl
-
     from : (slots : List Slot) (front : List Said) → results plan ≡ slots → 0 < length slots → list_all is_other_slot slots ≡ true → Fills slots front
         → Goes (behind plan slots (part.Disputes 0)) (front ++ rest) end
         → (opens (front ++ rest) ≡ true) × Goes (behind plan [] (part.Ballots last)) (front ++ rest) end
@@ -220,7 +208,7 @@ goes-results plan last lines rest end fills goes =
     from (first ∷ due) [] are some other filled on = absurd filled
     from (first ∷ due) (said ∷ front) are some other filled on =
         let tests = and_parts (is_other_slot first) (list_all is_other_slot due) other in
-        let no_cast = fits-no_cast first said (not_false (is_code_slot first) tests.0) filled.0 in (
-          opened (is_cast_line said) no_cast,
+        let no_cast = fits-no_cast first said (not-true (is_code_slot first) tests.0) filled.0 in (
+          not_from_false (is_cast_line said) no_cast,
           (on.0, block-other plan last said (fits-block first said filled.0) ∙ (ap (λ l. first_taken plan l said) are ∙ on.1), on.2),
         )

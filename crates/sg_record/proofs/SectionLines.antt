@@ -1,5 +1,5 @@
 -- The lines of the commitments, and those behind the ballots: they are one to one with the lists of a record.
-use Rattle.std.proofs.Common.{◌≡◌, ℕ, ◌+◌, ◌-◌, Bool, List, [], ◌∷◌, ◌++◌, length, get_or, slice_index_or, sym, ap, ◌∙◌, arith}
+use Rattle.std.proofs.Common.{◌≡◌, ℕ, ◌+◌, ◌-◌, ◌*◌, Bool, List, [], ◌∷◌, ◌++◌, length, get_or, slice_index_or, sym, ap, ◌∙◌, arith}
 use Rattle.sg_commit.specs.declared.Digest.{Digest}
 use Rattle.sg_plan.specs.Ballots.{candidates_of, entries_of}
 use Rattle.sg_plan.specs.declared.plan.Draw.{Draw}
@@ -8,6 +8,8 @@ use Rattle.sg_forms.specs.Said.{Said}
 use Rattle.sg_forms.specs.Said.Said.{Flags, Places, Seal}
 use Rattle.sg_forms.specs.declared.line.RowOpening.{RowOpening}
 use Rattle.sg_grammar.specs.Due.{code_commit, commits, each, due_flags, instance_flags, instance_row_commits, instance_rows, due_places, race_code_commits, race_places, race_results, race_row_commits, race_rows, race_totals, results, row_commit, row_opening, due_totals}
+use Rattle.sg_grammar.specs.Placed.{Placed}
+use Rattle.sg_grammar.specs.Placed.Placed.{FlagsAt, PlacesAt, SealAt}
 use Rattle.sg_grammar.specs.declared.state.Slot.TheVariants as slot
 use Rattle.sg_record.proofs.BitLines.{bits-spells}
 use Rattle.sg_record.proofs.DrawLine.{IsDraw, draw-spells}
@@ -15,6 +17,7 @@ use Rattle.sg_record.proofs.EachItem.{Each-length, Each-zipped, numbered-indexed
 use Rattle.sg_record.proofs.Filling.{Each, Spells, spells-change, spells-each, spells-lines, spells-pair}
 use Rattle.sg_record.proofs.SlotLines.{Any, Counts, code_commit-spells, flags-spells, places-spells, row-spells, row_commit-spells, seal-spells, total-spells}
 use Rattle.sg_record.specs.Lines.{code_commit_line, draw_line, flag_lines, indexed, instance_row_commit_lines, instance_row_lines, place_lines, race_code_commit_lines, race_row_commit_lines, race_row_lines, row_commit_line, row_line, total_line as total_lines}
+use Rattle.sg_record.specs.Places.{code_commit_place, draw_place, flag_places, instance_row_commit_places, instance_row_places, race_code_commit_places, race_row_commit_places, race_row_places, row_commit_place, row_place, set_places, total_place}
 use Rattle.sg_record.specs.declared.record.RowCommit.{RowCommit as RowDigests}
 
 -- SECTION 1
@@ -28,18 +31,19 @@ abbrev pub HasRows : {A : Type 0} → Plan → List (List (List A)) → Type 0
 HasRows {A} plan lists =
     Each (λ (race : ℕ). Each (λ (instance : ℕ). Each (λ (row : ℕ) (x : A). Any x) 0 (entries_of plan race - 0)) 0 (plan.instances - 0)) 0 (length plan.races - 0) lists
 
-pub code_commits-spells : (version : ℕ) (plan : Plan) → Spells version (HasEntries {A = Digest} plan) (indexed race_code_commit_lines 0) (each (race_code_commits plan) 0 (length plan.races))
+pub code_commits-spells : (version : ℕ) (plan : Plan) → Spells version (HasEntries {A = Digest} plan) (indexed race_code_commit_lines 0) (indexed race_code_commit_places 0) (each (race_code_commits plan) 0 (length plan.races))
 code_commits-spells version plan =
-    spells-each version (λ (race : ℕ). Each (λ (entry : ℕ) (x : Digest). Any x) 0 (entries_of plan race - 0)) race_code_commit_lines (race_code_commits plan)
-    (λ race. spells-each version (λ (entry : ℕ) (x : Digest). Any x) (code_commit_line race) (code_commit race) (code_commit-spells version race) 0 (entries_of plan race - 0))
+    spells-each version (λ (race : ℕ). Each (λ (entry : ℕ) (x : Digest). Any x) 0 (entries_of plan race - 0)) race_code_commit_lines race_code_commit_places (race_code_commits plan)
+    (λ race. spells-each version (λ (entry : ℕ) (x : Digest). Any x) (code_commit_line race) (code_commit_place race) (code_commit race) (code_commit-spells version race) 0 (entries_of plan race - 0))
     0 (length plan.races - 0)
 
-pub row_commits-spells : (version : ℕ) (plan : Plan) → Spells version (HasRows {A = RowDigests} plan) (indexed race_row_commit_lines 0) (each (race_row_commits plan) 0 (length plan.races))
+pub row_commits-spells : (version : ℕ) (plan : Plan) → Spells version (HasRows {A = RowDigests} plan) (indexed race_row_commit_lines 0) (indexed race_row_commit_places 0) (each (race_row_commits plan) 0 (length plan.races))
 row_commits-spells version plan =
     spells-each version (λ (race : ℕ). Each (λ (instance : ℕ). Each (λ (row : ℕ) (x : RowDigests). Any x) 0 (entries_of plan race - 0)) 0 (plan.instances - 0))
-    race_row_commit_lines (race_row_commits plan)
-    (λ race. spells-each version (λ (instance : ℕ). Each (λ (row : ℕ) (x : RowDigests). Any x) 0 (entries_of plan race - 0)) (instance_row_commit_lines race) (instance_row_commits plan race)
-    (λ instance. spells-each version (λ (row : ℕ) (x : RowDigests). Any x) (row_commit_line race instance) (row_commit race instance) (row_commit-spells version race instance)
+    race_row_commit_lines race_row_commit_places (race_row_commits plan)
+    (λ race. spells-each version (λ (instance : ℕ). Each (λ (row : ℕ) (x : RowDigests). Any x) 0 (entries_of plan race - 0)) (instance_row_commit_lines race) (instance_row_commit_places race)
+    (instance_row_commits plan race)
+    (λ instance. spells-each version (λ (row : ℕ) (x : RowDigests). Any x) (row_commit_line race instance) (row_commit_place race instance) (row_commit race instance) (row_commit-spells version race instance)
     0 (entries_of plan race - 0))
     0 (plan.instances - 0))
     0 (length plan.races - 0)
@@ -54,13 +58,18 @@ AreCommits plan c = HasEntries plan c.0 × (HasRows plan c.1.0 × Any c.1.1)
 abbrev pub lines_of_commits : Commits → List Said
 lines_of_commits c = indexed race_code_commit_lines 0 c.0 ++ (indexed race_row_commit_lines 0 c.1.0 ++ Seal 1 c.1.1 ∷ [])
 
-pub commits-spells : (version : ℕ) (plan : Plan) → Spells version (AreCommits plan) lines_of_commits (commits plan)
+abbrev pub places_of_commits : Commits → List Placed
+places_of_commits c = indexed race_code_commit_places 0 c.0 ++ (indexed race_row_commit_places 0 c.1.0 ++ SealAt 1 c.1.1 ∷ [])
+
+pub commits-spells : (version : ℕ) (plan : Plan) → Spells version (AreCommits plan) lines_of_commits places_of_commits (commits plan)
 commits-spells version plan =
     spells-pair version (HasEntries plan) (λ (c : List (List (List RowDigests)) × Digest). HasRows plan c.0 × Any c.1)
     (indexed race_code_commit_lines 0) (λ (c : List (List (List RowDigests)) × Digest). indexed race_row_commit_lines 0 c.0 ++ Seal 1 c.1 ∷ [])
+    (indexed race_code_commit_places 0) (λ (c : List (List (List RowDigests)) × Digest). indexed race_row_commit_places 0 c.0 ++ SealAt 1 c.1 ∷ [])
     (each (race_code_commits plan) 0 (length plan.races)) (each (race_row_commits plan) 0 (length plan.races) ++ slot.Seal 1 ∷ [])
     (code_commits-spells version plan)
-    (spells-pair version (HasRows plan) Any (indexed race_row_commit_lines 0) (λ (digest : Digest). Seal 1 digest ∷ []) (each (race_row_commits plan) 0 (length plan.races)) (slot.Seal 1 ∷ [])
+    (spells-pair version (HasRows plan) Any (indexed race_row_commit_lines 0) (λ (digest : Digest). Seal 1 digest ∷ []) (indexed race_row_commit_places 0) (λ (digest : Digest). SealAt 1 digest ∷ [])
+    (each (race_row_commits plan) 0 (length plan.races)) (slot.Seal 1 ∷ [])
     (row_commits-spells version plan) (seal-spells version 1))
 
 -- THE RESULTS
@@ -84,24 +93,31 @@ IsTally plan race t = HasFlags plan race t.0 × (HasPlaces plan race t.1.0 × Ha
 abbrev pub tally_lines : ℕ → Tally → List Said
 tally_lines race t = indexed (flag_lines race) 0 t.0 ++ (place_lines race t.1.0 ++ indexed (total_lines race) 0 t.1.1)
 
-pub flags_all-spells : (version : ℕ) (plan : Plan) (race : ℕ) → Spells version (HasFlags plan race) (indexed (flag_lines race) 0) (each (instance_flags plan race) 0 plan.instances)
+abbrev pub tally_places : ℕ → Tally → List Placed
+tally_places race t = indexed (flag_places race) 0 t.0 ++ (set_places race t.1.0 ++ indexed (total_place race) 0 t.1.1)
+
+pub flags_all-spells : (version : ℕ) (plan : Plan) (race : ℕ)
+    → Spells version (HasFlags plan race) (indexed (flag_lines race) 0) (indexed (flag_places race) 0) (each (instance_flags plan race) 0 plan.instances)
 flags_all-spells version plan race =
-    spells-each version (λ (instance : ℕ). Counts (entries_of plan race)) (flag_lines race) (instance_flags plan race)
-    (λ instance. bits-spells version (entries_of plan race) (Flags race instance) (due_flags plan race instance) (λ line. flags-spells version race instance line _))
+    spells-each version (λ (instance : ℕ). Counts (entries_of plan race)) (flag_lines race) (flag_places race) (instance_flags plan race)
+    (λ instance. bits-spells version (entries_of plan race) (Flags race instance) (λ line. FlagsAt race instance (64 * line)) (due_flags plan race instance)
+    (λ line. flags-spells version race instance line _))
     0 (plan.instances - 0)
 
-pub places_all-spells : (version : ℕ) (plan : Plan) (race : ℕ) → Spells version (HasPlaces plan race) (place_lines race) (race_places plan race)
-places_all-spells version plan race = bits-spells version (entries_of plan race) (Places race) (due_places plan race) (λ line. places-spells version race line _)
+pub places_all-spells : (version : ℕ) (plan : Plan) (race : ℕ) → Spells version (HasPlaces plan race) (place_lines race) (set_places race) (race_places plan race)
+places_all-spells version plan race = bits-spells version (entries_of plan race) (Places race) (λ line. PlacesAt race (64 * line)) (due_places plan race) (λ line. places-spells version race line _)
 
-pub tally-spells : (version : ℕ) (plan : Plan) (race : ℕ) → Spells version (IsTally plan race) (tally_lines race) (race_results plan race)
+pub tally-spells : (version : ℕ) (plan : Plan) (race : ℕ) → Spells version (IsTally plan race) (tally_lines race) (tally_places race) (race_results plan race)
 tally-spells version plan race =
     spells-pair version (HasFlags plan race) (λ (t : List Bool × List ℕ). HasPlaces plan race t.0 × HasTotals plan race t.1)
     (indexed (flag_lines race) 0) (λ (t : List Bool × List ℕ). place_lines race t.0 ++ indexed (total_lines race) 0 t.1)
+    (indexed (flag_places race) 0) (λ (t : List Bool × List ℕ). set_places race t.0 ++ indexed (total_place race) 0 t.1)
     (each (instance_flags plan race) 0 plan.instances) (race_places plan race ++ race_totals plan race)
     (flags_all-spells version plan race)
-    (spells-pair version (HasPlaces plan race) (HasTotals plan race) (place_lines race) (indexed (total_lines race) 0) (race_places plan race) (race_totals plan race)
+    (spells-pair version (HasPlaces plan race) (HasTotals plan race) (place_lines race) (indexed (total_lines race) 0) (set_places race) (indexed (total_place race) 0)
+    (race_places plan race) (race_totals plan race)
     (places_all-spells version plan race)
-    (spells-each version (λ (candidate : ℕ) (x : ℕ). Any x) (total_lines race) (due_totals race) (total-spells version race) 0 (candidates_of plan race - 0)))
+    (spells-each version (λ (candidate : ℕ) (x : ℕ). Any x) (total_lines race) (total_place race) (due_totals race) (total-spells version race) 0 (candidates_of plan race - 0)))
 
 -- flags, places and totals of all races
 abbrev pub Tallies : Type 0
@@ -112,10 +128,15 @@ AreTallies plan t =
     Each (HasFlags plan) 0 (length plan.races - 0) t.0
     × (Each (HasPlaces plan) 0 (length plan.races - 0) t.1.0 × Each (HasTotals plan) 0 (length plan.races - 0) t.1.1)
 
+-- those of a race
+abbrev pub tally_of : Tallies → ℕ → Tally
+tally_of t race = (slice_index_or t.0 race [], (slice_index_or t.1.0 race [], slice_index_or t.1.1 race []))
+
 abbrev pub lines_of_tallies : Plan → Tallies → List Said
-lines_of_tallies plan t =
-    each (λ race. indexed (flag_lines race) 0 (slice_index_or t.0 race []) ++ (place_lines race (slice_index_or t.1.0 race []) ++ indexed (total_lines race) 0 (slice_index_or t.1.1 race []))) 0
-    (length plan.races)
+lines_of_tallies plan t = each (λ race. tally_lines race (tally_of t race)) 0 (length plan.races)
+
+abbrev pub places_of_tallies : Plan → Tallies → List Placed
+places_of_tallies plan t = each (λ race. tally_places race (tally_of t race)) 0 (length plan.races)
 
 -- race by race
 abbrev pub by_race : Tallies → List Tally
@@ -147,34 +168,35 @@ tallies-one plan t u p q same =
     ap (λ (x : List (List (List Bool))). let whole : Tallies = (x, t.1) in whole) outer.0
     ∙ (ap (λ (x : List (List Bool)). let whole : Tallies = (u.0, (x, t.1.1)) in whole) inner.0 ∙ ap (λ (x : List (List ℕ)). let whole : Tallies = (u.0, (u.1.0, x)) in whole) inner.1)
 
-pub tallies-lines : (plan : Plan) (t : Tallies) → AreTallies plan t → indexed tally_lines 0 (by_race t) ≡ lines_of_tallies plan t
-tallies-lines plan t are =
+pub tallies-each : {A : Type 0} (f : ℕ → Tally → List A) (plan : Plan) (t : Tallies) → AreTallies plan t → indexed f 0 (by_race t) ≡ each (λ race. f race (tally_of t race)) 0 (length plan.races)
+tallies-each f plan t are =
     let many = tallies-lengths plan t are in
     let inner = zipped-length t.1.0 t.1.1 (many.2 ∙ sym many.1) in
     let outer = zipped-length t.0 (zipped t.1.0 t.1.1) (inner ∙ (many.1 ∙ sym many.0)) in
     let item : ℕ → Tally = λ race. (get_or t.0 race [], (get_or t.1.0 race [], get_or t.1.1 race [])) in
-    sym (numbered-indexed tally_lines item ([], ([], [])) 0 (length plan.races - 0) (by_race t) (outer ∙ many.0)
+    sym (numbered-indexed f item ([], ([], [])) 0 (length plan.races - 0) (by_race t) (outer ∙ many.0)
     (λ race less.
     let here : 0 + race ≡ race = omega arith in
     zipped-get t.0 (zipped t.1.0 t.1.1) race [] ([], []) (inner ∙ (many.1 ∙ sym many.0)) (omega (arith, many.0, less))
     ∙ (ap (λ (p : List Bool × List ℕ). let whole : Tally = (get_or t.0 race [], p) in whole) (zipped-get t.1.0 t.1.1 race [] [] (many.2 ∙ sym many.1) (omega (arith, many.1, less)))
     ∙ ap item (sym here))))
 
-pub tallies-spells : (version : ℕ) (plan : Plan) → Spells version (AreTallies plan) (lines_of_tallies plan) (each (race_results plan) 0 (length plan.races))
+pub tallies-spells : (version : ℕ) (plan : Plan) → Spells version (AreTallies plan) (lines_of_tallies plan) (places_of_tallies plan) (each (race_results plan) 0 (length plan.races))
 tallies-spells version plan =
-    spells-lines version (AreTallies plan) (λ (t : Tallies). indexed tally_lines 0 (by_race t)) (lines_of_tallies plan) (each (race_results plan) 0 (length plan.races)) (tallies-lines plan)
-    (spells-change version (Each (IsTally plan) 0 (length plan.races - 0)) (AreTallies plan) (indexed tally_lines 0) (each (race_results plan) 0 (length plan.races)) by_race
+    spells-lines version (AreTallies plan) (λ (t : Tallies). indexed tally_lines 0 (by_race t)) (lines_of_tallies plan) (λ (t : Tallies). indexed tally_places 0 (by_race t)) (places_of_tallies plan)
+    (each (race_results plan) 0 (length plan.races)) (tallies-each tally_lines plan) (tallies-each tally_places plan)
+    (spells-change version (Each (IsTally plan) 0 (length plan.races - 0)) (AreTallies plan) (indexed tally_lines 0) (indexed tally_places 0) (each (race_results plan) 0 (length plan.races)) by_race
     (tallies-into plan) (tallies-from plan) (tallies-one plan)
-    (spells-each version (IsTally plan) tally_lines (race_results plan) (tally-spells version plan) 0 (length plan.races - 0)))
+    (spells-each version (IsTally plan) tally_lines tally_places (race_results plan) (tally-spells version plan) 0 (length plan.races - 0)))
 
 -- SECTION 3
 
-pub rows-spells : (version : ℕ) (plan : Plan) → Spells version (HasRows {A = RowOpening} plan) (indexed race_row_lines 0) (each (race_rows plan) 0 (length plan.races))
+pub rows-spells : (version : ℕ) (plan : Plan) → Spells version (HasRows {A = RowOpening} plan) (indexed race_row_lines 0) (indexed race_row_places 0) (each (race_rows plan) 0 (length plan.races))
 rows-spells version plan =
     spells-each version (λ (race : ℕ). Each (λ (instance : ℕ). Each (λ (row : ℕ) (x : RowOpening). Any x) 0 (entries_of plan race - 0)) 0 (plan.instances - 0))
-    race_row_lines (race_rows plan)
-    (λ race. spells-each version (λ (instance : ℕ). Each (λ (row : ℕ) (x : RowOpening). Any x) 0 (entries_of plan race - 0)) instance_row_lines (instance_rows plan race)
-    (λ instance. spells-each version (λ (row : ℕ) (x : RowOpening). Any x) row_line (row_opening race instance) (row-spells version race instance) 0 (entries_of plan race - 0))
+    race_row_lines race_row_places (race_rows plan)
+    (λ race. spells-each version (λ (instance : ℕ). Each (λ (row : ℕ) (x : RowOpening). Any x) 0 (entries_of plan race - 0)) instance_row_lines (instance_row_places race) (instance_rows plan race)
+    (λ instance. spells-each version (λ (row : ℕ) (x : RowOpening). Any x) row_line (row_place race instance) (row_opening race instance) (row-spells version race instance) 0 (entries_of plan race - 0))
     0 (plan.instances - 0))
     0 (length plan.races - 0)
 
@@ -193,19 +215,27 @@ abbrev pub lines_of_results : Plan → Results → List Said
 lines_of_results plan r =
     lines_of_tallies plan r.0 ++ ((Seal 2 r.1.0 ∷ []) ++ ((draw_line r.1.1.0 ∷ []) ++ (indexed race_row_lines 0 r.1.1.1.0 ++ Seal 3 r.1.1.1.1 ∷ [])))
 
-pub results-spells : (version : ℕ) (plan : Plan) → Spells version (AreResults version plan) (lines_of_results plan) (results plan)
+abbrev pub places_of_results : Plan → Results → List Placed
+places_of_results plan r =
+    places_of_tallies plan r.0 ++ ((SealAt 2 r.1.0 ∷ []) ++ ((draw_place r.1.1.0 ∷ []) ++ (indexed race_row_places 0 r.1.1.1.0 ++ SealAt 3 r.1.1.1.1 ∷ [])))
+
+pub results-spells : (version : ℕ) (plan : Plan) → Spells version (AreResults version plan) (lines_of_results plan) (places_of_results plan) (results plan)
 results-spells version plan =
     spells-pair version (AreTallies plan) (λ (r : Digest × (Draw × Openings)). Any r.0 × (IsDraw version r.1.0 × (HasRows plan r.1.1.0 × Any r.1.1.1)))
     (lines_of_tallies plan) (λ (r : Digest × (Draw × Openings)). (Seal 2 r.0 ∷ []) ++ ((draw_line r.1.0 ∷ []) ++ (indexed race_row_lines 0 r.1.1.0 ++ Seal 3 r.1.1.1 ∷ [])))
+    (places_of_tallies plan) (λ (r : Digest × (Draw × Openings)). (SealAt 2 r.0 ∷ []) ++ ((draw_place r.1.0 ∷ []) ++ (indexed race_row_places 0 r.1.1.0 ++ SealAt 3 r.1.1.1 ∷ [])))
     (each (race_results plan) 0 (length plan.races)) (slot.Seal 2 ∷ slot.Draw ∷ (each (race_rows plan) 0 (length plan.races) ++ slot.Seal 3 ∷ []))
     (tallies-spells version plan)
     (spells-pair version Any (λ (r : Draw × Openings). IsDraw version r.0 × (HasRows plan r.1.0 × Any r.1.1))
     (λ (digest : Digest). Seal 2 digest ∷ []) (λ (r : Draw × Openings). (draw_line r.0 ∷ []) ++ (indexed race_row_lines 0 r.1.0 ++ Seal 3 r.1.1 ∷ []))
+    (λ (digest : Digest). SealAt 2 digest ∷ []) (λ (r : Draw × Openings). (draw_place r.0 ∷ []) ++ (indexed race_row_places 0 r.1.0 ++ SealAt 3 r.1.1 ∷ []))
     (slot.Seal 2 ∷ []) (slot.Draw ∷ (each (race_rows plan) 0 (length plan.races) ++ slot.Seal 3 ∷ []))
     (seal-spells version 2)
     (spells-pair version (IsDraw version) (λ (r : Openings). HasRows plan r.0 × Any r.1)
     (λ (draw : Draw). draw_line draw ∷ []) (λ (r : Openings). indexed race_row_lines 0 r.0 ++ Seal 3 r.1 ∷ [])
+    (λ (draw : Draw). draw_place draw ∷ []) (λ (r : Openings). indexed race_row_places 0 r.0 ++ SealAt 3 r.1 ∷ [])
     (slot.Draw ∷ []) (each (race_rows plan) 0 (length plan.races) ++ slot.Seal 3 ∷ [])
     (draw-spells version)
-    (spells-pair version (HasRows plan) Any (indexed race_row_lines 0) (λ (digest : Digest). Seal 3 digest ∷ []) (each (race_rows plan) 0 (length plan.races)) (slot.Seal 3 ∷ [])
+    (spells-pair version (HasRows plan) Any (indexed race_row_lines 0) (λ (digest : Digest). Seal 3 digest ∷ []) (indexed race_row_places 0) (λ (digest : Digest). SealAt 3 digest ∷ [])
+    (each (race_rows plan) 0 (length plan.races)) (slot.Seal 3 ∷ [])
     (rows-spells version plan) (seal-spells version 3))))

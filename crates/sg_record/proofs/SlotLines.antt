@@ -8,7 +8,7 @@ use Rattle.sg_forms.specs.Said.{Said}
 use Rattle.sg_forms.specs.Said.Said.{CodeCommit, RowCommit, Seal, Flags, Places, Total, Row}
 use Rattle.sg_forms.specs.Spelling.{IsInRange}
 use Rattle.sg_forms.specs.declared.line.RowOpening.{RowOpening}
-use Rattle.sg_grammar.specs.Placed.Placed.{CodeCommitAt, RowCommitAt, SealAt, FlagsAt, PlacesAt, TotalAt}
+use Rattle.sg_grammar.specs.Placed.Placed.{CodeCommitAt, RowCommitAt, SealAt, FlagsAt, PlacesAt, RowAt, TotalAt}
 use Rattle.sg_grammar.specs.declared.state.Slot.TheVariants as slot
 use Rattle.sg_record.proofs.Filling.{Spells, fits, passed, spells-line}
 use Rattle.sg_record.specs.Lines.{bit_sign}
@@ -18,9 +18,9 @@ use Rattle.sg_record.specs.declared.record.RowCommit.{RowCommit as RowDigests}
 abbrev pub Any : {A : Type 0} → A → Type 0
 Any x = Unit {0}
 
-pub code_commit-spells : (version race entry : ℕ) → Spells version Any (λ (digest : Digest). CodeCommit race digest ∷ []) (slot.CodeCommit race entry ∷ [])
+pub code_commit-spells : (version race entry : ℕ) → Spells version Any (λ (digest : Digest). CodeCommit race digest ∷ []) (λ (digest : Digest). CodeCommitAt race entry digest ∷ []) (slot.CodeCommit race entry ∷ [])
 code_commit-spells version race entry =
-    spells-line version Any (λ (digest : Digest). CodeCommit race digest) (slot.CodeCommit race entry)
+    spells-line version Any (λ (digest : Digest). CodeCommit race digest) (λ (digest : Digest). CodeCommitAt race entry digest) (slot.CodeCommit race entry)
     (λ digest any. rw (eq-eqb race race refl) refl)
     from
     (λ x y p q same. cc)
@@ -32,9 +32,11 @@ code_commit-spells version race entry =
     from said there fit = cc
 
 pub row_commit-spells : (version race instance row : ℕ)
-    → Spells version Any (λ (digests : RowDigests). RowCommit race instance digests.left digests.right ∷ []) (slot.RowCommit race instance row ∷ [])
+    → Spells version Any (λ (digests : RowDigests). RowCommit race instance digests.left digests.right ∷ []) (λ (digests : RowDigests). RowCommitAt race instance row digests.left digests.right ∷ [])
+    (slot.RowCommit race instance row ∷ [])
 row_commit-spells version race instance row =
-    spells-line version Any (λ (digests : RowDigests). RowCommit race instance digests.left digests.right) (slot.RowCommit race instance row)
+    spells-line version Any (λ (digests : RowDigests). RowCommit race instance digests.left digests.right) (λ (digests : RowDigests). RowCommitAt race instance row digests.left digests.right)
+    (slot.RowCommit race instance row)
     (λ digests any. rw (eq-eqb race race refl, eq-eqb instance instance refl) refl)
     from
     (λ x y p q same.
@@ -52,9 +54,9 @@ row_commit-spells version race instance row =
         (record { left = left; right = right }, tt, ap (λ r. RowCommit r of left right) same ∙ ap (λ i. RowCommit race i left right) too)
     from said there fit = cc
 
-pub seal-spells : (version number : ℕ) → Spells version Any (λ (digest : Digest). Seal number digest ∷ []) (slot.Seal number ∷ [])
+pub seal-spells : (version number : ℕ) → Spells version Any (λ (digest : Digest). Seal number digest ∷ []) (λ (digest : Digest). SealAt number digest ∷ []) (slot.Seal number ∷ [])
 seal-spells version number =
-    spells-line version Any (λ (digest : Digest). Seal number digest) (slot.Seal number)
+    spells-line version Any (λ (digest : Digest). Seal number digest) (λ (digest : Digest). SealAt number digest) (slot.Seal number)
     (λ digest any. rw (eq-eqb number number refl) refl)
     from
     (λ x y p q same. cc)
@@ -65,9 +67,9 @@ seal-spells version number =
         (digest, tt, ap (λ n. Seal n digest) same)
     from said there fit = cc
 
-pub total-spells : (version race candidate : ℕ) → Spells version Any (λ (count : ℕ). Total race candidate count ∷ []) (slot.Total race candidate ∷ [])
+pub total-spells : (version race candidate : ℕ) → Spells version Any (λ (count : ℕ). Total race candidate count ∷ []) (λ (count : ℕ). TotalAt race candidate count ∷ []) (slot.Total race candidate ∷ [])
 total-spells version race candidate =
-    spells-line version Any (λ (count : ℕ). Total race candidate count) (slot.Total race candidate)
+    spells-line version Any (λ (count : ℕ). Total race candidate count) (λ (count : ℕ). TotalAt race candidate count) (slot.Total race candidate)
     (λ count any. rw (eq-eqb race race refl, eq-eqb candidate candidate refl) refl)
     from
     (λ x y p q same. cc)
@@ -80,9 +82,9 @@ total-spells version race candidate =
         (count, tt, ap (λ r. Total r of count) same ∙ ap (λ c. Total race c count) too)
     from said there fit = cc
 
-pub row-spells : (version race instance at : ℕ) → Spells version Any (λ (opening : RowOpening). Row opening ∷ []) (slot.Row race instance at ∷ [])
+pub row-spells : (version race instance at : ℕ) → Spells version Any (λ (opening : RowOpening). Row opening ∷ []) (λ (opening : RowOpening). RowAt race instance at opening ∷ []) (slot.Row race instance at ∷ [])
 row-spells version race instance at =
-    spells-line version Any (λ (opening : RowOpening). Row opening) (slot.Row race instance at) (λ opening any. refl) from (λ x y p q same. cc)
+    spells-line version Any (λ (opening : RowOpening). Row opening) (λ (opening : RowOpening). RowAt race instance at opening) (slot.Row race instance at) (λ opening any. refl) from (λ x y p q same. cc)
   where
     from : (said : Said) → fits (slot.Row race instance at) said ≡ true → IsInRange version said → (x : RowOpening) × Any x × (said ≡ Row x)
     from (Row opening) there fit = (opening, tt, refl)
@@ -125,9 +127,11 @@ abbrev pub Counts : ℕ → List Bool → Type 0
 Counts count bits = length bits ≡ count
 
 pub flags-spells : (version race instance line count : ℕ)
-    → Spells version (Counts count) (λ (bits : List Bool). Flags race instance (map bit_sign bits) ∷ []) (slot.Flags race instance line count ∷ [])
+    → Spells version (Counts count) (λ (bits : List Bool). Flags race instance (map bit_sign bits) ∷ []) (λ (bits : List Bool). FlagsAt race instance (64 * line) (map bit_sign bits) ∷ [])
+    (slot.Flags race instance line count ∷ [])
 flags-spells version race instance line count =
-    spells-line version (Counts count) (λ (bits : List Bool). Flags race instance (map bit_sign bits)) (slot.Flags race instance line count)
+    spells-line version (Counts count) (λ (bits : List Bool). Flags race instance (map bit_sign bits)) (λ (bits : List Bool). FlagsAt race instance (64 * line) (map bit_sign bits))
+    (slot.Flags race instance line count)
     (λ bits counts. rw (eq-eqb race race refl, eq-eqb instance instance refl, signs_length bits, eq-eqb (length bits) count counts) refl)
     from
     (λ x y p q same. signs_one x y (let signs : map bit_sign x ≡ map bit_sign y = cc in signs))
@@ -146,9 +150,9 @@ flags-spells version race instance line count =
     from said there fit = cc
 
 pub places-spells : (version race line count : ℕ)
-    → Spells version (Counts count) (λ (bits : List Bool). Places race (map bit_sign bits) ∷ []) (slot.Places race line count ∷ [])
+    → Spells version (Counts count) (λ (bits : List Bool). Places race (map bit_sign bits) ∷ []) (λ (bits : List Bool). PlacesAt race (64 * line) (map bit_sign bits) ∷ []) (slot.Places race line count ∷ [])
 places-spells version race line count =
-    spells-line version (Counts count) (λ (bits : List Bool). Places race (map bit_sign bits)) (slot.Places race line count)
+    spells-line version (Counts count) (λ (bits : List Bool). Places race (map bit_sign bits)) (λ (bits : List Bool). PlacesAt race (64 * line) (map bit_sign bits)) (slot.Places race line count)
     (λ bits counts. rw (eq-eqb race race refl, signs_length bits, eq-eqb (length bits) count counts) refl)
     from
     (λ x y p q same. signs_one x y (let signs : map bit_sign x ≡ map bit_sign y = cc in signs))

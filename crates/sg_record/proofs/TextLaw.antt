@@ -1,9 +1,10 @@
 -- Different formed records have different texts.
 use Rattle.std.proofs.Common.{◌≡◌, ℕ, ◌<◌, nat_lt, Bool, true, false, ◌&&◌, not, List, [], ◌∷◌, ◌++◌, All, length, map, None, refl, sym, subst, ap, ◌∙◌, arith}
-use Rattle.std.proofs.lemmas.Bool.{and_parts, true≢false}
+use Rattle.std.proofs.lemmas.Bool.{and_parts, true≢false, not-true}
 use Rattle.std.proofs.lemmas.List.{append_assoc}
 use Rattle.std.proofs.lemmas.List.Elements.{All-head, All-tail}
 use Rattle.std.specs.List.{flat_map, join_with_byte, list_all}
+use Rattle.sg_lists.proofs.Lists.{cons_parts}
 use Rattle.sg_commit.specs.declared.Digest.{Digest}
 use Rattle.sg_outside.proofs.LineLemmas.{HasNoFeed-append, IsLine-append, lines_of-concat}
 use Rattle.sg_outside.specs.TextLines.{AreLines, HasNoFeed, IsLine, lines_of}
@@ -22,19 +23,20 @@ use Rattle.sg_grammar.specs.Due.{due_audit, commits, race_codes, results}
 use Rattle.sg_grammar.specs.Walk.{Next, is_later, start}
 use Rattle.sg_grammar.specs.declared.state.Block.TheVariants as block
 use Rattle.sg_grammar.specs.declared.state.Slot.{Slot}
-use Rattle.sg_record.proofs.BlockLines.{Audit, IsAudit, due_audit-spells, audit_lines, codes_one, dispute_codes-spells, is_code_slot}
+use Rattle.sg_record.proofs.BlockLines.{Audit, IsAudit, audit_lines, columns-spells, due_audit-spells, is_code_slot}
 use Rattle.sg_record.proofs.BytesWalk.{AreIn-from_All}
 use Rattle.sg_record.proofs.CastLines.{Steps, by_steps, cast_from}
-use Rattle.sg_record.proofs.Filling.{AreIn, Fills, Fills-same}
-use Rattle.sg_record.proofs.FormedLaw.{end_of, formed_goes, has_form}
+use Rattle.sg_record.proofs.Filling.{AreIn, Fills, Fills-same, filled}
+use Rattle.sg_record.proofs.FormedLaw.{formed_goes, has_form}
 use Rattle.sg_record.proofs.FormedParts.{HasForm, commits_of, results_of}
 use Rattle.sg_record.proofs.SaidWalk.{Goes, fits-block, fits-no_cast, goes-one, is_block_line, is_cast_line, is_other_slot, opens, results-no_code, results-some}
 use Rattle.sg_record.proofs.SectionLines.{AreCommits, AreResults, Commits, Results, commits-spells, lines_of_commits, lines_of_results, results-spells}
 use Rattle.sg_record.proofs.WholeLaw.{record_of, record_of-lines}
 use Rattle.sg_plan.specs.Codes.{is_code}
-use Rattle.sg_record.specs.Formed.{are_blocks, are_due, are_marks, are_overs, is_dispute, is_fate}
+use Rattle.sg_record.specs.Formed.{are_blocks, are_marks, are_overs, has_columns, is_dispute, is_fate}
 use Rattle.sg_record.specs.Laws.{HasWords, TextsDiffer}
 use Rattle.sg_record.specs.Lines.{block_lines, dispute_lines, fate_lines, lines_in, plan_lines, text_of, texts_in}
+use Rattle.sg_record.specs.Places.{behind_record}
 use Rattle.sg_record.specs.declared.record.BallotBlock.{BallotBlock}
 use Rattle.sg_record.specs.declared.record.BlockFate.{BlockFate}
 use Rattle.sg_record.specs.declared.record.BlockFate.TheVariants as fate
@@ -42,9 +44,6 @@ use Rattle.sg_record.specs.declared.record.DisputeBlock.{DisputeBlock}
 use Rattle.sg_record.specs.declared.record.Record.{Record}
 
 -- A TEXT AND ITS LINES
-
-cons_parts : {A : Type 0} (x y : A) (xs ys : List A) → x ∷ xs ≡ y ∷ ys → (x ≡ y) × (xs ≡ ys)
-cons_parts x y xs ys same = (cc, cc)
 
 ink_no_feed : (word : List ℕ) → All IsInk word → HasNoFeed word
 ink_no_feed [] ink = tt
@@ -71,7 +70,7 @@ spelled-one version [] [] p q same = refl
 spelled-one version [] (y ∷ ys) p q same = cc
 spelled-one version (x ∷ xs) [] p q same = cc
 spelled-one version (x ∷ xs) (y ∷ ys) p q same =
-    let parts = cons_parts (spelling version x) (spelling version y) (map (spelling version) xs) (map (spelling version) ys) same in
+    let parts = cons_parts same in
     ap (λ s. s ∷ xs) (lines_differ version x y p.0 q.0 parts.0) ∙ ap (λ l. y ∷ l) (spelled-one version xs ys p.1 q.1 parts.1)
 
 -- records with the same text have the same version and the same lines
@@ -83,7 +82,7 @@ same_lines a b some more same =
     let texts : texts_in a ≡ texts_in b
     = sym (lines_of-concat (texts_in a) (spelled_lines a.plan.version (lines_in a) here))
     ∙ (ap lines_of same ∙ lines_of-concat (texts_in b) (spelled_lines b.plan.version (lines_in b) there)) in
-    let first = cons_parts (spelling 0 (Version a.plan.version)) (spelling 0 (Version b.plan.version)) _ _ texts in
+    let first = cons_parts texts in
     let said : Version a.plan.version ≡ Version b.plan.version = lines_differ 0 (Version a.plan.version) (Version b.plan.version) here.0 there.0 first.0 in
     let version : b.plan.version ≡ a.plan.version = cc in
     spelled-one a.plan.version (lines_in a) (lines_in b) here (subst (λ (v : ℕ). AreIn v (lines_in b)) version there)
@@ -104,16 +103,12 @@ closes-opens (said ∷ lines) end = (and_parts (not (is_cast_line said)) (not (i
 results-close : (plan : Plan) (lines rest : List Said) → Fills (results plan) lines → closes (lines ++ rest) ≡ true
 results-close plan lines rest fills = from (results plan) lines (results-some plan) (results-no_code plan) fills
   where
-    not_false : (b : Bool) → not b ≡ true → b ≡ false
-    not_false true e = cc
-    not_false false e = refl
-
     from : (slots : List Slot) (front : List Said) → 0 < length slots → list_all is_other_slot slots ≡ true → Fills slots front → closes (front ++ rest) ≡ true
     from [] front some other filled = absurd (omega arith)
     from (first ∷ due) [] some other filled = absurd filled
     from (first ∷ due) (said ∷ front) some other filled =
         let tests = and_parts (is_other_slot first) (list_all is_other_slot due) other in
-        rw (fits-no_cast first said (not_false (is_code_slot first) tests.0) filled.0, fits-block first said filled.0) refl
+        rw (fits-no_cast first said (not-true (is_code_slot first) tests.0) filled.0, fits-block first said filled.0) refl
 
 -- a block does not, and it opens
 block-opens : (plan : Plan) (ballot : ℕ) (what : BlockFate) (rest : List Said) → (closes (fate_lines plan ballot what ++ rest) ≡ false) × (opens (fate_lines plan ballot what ++ rest) ≡ true)
@@ -180,7 +175,7 @@ due_audit-one : (plan : Plan) (ballot : ℕ) (x y : Audit) (c d : List Said) →
     → audit_lines plan ballot x ++ c ≡ audit_lines plan ballot y ++ d → (x ≡ y) × (c ≡ d)
 due_audit-one plan ballot x y c d fine p q same =
     let spells = due_audit-spells plan ballot fine in
-    let parts = Fills-same (due_audit plan ballot) (audit_lines plan ballot x) (audit_lines plan ballot y) c d (spells.out x p) (spells.out y q) same in
+    let parts = Fills-same (due_audit plan ballot) (audit_lines plan ballot x) (audit_lines plan ballot y) c d (filled spells x p) (filled spells y q) same in
     (spells.one x y p q parts.0, parts.1)
 
 -- two blocks at the front are one
@@ -192,7 +187,7 @@ pub record SameBlock (a b : ℕ) (x y : BlockFate) (c d : List Said) : Type 0 wh
 fates-one : (plan : Plan) (a b : ℕ) (x y : BlockFate) (c d : List Said) → fault_of plan ≡ None → is_fate plan a x ≡ true → is_fate plan b y ≡ true → opens c ≡ true → opens d ≡ true
     → fate_lines plan a x ++ c ≡ fate_lines plan b y ++ d → SameBlock a b x y c d
 fates-one plan a b (fate.Cast xs vs) (fate.Cast ys ws) c d fine p q one two same =
-    let parts = cons_parts (Cast a) (Cast b) (cast_from plan xs vs 0 ++ c) (cast_from plan ys ws 0 ++ d) same in
+    let parts = cons_parts same in
     let ballot : a ≡ b = let first = parts.0 in cc in
     let here = and_parts (are_marks plan a 0 0 xs) (are_overs plan a 0 vs) p in
     let there = and_parts (are_marks plan b 0 0 ys) (are_overs plan b 0 ws) q in
@@ -200,7 +195,7 @@ fates-one plan a b (fate.Cast xs vs) (fate.Cast ys ws) c d fine p q one two same
     record { ballot = ballot; what = ap (λ l. fate.Cast l vs) others.0 ∙ ap (λ l. fate.Cast ys l) others.1; rest = others.2 }
 fates-one plan a b fate.Spoiled fate.Spoiled c d fine p q one two same = record { ballot = cc; what = refl; rest = cc }
 fates-one plan a b (fate.Audited xs vs) (fate.Audited ys ws) c d fine p q one two same =
-    let parts = cons_parts (Audited a) (Audited b) (audit_lines plan a (xs, vs) ++ c) (audit_lines plan b (ys, ws) ++ d) same in
+    let parts = cons_parts same in
     let ballot : a ≡ b = let first = parts.0 in cc in
     let here = and_parts _ _ p in
     let there = and_parts _ _ q in
@@ -249,18 +244,17 @@ disputes-one plan [] [] p q same = refl
 disputes-one plan [] (y ∷ ys) p q same = cc
 disputes-one plan (x ∷ xs) [] p q same = cc
 disputes-one plan (x ∷ xs) (y ∷ ys) p q same =
-    let parts = cons_parts (Dispute x.ballot x.race x.code x.word) (Dispute y.ballot y.race y.code y.word) (map Code x.codes ++ flat_map dispute_lines xs) (map Code y.codes ++ flat_map dispute_lines ys) same in
+    let parts = cons_parts same in
     let fields = said_parts x.ballot y.ballot x.race y.race x.code y.code x.word y.word parts.0 in
     let here = and_parts (is_dispute plan x) (list_all (is_dispute plan) xs) p in
     let there = and_parts (is_dispute plan y) (list_all (is_dispute plan) ys) q in
-    let due_x = (and_parts ((nat_lt x.race (length plan.races) && ballot_has plan x.ballot x.race) && is_code plan x.code) (are_due plan (race_codes plan block.Dispute x.ballot x.race) x.codes) here.0).1 in
-    let due_y = (and_parts ((nat_lt y.race (length plan.races) && ballot_has plan y.ballot y.race) && is_code plan y.code) (are_due plan (race_codes plan block.Dispute y.ballot y.race) y.codes) there.0).1 in
-    let slots : race_codes plan block.Dispute y.ballot y.race ≡ race_codes plan block.Dispute x.ballot x.race
-    = ap (λ n. race_codes plan block.Dispute n y.race) (sym fields.0) ∙ ap (λ n. race_codes plan block.Dispute x.ballot n) (sym fields.1) in
+    let codes_x = (and_parts ((nat_lt x.race (length plan.races) && ballot_has plan x.ballot x.race) && is_code plan x.code) (has_columns plan x.race x.codes) here.0).1 in
+    let codes_y = (and_parts ((nat_lt y.race (length plan.races) && ballot_has plan y.ballot y.race) && is_code plan y.code) (has_columns plan y.race y.codes) there.0).1 in
+    let too = subst (λ (r : ℕ). has_columns plan r y.codes ≡ true) (sym fields.1) codes_y in
+    let spells = columns-spells plan block.Dispute x.ballot x.race in
     let others = Fills-same (race_codes plan block.Dispute x.ballot x.race) (map Code x.codes) (map Code y.codes) (flat_map dispute_lines xs) (flat_map dispute_lines ys)
-    ((dispute_codes-spells plan x.ballot x.race).out x.codes due_x)
-    (subst (λ (l : List Slot). Fills l (map Code y.codes)) slots ((dispute_codes-spells plan y.ballot y.race).out y.codes due_y)) parts.1 in
-    let first : x ≡ y = dispute-same x y fields.0 fields.1 fields.2 fields.3 (codes_one x.codes y.codes others.0) in
+    (filled spells x.codes codes_x) (filled spells y.codes too) parts.1 in
+    let first : x ≡ y = dispute-same x y fields.0 fields.1 fields.2 fields.3 (spells.one x.codes y.codes codes_x too others.0) in
     ap (λ z. z ∷ xs) first ∙ ap (λ l. y ∷ l) (disputes-one plan xs ys here.1 there.1 others.1)
   where
     said_parts : (a b c d e f : ℕ) (v w : ClaimWord) → Dispute a c e v ≡ Dispute b d f w → (a ≡ b) × (c ≡ d) × (e ≡ f) × (v ≡ w)
@@ -271,7 +265,7 @@ disputes-one plan (x ∷ xs) (y ∷ ys) p q same =
 -- lists with the same front
 front-one : (front xs ys : List Said) → front ++ xs ≡ front ++ ys → xs ≡ ys
 front-one [] xs ys same = same
-front-one (said ∷ front) xs ys same = front-one front xs ys (cons_parts said said (front ++ xs) (front ++ ys) same).1
+front-one (said ∷ front) xs ys same = front-one front xs ys (cons_parts same).1
 
 -- the parts of a formed record whose plan this is
 pub record PartsOf (plan : Plan) (posted : Record) : Type 0 where
@@ -308,14 +302,14 @@ parts-one plan a b p q same =
     let whole = sym (record_of-lines plan p.commits p.blocks p.results p.disputes) ∙ (ap lines_in (sym p.is) ∙ (same ∙ (ap lines_in q.is ∙ record_of-lines plan q.commits q.blocks q.results q.disputes))) in
     let behind_plan = front-one (plan_lines plan) _ _ whole in
     let of_commits = commits-spells plan.version plan in
-    let one = Fills-same (commits plan) (lines_of_commits p.commits) (lines_of_commits q.commits) _ _ (of_commits.out p.commits p.are_commits) (of_commits.out q.commits q.are_commits) behind_plan in
+    let one = Fills-same (commits plan) (lines_of_commits p.commits) (lines_of_commits q.commits) _ _ (filled of_commits p.commits p.are_commits) (filled of_commits q.commits q.are_commits) behind_plan in
     let of_results = results-spells plan.version plan in
-    let fills = of_results.out p.results p.are_results in
-    let filled = of_results.out q.results q.are_results in
+    let fills = filled of_results p.results p.are_results in
+    let too = filled of_results q.results q.are_results in
     let two = blocks-one plan 0 0 p.blocks q.blocks (lines_of_results plan p.results ++ flat_map dispute_lines p.disputes) (lines_of_results plan q.results ++ flat_map dispute_lines q.disputes)
     p.fine p.are_ballots q.are_ballots (results-close plan (lines_of_results plan p.results) (flat_map dispute_lines p.disputes) fills)
-    (results-close plan (lines_of_results plan q.results) (flat_map dispute_lines q.disputes) filled) one.1 in
-    let three = Fills-same (results plan) (lines_of_results plan p.results) (lines_of_results plan q.results) (flat_map dispute_lines p.disputes) (flat_map dispute_lines q.disputes) fills filled two.1 in
+    (results-close plan (lines_of_results plan q.results) (flat_map dispute_lines q.disputes) too) one.1 in
+    let three = Fills-same (results plan) (lines_of_results plan p.results) (lines_of_results plan q.results) (flat_map dispute_lines p.disputes) (flat_map dispute_lines q.disputes) fills too two.1 in
     let commits_same : p.commits ≡ q.commits = of_commits.one p.commits q.commits p.are_commits q.are_commits one.0 in
     let results_same : p.results ≡ q.results = of_results.one p.results q.results p.are_results q.are_results three.0 in
     let disputes_same : p.disputes ≡ q.disputes = disputes-one plan p.disputes q.disputes p.are_disputes q.are_disputes three.1 in
@@ -330,7 +324,7 @@ pub lines-one : (a b : Record) → HasForm a → HasForm b → lines_in a ≡ li
 lines-one a b p q same =
     let here = formed_goes a p.first p.second p.third p.is in
     let there = formed_goes b q.first q.second q.third q.is in
-    let ends : end_of b ≡ end_of a = goes-one start (end_of b) (end_of a) (lines_in b) there (subst (λ (l : List Said). Goes start l (end_of a)) same here) in
+    let ends : behind_record b ≡ behind_record a = goes-one start (behind_record b) (behind_record a) (lines_in b) there (subst (λ (l : List Said). Goes start l (behind_record a)) same here) in
     let plans : b.plan ≡ a.plan = ap (λ (n : Next). n.plan) ends in
     parts-one a.plan a b (parts-of a p) (subst (λ (plan : Plan). PartsOf plan b) plans (parts-of b q)) same
 

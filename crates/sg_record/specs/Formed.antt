@@ -1,6 +1,6 @@
 -- Which records have a text: their lists are as long as the plan says, and their codes, blocks and disputes stand in
 -- the order of the rules (this project's rules for the record).
-use Rattle.std.specs.Prelude.{ℕ, ◌+◌, ◌==◌, nat_lt, nat_le, Bool, true, false, ◌&&◌, List, [], ◌∷◌, length, is_none}
+use Rattle.std.specs.Prelude.{ℕ, ◌+◌, ◌==◌, nat_lt, nat_le, Bool, true, false, ◌&&◌, List, [], ◌∷◌, length, take, drop, is_none}
 use Rattle.std.specs.List.{list_all}
 use Rattle.sg_plan.specs.Ballots.{ballot_has, candidates_of, entries_of, races_of_ballot}
 use Rattle.sg_plan.specs.Codes.{is_code}
@@ -9,11 +9,7 @@ use Rattle.sg_plan.specs.declared.plan.Draw.{Draw}
 use Rattle.sg_plan.specs.declared.plan.Draw.TheVariants as drawn
 use Rattle.sg_plan.specs.declared.plan.Plan.{Plan}
 use Rattle.sg_forms.specs.declared.line.CodeLine.{CodeLine}
-use Rattle.sg_grammar.specs.Due.{ballot_codes, each, race_codes}
 use Rattle.sg_grammar.specs.Walk.{follows_in_order, is_column, is_later, is_race_left}
-use Rattle.sg_grammar.specs.declared.state.Block.TheVariants as block
-use Rattle.sg_grammar.specs.declared.state.Slot.{Slot}
-use Rattle.sg_grammar.specs.declared.state.Slot.TheVariants as slot
 use Rattle.sg_record.specs.declared.record.BallotBlock.{BallotBlock}
 use Rattle.sg_record.specs.declared.record.BlockFate.{BlockFate}
 use Rattle.sg_record.specs.declared.record.BlockFate.TheVariants as fate
@@ -55,17 +51,15 @@ abbrev pub are_overs : Plan → ℕ → ℕ → List ℕ → Bool
 are_overs plan ballot race [] = true
 are_overs plan ballot race (over ∷ overs) = is_race_left plan ballot race over && are_overs plan ballot (over + 1) overs
 
--- the code is of the column that is due
-abbrev pub is_due : Plan → Slot → CodeLine → Bool
-is_due plan (slot.Code kind ballot race column) code = (code.race == race && code.column == column) && is_code plan code.code
-is_due plan due code = false
+-- a code for each column of the race
+abbrev pub has_columns : Plan → ℕ → List CodeLine → Bool
+has_columns plan race codes =
+    length codes == candidates_of plan race && each_passes (λ column code. (code.race == race && code.column == column) && is_code plan code.code) 0 codes
 
--- a code for each column that is due
-abbrev pub are_due : Plan → List Slot → List CodeLine → Bool
-are_due plan [] [] = true
-are_due plan [] (code ∷ codes) = false
-are_due plan (due ∷ slots) [] = false
-are_due plan (due ∷ slots) (code ∷ codes) = is_due plan due code && are_due plan slots codes
+-- such codes for each of these races, one race after another
+abbrev pub are_columns : Plan → List ℕ → List CodeLine → Bool
+are_columns plan [] codes = length codes == 0
+are_columns plan (race ∷ races) codes = has_columns plan race (take (candidates_of plan race) codes) && are_columns plan races (drop (candidates_of plan race) codes)
 
 -- BLOCKS
 
@@ -79,8 +73,7 @@ are_papers plan (race ∷ races) (list ∷ papers) = (length list == candidates_
 abbrev pub is_fate : Plan → ℕ → BlockFate → Bool
 is_fate plan ballot (fate.Cast codes overs) = are_marks plan ballot 0 0 codes && are_overs plan ballot 0 overs
 is_fate plan ballot fate.Spoiled = true
-is_fate plan ballot (fate.Audited papers codes) =
-    are_papers plan (races_of_ballot plan ballot) papers && are_due plan (each (ballot_codes plan ballot) 0 (length plan.races)) codes
+is_fate plan ballot (fate.Audited papers codes) = are_papers plan (races_of_ballot plan ballot) papers && are_columns plan (races_of_ballot plan ballot) codes
 is_fate plan ballot fate.Voided = plan.version == 2
 
 -- blocks of rising ballots behind this one
@@ -91,8 +84,7 @@ are_blocks plan last (one ∷ blocks) = (is_later plan last one.ballot && is_fat
 -- a claim on a ballot in one of its races, and the ballot's codes there
 abbrev pub is_dispute : Plan → DisputeBlock → Bool
 is_dispute plan one =
-    ((nat_lt one.race (length plan.races) && ballot_has plan one.ballot one.race) && is_code plan one.code)
-    && are_due plan (race_codes plan block.Dispute one.ballot one.race) one.codes
+    ((nat_lt one.race (length plan.races) && ballot_has plan one.ballot one.race) && is_code plan one.code) && has_columns plan one.race one.codes
 
 -- the public bytes are 1 to 4,096
 abbrev pub is_draw : Draw → Bool

@@ -1,7 +1,6 @@
 //! Section 2 of a record, written: the blocks of ballots. The blocks of disputes are written likewise.
-ghost use Rattle.std.specs.Prelude.{◌≡◌, ◌≤◌, ◌<◌, ◌^◌, ◌∷◌, ◌++◌, [], ℕ, length, map, drop, All, if◌then◌else◌, IfOk, None, true};
+ghost use Rattle.std.specs.Prelude.{◌≡◌, ◌≤◌, ◌<◌, ◌^◌, ◌∷◌, ◌++◌, [], ℕ, length, map, drop, All, if◌then◌else◌, IfOk, true};
 ghost use Rattle.std.specs.List.{flat_map};
-ghost use Rattle.sg_plan.specs.Limits.{fault_of};
 ghost use Rattle.sg_forms.specs.Said.Said.{Code, Over, Paper as PaperLine};
 ghost use Rattle.sg_forms.specs.Spelling.{IsCode};
 ghost use Rattle.sg_grammar.specs.Due.{each};
@@ -18,7 +17,7 @@ use crate::record::{BallotBlock, BlockFate, DisputeBlock};
 use sg_forms::{CodeLine, Line};
 use sg_outside::{Failed, Sink};
 use sg_plan::limits::MOST_CANDIDATES;
-use sg_plan::{BallotIndex, Items, Paper, Plan};
+use sg_plan::{BallotIndex, Items, Paper};
 
 /// Writes a code.
 fn put_code<O: Sink>(pen: &mut Pen, code: &CodeLine, out: &mut O) -> Result<(), Failed>
@@ -114,20 +113,19 @@ fn put_cast_race<O: Sink>(
 #[tactic(auto, using(crate::proofs::Limits::limit_facts))]
 fn put_cast_races<O: Sink>(
     pen: &mut Pen,
-    plan: &Plan,
+    index: &BallotIndex,
     codes: &Items<CodeLine>,
     overs: &Items<u32>,
     out: &mut O,
 ) -> Result<(), Failed>
-    requires limits { fault_of plan.now ≡ None }
     requires codes { HaveCodes pen.old.version codes.now }
     requires order { DoNotFall 0 codes.now }
     requires over_order { DoRise 0 overs.now }
-    ensures { Writes O.written O.faults pen.old out.old pen.new out.new result (each (cast_race_lines codes.now overs.now) 0 (length plan.now.races)) }
+    ensures { Writes O.written O.faults pen.old out.old pen.new out.new result (each (cast_race_lines codes.now overs.now) 0 (length index.now.races)) }
 {
     let mut at = 0;
     let mut over_at = 0;
-    for race in 0..plan.races.len() {
+    for race in 0..index.plan().races.len() {
         let ends = put_cast_race(pen, race as u32, codes, at, overs, over_at, out)?;
         at = ends.0;
         over_at = ends.1;
@@ -175,107 +173,99 @@ pub fn put_papers<O: Sink>(
 }
 
 /// Writes the block of a cast ballot.
-#[tactic(auto, using(crate::proofs::Limits::limit_facts))]
 fn put_cast<O: Sink>(
     pen: &mut Pen,
-    plan: &Plan,
+    index: &BallotIndex,
     ballot: u32,
     codes: &Items<CodeLine>,
     overs: &Items<u32>,
     out: &mut O,
 ) -> Result<(), Failed>
-    requires version { pen.old.version ≡ plan.now.version }
-    requires limits { fault_of plan.now ≡ None }
-    requires fate { is_fate plan.now ballot (fate.Cast codes.now overs.now) ≡ true }
-    ensures { Writes O.written O.faults pen.old out.old pen.new out.new result (fate_lines plan.now ballot (fate.Cast codes.now overs.now)) }
+    requires version { pen.old.version ≡ index.now.version }
+    requires fate { is_fate index.now ballot (fate.Cast codes.now overs.now) ≡ true }
+    ensures { Writes O.written O.faults pen.old out.old pen.new out.new result (fate_lines index.now ballot (fate.Cast codes.now overs.now)) }
 {
     pen.put_line(&Line::Cast(ballot), out)?;
-    put_cast_races(pen, plan, codes, overs, out)
+    put_cast_races(pen, index, codes, overs, out)
 }
 
 /// Writes the block of an audited ballot with these races.
-#[tactic(auto, using(crate::proofs::Limits::limit_facts))]
 fn put_audited<O: Sink>(
     pen: &mut Pen,
-    plan: &Plan,
+    index: &BallotIndex,
     ballot: u32,
     races: &[u32],
     papers: &Paper,
     codes: &Items<CodeLine>,
     out: &mut O,
 ) -> Result<(), Failed>
-    requires version { pen.old.version ≡ plan.now.version }
-    requires limits { fault_of plan.now ≡ None }
-    requires races { races.now ≡ races_of_ballot plan.now ballot }
-    requires fate { is_fate plan.now ballot (fate.Audited papers.now codes.now) ≡ true }
-    ensures { Writes O.written O.faults pen.old out.old pen.new out.new result (fate_lines plan.now ballot (fate.Audited papers.now codes.now)) }
+    requires version { pen.old.version ≡ index.now.version }
+    requires races { races.now ≡ races_of_ballot index.now ballot }
+    requires fate { is_fate index.now ballot (fate.Audited papers.now codes.now) ≡ true }
+    ensures { Writes O.written O.faults pen.old out.old pen.new out.new result (fate_lines index.now ballot (fate.Audited papers.now codes.now)) }
 {
+    // An indexed plan has no fault, so each of the ballot's races has candidates.
+    let _ = index.plan();
     pen.put_line(&Line::Audited(ballot), out)?;
     put_papers(pen, races, papers, out)?;
     put_codes(pen, codes, out)
 }
 
 /// Writes what the block of a ballot with these races says of it.
-#[tactic(auto, using(crate::proofs::Limits::limit_facts))]
 fn put_fate<O: Sink>(
     pen: &mut Pen,
-    plan: &Plan,
+    index: &BallotIndex,
     ballot: u32,
     races: &[u32],
     fate: &BlockFate,
     out: &mut O,
 ) -> Result<(), Failed>
-    requires version { pen.old.version ≡ plan.now.version }
-    requires limits { fault_of plan.now ≡ None }
-    requires races { races.now ≡ races_of_ballot plan.now ballot }
-    requires fate { is_fate plan.now ballot fate.now ≡ true }
-    ensures { Writes O.written O.faults pen.old out.old pen.new out.new result (fate_lines plan.now ballot fate.now) }
+    requires version { pen.old.version ≡ index.now.version }
+    requires races { races.now ≡ races_of_ballot index.now ballot }
+    requires fate { is_fate index.now ballot fate.now ≡ true }
+    ensures { Writes O.written O.faults pen.old out.old pen.new out.new result (fate_lines index.now ballot fate.now) }
 {
     match fate {
-        BlockFate::Cast(codes, overs) => put_cast(pen, plan, ballot, codes, overs, out),
+        BlockFate::Cast(codes, overs) => put_cast(pen, index, ballot, codes, overs, out),
         BlockFate::Spoiled => pen.put_line(&Line::Spoiled(ballot), out),
         BlockFate::Audited(papers, codes) => {
-            put_audited(pen, plan, ballot, races, papers, codes, out)
+            put_audited(pen, index, ballot, races, papers, codes, out)
         }
         BlockFate::Voided => pen.put_line(&Line::Voided(ballot), out),
     }
 }
 
 /// Writes the block of a ballot of the plan with these races, in a record of the plan's version.
-pub fn put_block<O: Sink>(
+fn put_block<O: Sink>(
     pen: &mut Pen,
-    plan: &Plan,
+    index: &BallotIndex,
     races: &[u32],
     block: &BallotBlock,
     out: &mut O,
 ) -> Result<(), Failed>
-    requires version { pen.old.version ≡ plan.now.version }
-    requires limits { fault_of plan.now ≡ None }
-    requires races { races.now ≡ races_of_ballot plan.now block.now.ballot }
-    requires fate { is_fate plan.now block.now.ballot block.now.fate ≡ true }
-    ensures { Writes O.written O.faults pen.old out.old pen.new out.new result (block_lines plan.now block.now) }
+    requires version { pen.old.version ≡ index.now.version }
+    requires races { races.now ≡ races_of_ballot index.now block.now.ballot }
+    requires fate { is_fate index.now block.now.ballot block.now.fate ≡ true }
+    ensures { Writes O.written O.faults pen.old out.old pen.new out.new result (block_lines index.now block.now) }
 {
-    put_fate(pen, plan, block.ballot, races, &block.fate, out)
+    put_fate(pen, index, block.ballot, races, &block.fate, out)
 }
 
 /// Writes the blocks of all ballots.
 pub(crate) fn put_blocks<O: Sink>(
     pen: &mut Pen,
-    plan: &Plan,
     index: &BallotIndex,
     blocks: &Items<BallotBlock>,
     out: &mut O,
 ) -> Result<(), Failed>
-    requires version { pen.old.version ≡ plan.now.version }
-    requires limits { fault_of plan.now ≡ None }
-    requires indexed { index.now ≡ plan.now }
-    requires fates { HaveFates plan.now 0 blocks.now }
-    ensures { Writes O.written O.faults pen.old out.old pen.new out.new result (flat_map (block_lines plan.now) blocks.now) }
+    requires version { pen.old.version ≡ index.now.version }
+    requires fates { HaveFates index.now 0 blocks.now }
+    ensures { Writes O.written O.faults pen.old out.old pen.new out.new result (flat_map (block_lines index.now) blocks.now) }
 {
     for at in 0..blocks.len() {
         let block = blocks.get(at);
         let races = index.races(block.ballot);
-        put_block(pen, plan, races, block, out)?;
+        put_block(pen, index, races, block, out)?;
     }
     Ok(())
 }

@@ -1,18 +1,13 @@
 //! Which records have a text: each list is as long as the plan says, and codes, blocks and disputes stand in order.
 //!
 //! Each list is walked over once, and only the index of the plan's ballots takes memory.
-ghost use Rattle.std.specs.Prelude.{◌≡◌, ℕ, ◌==◌, ◌<◌, ◌≤◌, None, IsTrue, IfOk, IfSome, nat_lt, nat_le, if◌then◌else◌, ◌&&◌, ◌++◌, [], List, length, drop, false};
+ghost use Rattle.std.specs.Prelude.{◌≡◌, ℕ, ◌==◌, ◌<◌, ◌≤◌, IsTrue, IfOk, nat_lt, nat_le, ◌&&◌, length};
 ghost use Rattle.std.specs.List.{list_all, list_any};
-ghost use Rattle.std.specs.Option.{option_map_or};
 ghost use Rattle.sg_plan.specs.Ballots.{candidates_of, entries_of, races_of_ballot};
-ghost use Rattle.sg_plan.specs.Limits.{fault_of, most_claims};
-ghost use Rattle.sg_grammar.specs.Due.{ballot_codes, each, race_codes};
+ghost use Rattle.sg_plan.specs.Limits.{most_claims};
 ghost use Rattle.sg_grammar.specs.Walk.{follows_in_order};
-ghost use Rattle.sg_grammar.specs.declared.state.Block.{Block};
-ghost use Rattle.sg_grammar.specs.declared.state.Block.TheVariants as block;
-ghost use Rattle.sg_grammar.specs.declared.state.Slot.{Slot};
 ghost use Rattle.sg_plan.specs.Codes.{is_code};
-ghost use Rattle.sg_record.specs.Formed.{are_blocks, are_due, are_marks, are_overs, are_papers, has_candidates, has_entries, has_rows, is_dispute, is_draw, is_fate, is_formed};
+ghost use Rattle.sg_record.specs.Formed.{are_blocks, are_columns, are_marks, are_overs, are_papers, has_candidates, has_columns, has_entries, has_rows, is_dispute, is_draw, is_fate, is_formed};
 
 use crate::record::{BallotBlock, BlockFate, DisputeBlock, Record};
 use sg_forms::CodeLine;
@@ -20,17 +15,24 @@ use sg_plan::limits::{MOST_CLAIMS, MOST_PUBLIC_BYTES};
 use sg_plan::{BallotIndex, Draw, Items, NoMemory, Paper, Plan};
 use std::alloc::Global;
 
+/// How many entries the race has.
+fn entries_in(index: &BallotIndex, race: u32) -> usize
+    requires { race < length index.now.races }
+    ensures { result ≡ entries_of index.now race }
+{
+    index.plan().entries(race) as usize
+}
+
 /// Each race has a list with an item for each of its entries.
 #[tactic(auto, using(crate::proofs::Bounds::few_races))]
-fn has_entries<T>(plan: &Plan, lists: &Items<Items<T>>) -> bool
-    requires { fault_of plan.now ≡ None }
-    ensures { result ≡ has_entries plan.now lists.now }
+fn has_entries<T>(index: &BallotIndex, lists: &Items<Items<T>>) -> bool
+    ensures { result ≡ has_entries index.now lists.now }
 {
-    if lists.len() != plan.races.len() {
+    if lists.len() != index.plan().races.len() {
         return false;
     }
     for race in 0..lists.len() {
-        if lists.get(race).len() != plan.entries(race as u32) as usize {
+        if lists.get(race).len() != entries_in(index, race as u32) {
             return false;
         }
     }
@@ -45,28 +47,26 @@ fn have_items<T>(lists: &Items<Items<T>>, count: usize) -> bool
 }
 
 /// The race has a list for each instance, with an item for each of its rows.
-fn has_race_rows<T>(plan: &Plan, race: u32, lists: &Items<Items<T>>) -> bool
-    requires limits { fault_of plan.now ≡ None }
-    requires race { race < length plan.now.races }
-    ensures { result ≡ (length lists.now == plan.now.instances && list_all (λ items. length items == entries_of plan.now race) lists.now) }
+fn has_race_rows<T>(index: &BallotIndex, race: u32, lists: &Items<Items<T>>) -> bool
+    requires { race < length index.now.races }
+    ensures { result ≡ (length lists.now == index.now.instances && list_all (λ items. length items == entries_of index.now race) lists.now) }
 {
-    if lists.len() != plan.instances as usize {
+    if lists.len() != index.plan().instances as usize {
         return false;
     }
-    have_items(lists, plan.entries(race) as usize)
+    have_items(lists, entries_in(index, race))
 }
 
 /// Each race has a list for each instance, with an item for each of its rows.
 #[tactic(auto, using(crate::proofs::Bounds::few_races))]
-fn has_rows<T>(plan: &Plan, lists: &Items<Items<Items<T>>>) -> bool
-    requires { fault_of plan.now ≡ None }
-    ensures { result ≡ has_rows plan.now lists.now }
+fn has_rows<T>(index: &BallotIndex, lists: &Items<Items<Items<T>>>) -> bool
+    ensures { result ≡ has_rows index.now lists.now }
 {
-    if lists.len() != plan.races.len() {
+    if lists.len() != index.plan().races.len() {
         return false;
     }
     for race in 0..lists.len() {
-        if !has_race_rows(plan, race as u32, lists.get(race)) {
+        if !has_race_rows(index, race as u32, lists.get(race)) {
             return false;
         }
     }
@@ -132,10 +132,10 @@ fn is_mark(plan: &Plan, races: &[u32], race: u32, column: u32, code: &CodeLine) 
 
 /// The codes are marks of a cast ballot with these races: races don't fall, and in one race columns rise.
 #[tactic(auto, using(crate::proofs::BlockTests::marks))]
-fn are_marks(plan: &Plan, races: &[u32], codes: &Items<CodeLine>) -> bool
-    requires { fault_of plan.now ≡ None }
-    ensures { (ballot : ℕ) → races.now ≡ races_of_ballot plan.now ballot → result ≡ are_marks plan.now ballot 0 0 codes.now }
+fn are_marks(index: &BallotIndex, races: &[u32], codes: &Items<CodeLine>) -> bool
+    ensures { (ballot : ℕ) → races.now ≡ races_of_ballot index.now ballot → result ≡ are_marks index.now ballot 0 0 codes.now }
 {
+    let plan = index.plan();
     let mut race = 0;
     let mut column = 0;
     for at in 0..codes.len() {
@@ -151,10 +151,10 @@ fn are_marks(plan: &Plan, races: &[u32], codes: &Items<CodeLine>) -> bool
 
 /// The races that are over are among these, and rise.
 #[tactic(auto, using(crate::proofs::BlockTests::marks))]
-fn are_overs(plan: &Plan, races: &[u32], overs: &Items<u32>) -> bool
-    requires { fault_of plan.now ≡ None }
-    ensures { (ballot : ℕ) → races.now ≡ races_of_ballot plan.now ballot → result ≡ are_overs plan.now ballot 0 overs.now }
+fn are_overs(index: &BallotIndex, races: &[u32], overs: &Items<u32>) -> bool
+    ensures { (ballot : ℕ) → races.now ≡ races_of_ballot index.now ballot → result ≡ are_overs index.now ballot 0 overs.now }
 {
+    let plan = index.plan();
     let mut least = 0;
     for at in 0..overs.len() {
         let race = *overs.get(at);
@@ -217,78 +217,60 @@ fn is_code_at(plan: &Plan, race: u32, column: usize, code: &CodeLine) -> bool
     plan.is_code(code.code)
 }
 
-/// Where the codes of the race's columns end that stand from this place on. `None` where others stand there, or none.
-#[tactic(auto, using(crate::proofs::BlockTests::due))]
-fn end_of_codes(plan: &Plan, race: u32, codes: &Items<CodeLine>, from: usize) -> Option<usize>
-    requires { from ≤ length codes.now }
-    ensures due { (kind : Block) (ballot : ℕ) (rest : List Slot) → are_due plan.now (race_codes plan.now kind ballot race ++ rest) (drop from codes.now) ≡ option_map_or (λ end. are_due plan.now rest (drop end codes.now)) result false }
-    ensures within { IfSome result (λ end. end ≤ length codes.now) }
-{
-    let mut at = from;
-    for column in 0..plan.candidates(race) {
-        if at >= codes.len() {
-            return None;
-        }
-        if !is_code_at(plan, race, column, codes.get(at)) {
-            return None;
-        }
-        at += 1;
-    }
-    Some(at)
-}
-
 /// A code for each column of the race, and no other.
-#[tactic(auto, using(crate::proofs::BlockTests::due))]
-fn are_race_codes(plan: &Plan, race: u32, codes: &Items<CodeLine>) -> bool
-    ensures { (kind : Block) (ballot : ℕ) → result ≡ are_due plan.now (race_codes plan.now kind ballot race) codes.now }
+fn has_columns(plan: &Plan, race: u32, codes: &[CodeLine]) -> bool
+    ensures { result ≡ has_columns plan.now race codes.now }
 {
-    match end_of_codes(plan, race, codes, 0) {
-        Some(end) => end == codes.len(),
-        None => false,
+    if codes.len() != plan.candidates(race) {
+        return false;
     }
+    for column in 0..codes.len() {
+        if !is_code_at(plan, race, column, &codes[column]) {
+            return false;
+        }
+    }
+    true
 }
 
-/// A code for each column of each of the ballot's races, and no other.
-#[tactic(auto, using(crate::proofs::BlockTests::due))]
-fn are_ballot_codes(plan: &Plan, races: &[u32], codes: &Items<CodeLine>) -> bool
-    requires { fault_of plan.now ≡ None }
-    ensures { (ballot : ℕ) → races.now ≡ races_of_ballot plan.now ballot → result ≡ are_due plan.now (each (ballot_codes plan.now ballot) 0 (length plan.now.races)) codes.now }
+/// A code for each column of each of the races, one race after another, and no other.
+fn are_columns(plan: &Plan, races: &[u32], codes: &[CodeLine]) -> bool
+    ensures { result ≡ are_columns plan.now races.now codes.now }
 {
-    let mut at = 0;
-    for race in 0..plan.races.len() {
-        if !has_race(races, race as u32) {
-            continue;
+    let mut left = codes;
+    for at in 0..races.len() {
+        let count = plan.candidates(races[at]);
+        if left.len() < count {
+            return false;
         }
-        match end_of_codes(plan, race as u32, codes, at) {
-            Some(end) => at = end,
-            None => return false,
+        let (front, rest) = left.split_at(count);
+        if !has_columns(plan, races[at], front) {
+            return false;
         }
+        left = rest;
     }
-    at == codes.len()
+    left.is_empty()
 }
 
 /// The block of a ballot with these races may say this of it.
-fn is_fate(plan: &Plan, races: &[u32], fate: &BlockFate) -> bool
-    requires { fault_of plan.now ≡ None }
-    ensures { (ballot : ℕ) → races.now ≡ races_of_ballot plan.now ballot → result ≡ is_fate plan.now ballot fate.now }
+fn is_fate(index: &BallotIndex, races: &[u32], fate: &BlockFate) -> bool
+    ensures { (ballot : ℕ) → races.now ≡ races_of_ballot index.now ballot → result ≡ is_fate index.now ballot fate.now }
 {
+    let plan = index.plan();
     match fate {
         BlockFate::Cast(codes, overs) => {
-            are_marks(plan, races, codes) && are_overs(plan, races, overs)
+            are_marks(index, races, codes) && are_overs(index, races, overs)
         }
         BlockFate::Spoiled => true,
         BlockFate::Audited(papers, codes) => {
-            are_papers(plan, races, papers) && are_ballot_codes(plan, races, codes)
+            are_papers(plan, races, papers) && are_columns(plan, races, codes.as_slice())
         }
         BlockFate::Voided => plan.version == 2,
     }
 }
 
 /// The blocks are of rising ballots, and each is as its fate wants it.
-fn are_blocks(plan: &Plan, index: &BallotIndex, blocks: &Items<BallotBlock>) -> bool
-    requires limits { fault_of plan.now ≡ None }
-    requires indexed { index.now ≡ plan.now }
-    ensures { result ≡ are_blocks plan.now 0 blocks.now }
+fn are_blocks(index: &BallotIndex, blocks: &Items<BallotBlock>) -> bool
+    ensures { result ≡ are_blocks index.now 0 blocks.now }
 {
     let ballots = index.ballots();
     let mut last = 0;
@@ -301,7 +283,7 @@ fn are_blocks(plan: &Plan, index: &BallotIndex, blocks: &Items<BallotBlock>) -> 
             return false;
         }
         let races = index.races(block.ballot);
-        if !is_fate(plan, races, &block.fate) {
+        if !is_fate(index, races, &block.fate) {
             return false;
         }
         last = block.ballot;
@@ -310,10 +292,10 @@ fn are_blocks(plan: &Plan, index: &BallotIndex, blocks: &Items<BallotBlock>) -> 
 }
 
 /// A claim on a ballot in one of its races, and the ballot's codes there.
-fn is_dispute(plan: &Plan, index: &BallotIndex, one: &DisputeBlock) -> bool
-    requires { index.now ≡ plan.now }
-    ensures { result ≡ is_dispute plan.now one.now }
+fn is_dispute(index: &BallotIndex, one: &DisputeBlock) -> bool
+    ensures { result ≡ is_dispute index.now one.now }
 {
+    let plan = index.plan();
     if one.race as usize >= plan.races.len() {
         return false;
     }
@@ -323,26 +305,24 @@ fn is_dispute(plan: &Plan, index: &BallotIndex, one: &DisputeBlock) -> bool
     if !plan.is_code(one.code) {
         return false;
     }
-    are_race_codes(plan, one.race, &one.codes)
+    has_columns(plan, one.race, one.codes.as_slice())
 }
 
 /// Each dispute is as it should be.
-fn are_all_disputes(plan: &Plan, index: &BallotIndex, disputes: &[DisputeBlock]) -> bool
-    requires { index.now ≡ plan.now }
-    ensures { result ≡ list_all (is_dispute plan.now) disputes.now }
+fn are_all_disputes(index: &BallotIndex, disputes: &[DisputeBlock]) -> bool
+    ensures { result ≡ list_all (is_dispute index.now) disputes.now }
 {
-    disputes.iter().all(|one| is_dispute(plan, index, one))
+    disputes.iter().all(|one| is_dispute(index, one))
 }
 
 /// At most 10,000 disputes, each as it should be.
-fn are_disputes(plan: &Plan, index: &BallotIndex, disputes: &Items<DisputeBlock>) -> bool
-    requires { index.now ≡ plan.now }
-    ensures { result ≡ (nat_le (length disputes.now) most_claims && list_all (is_dispute plan.now) disputes.now) }
+fn are_disputes(index: &BallotIndex, disputes: &Items<DisputeBlock>) -> bool
+    ensures { result ≡ (nat_le (length disputes.now) most_claims && list_all (is_dispute index.now) disputes.now) }
 {
     if disputes.len() > MOST_CLAIMS {
         return false;
     }
-    are_all_disputes(plan, index, disputes.as_slice())
+    are_all_disputes(index, disputes.as_slice())
 }
 
 /// The public bytes are 1 to 4,096.
@@ -374,19 +354,18 @@ impl Record {
     }
 }
 
-/// The lists of a record are as its plan, which has no fault, wants them.
+/// The lists of a record are as its plan, which has this index, wants them.
 fn has_lists(posted: &Record, index: &BallotIndex) -> bool
-    requires limits { fault_of posted.now.plan ≡ None }
-    requires indexed { index.now ≡ posted.now.plan }
+    requires { index.now ≡ posted.now.plan }
     ensures { result ≡ (has_entries posted.now.plan posted.now.code_commits && (has_rows posted.now.plan posted.now.row_commits && (are_blocks posted.now.plan 0 posted.now.ballots && (has_rows posted.now.plan posted.now.flags && (has_entries posted.now.plan posted.now.places && (has_candidates posted.now.plan posted.now.totals && (is_draw posted.now.draw && (has_rows posted.now.plan posted.now.rows && (nat_le (length posted.now.disputes) most_claims && list_all (is_dispute posted.now.plan) posted.now.disputes))))))))) }
 {
-    has_entries(&posted.plan, &posted.code_commits)
-        && has_rows(&posted.plan, &posted.row_commits)
-        && are_blocks(&posted.plan, index, &posted.ballots)
-        && has_rows(&posted.plan, &posted.flags)
-        && has_entries(&posted.plan, &posted.places)
+    has_entries(index, &posted.code_commits)
+        && has_rows(index, &posted.row_commits)
+        && are_blocks(index, &posted.ballots)
+        && has_rows(index, &posted.flags)
+        && has_entries(index, &posted.places)
         && has_candidates(&posted.plan, &posted.totals)
         && is_draw(&posted.draw)
-        && has_rows(&posted.plan, &posted.rows)
-        && are_disputes(&posted.plan, index, &posted.disputes)
+        && has_rows(index, &posted.rows)
+        && are_disputes(index, &posted.disputes)
 }

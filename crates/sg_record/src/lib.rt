@@ -20,7 +20,7 @@ mod results;
 mod typed;
 mod write;
 
-pub use blocks::{put_block, put_dispute, put_papers};
+pub use blocks::{put_dispute, put_papers};
 pub use commits::{put_code_commit, put_row_commit};
 pub use formed::is_draw;
 pub use openings::put_row;

@@ -68,7 +68,7 @@ impl Posts for Record {
         index: &BallotIndex,
         out: &mut O,
     ) -> Result<(), Failed> {
-        put_blocks(pen, &self.plan, index, &self.ballots, out)
+        put_blocks(pen, index, &self.ballots, out)
     }
 
     fn put_instance_rows<O: Sink>(

@@ -5,6 +5,8 @@ use Rattle.std.specs.Option.{option_and_then, option_map_or}
 use Rattle.std.specs.Prelude.{is_some, slice_get}
 use Rattle.std.proofs.lemmas.Bool.{and_parts, eq-eqb, eqb-true, lt-leb}
 use Rattle.std.proofs.lemmas.Option.{same_Some}
+use Rattle.sg_lists.proofs.Lists.{slice_get_there}
+use Rattle.sg_lists.proofs.Tests.{list_all-slice_get}
 use Rattle.sg_commit.specs.declared.Opening.{Opening}
 use Rattle.sg_plan.specs.Ballots.{candidates_of, entries_of}
 use Rattle.sg_plan.specs.declared.plan.Plan.{Plan}
@@ -19,7 +21,6 @@ use Rattle.sg_check.specs.Facts.{is_flagged, is_marked, is_set, points_to}
 use Rattle.sg_check.specs.Kinds.{differ, is_counted}
 use Rattle.sg_check.specs.Printings.{count_below, marked_code}
 use Rattle.sg_facts.proofs.Facts.{are_listed}
-use Rattle.sg_facts.proofs.Tabling.{get_there}
 use Rattle.sg_facts.specs.Items.{item_in, row_in}
 use Rattle.sg_facts.specs.Tables.{HasTable}
 use Rattle.sg_facts.specs.Totals.{total_of}
@@ -42,40 +43,35 @@ each_there test from (y ∷ xs) (suc i) x all is =
     let same : (from + 1) + i ≡ from + suc i = omega arith in
     subst (λ n. test n x ≡ true) same (each_there test (from + 1) xs i x (and_parts (test from y) (each_passes test (from + 1) xs) all).1 is)
 
-all_there : {A : Type 0} (test : A → Bool) (xs : List A) (i : ℕ) (x : A) → list_all test xs ≡ true → slice_get xs i ≡ Some x → test x ≡ true
-all_there test [] i x all is = cc
-all_there test (y ∷ xs) zero x all is = subst (λ z. test z ≡ true) (same_Some y x is) (and_parts (test y) (list_all test xs) all).0
-all_there test (y ∷ xs) (suc i) x all is = all_there test xs i x (and_parts (test y) (list_all test xs) all).1 is
-
 entry_there : {A : Type 0} (plan : Plan) (lists : List (List A)) (race entry : ℕ) → has_entries plan lists ≡ true → race < length plan.races → entry < entries_of plan race → (x : A) × (item_in lists race entry ≡ Some x)
 entry_there plan lists race entry has within less =
     let parts = and_parts (length lists == length plan.races) (each_passes (λ r items. length items == entries_of plan r) 0 lists) has in
-    let list = get_there lists race (omega (arith, within, eqb-true (length lists) (length plan.races) parts.0)) in
+    let list = slice_get_there lists race (omega (arith, within, eqb-true (length lists) (length plan.races) parts.0)) in
     let same : 0 + race ≡ race = omega arith in
     let long = eqb-true (length list.0) (entries_of plan (0 + race)) (each_there (λ r items. length items == entries_of plan r) 0 lists race list.0 parts.1 list.1) in
-    let item = get_there list.0 entry (omega (arith, less, long, ap (entries_of plan) same)) in
+    let item = slice_get_there list.0 entry (omega (arith, less, long, ap (entries_of plan) same)) in
     (item.0, ap (option_and_then (λ items. slice_get items entry)) list.1 ∙ item.1)
 
 candidate_there : {A : Type 0} (plan : Plan) (lists : List (List A)) (race candidate : ℕ) → has_candidates plan lists ≡ true → race < length plan.races → candidate < candidates_of plan race
     → (x : A) × (item_in lists race candidate ≡ Some x)
 candidate_there plan lists race candidate has within less =
     let parts = and_parts (length lists == length plan.races) (each_passes (λ r items. length items == candidates_of plan r) 0 lists) has in
-    let list = get_there lists race (omega (arith, within, eqb-true (length lists) (length plan.races) parts.0)) in
+    let list = slice_get_there lists race (omega (arith, within, eqb-true (length lists) (length plan.races) parts.0)) in
     let same : 0 + race ≡ race = omega arith in
     let long = eqb-true (length list.0) (candidates_of plan (0 + race)) (each_there (λ r items. length items == candidates_of plan r) 0 lists race list.0 parts.1 list.1) in
-    let item = get_there list.0 candidate (omega (arith, less, long, ap (candidates_of plan) same)) in
+    let item = slice_get_there list.0 candidate (omega (arith, less, long, ap (candidates_of plan) same)) in
     (item.0, ap (option_and_then (λ items. slice_get items candidate)) list.1 ∙ item.1)
 
 row_there : {A : Type 0} (plan : Plan) (lists : List (List (List A))) (race instance row : ℕ) → has_rows plan lists ≡ true → IsHalfOf plan race instance row → (x : A) × (row_in lists race instance row ≡ Some x)
 row_there {A} plan lists race instance row has within =
     let parts = and_parts (length lists == length plan.races) (each_passes (λ r instances. length instances == plan.instances && list_all (λ items. length items == entries_of plan r) instances) 0 lists) has in
-    let list = get_there lists race (omega (arith, within.0, eqb-true (length lists) (length plan.races) parts.0)) in
+    let list = slice_get_there lists race (omega (arith, within.0, eqb-true (length lists) (length plan.races) parts.0)) in
     let same : 0 + race ≡ race = omega arith in
     let test = each_there (λ r instances. length instances == plan.instances && list_all (λ items. length items == entries_of plan r) instances) 0 lists race list.0 parts.1 list.1 in
     let halves = and_parts (length list.0 == plan.instances) (list_all (λ items. length items == entries_of plan (0 + race)) list.0) test in
-    let items = get_there list.0 instance (omega (arith, within.1, eqb-true (length list.0) plan.instances halves.0)) in
-    let long = eqb-true (length items.0) (entries_of plan (0 + race)) (all_there (λ l. length l == entries_of plan (0 + race)) list.0 instance items.0 halves.1 items.1) in
-    let item = get_there items.0 row (omega (arith, within.2, long, ap (entries_of plan) same)) in
+    let items = slice_get_there list.0 instance (omega (arith, within.1, eqb-true (length list.0) plan.instances halves.0)) in
+    let long = eqb-true (length items.0) (entries_of plan (0 + race)) (list_all-slice_get (λ l. length l == entries_of plan (0 + race)) list.0 instance items.0 halves.1 items.1) in
+    let item = slice_get_there items.0 row (omega (arith, within.2, long, ap (entries_of plan) same)) in
     (item.0, ap (option_and_then (λ (instances : List (List A)). item_in instances instance row)) list.1 ∙ (ap (option_and_then (λ (l : List A). slice_get l row)) items.1 ∙ item.1))
 
 module _ (posted : Record) where

@@ -2,7 +2,8 @@
 use Rattle.std.proofs.Common.{◌≡◌, ℕ, zero, suc, ◌+◌, ◌<◌, ◌==◌, nat_lt, Bool, true, false, ◌&&◌, ◌||◌, inl, inr, not, refl, sym, ap, ◌∙◌, arith}
 use Rattle.std.proofs.Math.Bool.{and_comm, or-false, or-true}
 use Rattle.std.proofs.lemmas.Bool.{cases_lt, le-ltb, lt-ltb}
-use Rattle.sg_check.proofs.Counting.{count-without, one_if, without}
+use Rattle.sg_lists.proofs.Bools.{one_if}
+use Rattle.sg_check.proofs.Counting.{count-without, without}
 use Rattle.sg_check.specs.Completions.{any_below}
 use Rattle.sg_check.specs.Printings.{count_below}
 

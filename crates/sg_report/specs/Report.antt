@@ -1,24 +1,10 @@
 -- The report of an audit (this project's formats).
 use Rattle.std.specs.Prelude.{ℕ, List, [], ◌∷◌, ◌++◌, codes, decimal}
+use Rattle.sg_check.specs.Kinds.{kind_word}
 use Rattle.sg_check.specs.declared.judged.Judged.{Judged}
 use Rattle.sg_check.specs.declared.judged.Judged.TheVariants.{Yes, No}
 use Rattle.sg_check.specs.declared.judged.Kind.{Kind}
-use Rattle.sg_check.specs.declared.judged.Kind.TheVariants as kind
 use Rattle.sg_check.specs.declared.judged.Total.{Total}
-
--- the word for a kind
-abbrev pub kind_word : Kind → List ℕ
-kind_word kind.Form = codes "form"
-kind_word kind.Seal = codes "seal"
-kind_word kind.Opening = codes "opening"
-kind_word kind.Side = codes "side"
-kind_word kind.Pointer = codes "pointer"
-kind_word kind.Flag = codes "flag"
-kind_word kind.Path = codes "path"
-kind_word kind.Total = codes "total"
-kind_word kind.Print = codes "print"
-kind_word kind.Rule = codes "rule"
-kind_word kind.Dispute = codes "dispute"
 
 -- `total RACE CANDIDATE COUNT`
 abbrev pub total_text : Total → List ℕ

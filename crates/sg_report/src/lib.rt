@@ -3,4 +3,4 @@
 
 mod report;
 
-pub use report::{add_bytes, add_decimal, word_for, write_no, write_report, write_yes};
+pub use report::{add_bytes, add_decimal, write_no, write_report, write_yes};

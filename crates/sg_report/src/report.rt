@@ -2,7 +2,7 @@
 ghost use Rattle.std.specs.Prelude.{◌≡◌, ◌+◌, ◌≤◌, ◌∷◌, ◌++◌, [], length, take, codes, decimal};
 ghost use Rattle.sg_outside.specs.Faults.{HasCause};
 ghost use Rattle.sg_outside.specs.Streams.{PutAppends};
-ghost use Rattle.sg_report.specs.Report.{kind_word, no_text, report_of, total_text, totals_text};
+ghost use Rattle.sg_report.specs.Report.{no_text, report_of, total_text, totals_text};
 
 use sg_check::{Judged, Kind, Total};
 use sg_lines::write_decimal;
@@ -94,28 +94,8 @@ fn no_line(line: &mut [u8], number: u32, kind: Kind) -> usize
     let at = add_bytes(line, 0, b"no ");
     let at = add_decimal(line, at, number);
     let at = add_bytes(line, at, b" ");
-    let at = add_bytes(line, at, word_for(kind));
+    let at = add_bytes(line, at, kind.word());
     add_bytes(line, at, b"\n")
-}
-
-/// The word for a kind of fault: a lower-case word of at most seven letters.
-pub fn word_for(kind: Kind) -> &'static [u8]
-    ensures word { result.now ≡ kind_word kind }
-    ensures bound { length result.now ≤ 7 }
-{
-    match kind {
-        Kind::Form => b"form",
-        Kind::Seal => b"seal",
-        Kind::Opening => b"opening",
-        Kind::Side => b"side",
-        Kind::Pointer => b"pointer",
-        Kind::Flag => b"flag",
-        Kind::Path => b"path",
-        Kind::Total => b"total",
-        Kind::Print => b"print",
-        Kind::Rule => b"rule",
-        Kind::Dispute => b"dispute",
-    }
 }
 
 /// Puts the bytes behind the first `at`, and answers how many stand then.

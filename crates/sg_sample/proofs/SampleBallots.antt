@@ -3,12 +3,12 @@ use Rattle.std.proofs.Common.{◌≡◌, ◌≢◌, ℕ, ◌-◌, ◌<◌, ◌�
 use Rattle.std.specs.Option.{option_map_or}
 use Rattle.std.proofs.lemmas.Bool.{ne_eqb}
 use Rattle.std.proofs.lemmas.List.{append-nil}
+use Rattle.sg_lists.proofs.Lists.{slice_get-replicate}
 use Rattle.sg_plan.specs.Ballots.{ballot_has, candidates_of, races_of_ballot, races_of_style, style_has, style_of_ballot}
 use Rattle.sg_sample.specs.SampleRun.{sample_plan}
-use Rattle.sg_facts.proofs.Tabling.{fill_get}
 
 item_at : (x n k : ℕ) → k < n → slice_get (replicate n x ++ []) k ≡ Some x
-item_at x n k within = ap (λ (l : List ℕ). slice_get l k) (append-nil (replicate n x)) ∙ fill_get x n k within
+item_at x n k within = ap (λ (l : List ℕ). slice_get l k) (append-nil (replicate n x)) ∙ slice_get-replicate n k x within
 
 pub style_is : (ballots ballot : ℕ) → 1 ≤ ballot → ballot ≤ ballots → style_of_ballot (sample_plan ballots) ballot ≡ Some 0
 unfolding sample_plan

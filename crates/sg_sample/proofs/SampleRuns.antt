@@ -1,13 +1,13 @@
 -- What a sample run tells: its record ends with its third seal, and is accepted.
-use Rattle.std.proofs.Common.{◌≡◌, ℕ, zero, suc, ◌+◌, ◌/◌, ◌^◌, ◌<◌, ◌≤◌, true, not, List, [], ◌∷◌, ◌++◌, length, map, refl, sym, subst, ap, ◌∙◌, append_assoc, append-nil, arith}
+use Rattle.std.proofs.Common.{◌≡◌, ℕ, zero, suc, ◌+◌, ◌<◌, ◌≤◌, true, not, List, [], ◌∷◌, ◌++◌, length, map, refl, sym, subst, ap, ◌∙◌, append_assoc, append-nil, arith}
 use Rattle.std.specs.List.{flat_map}
-use Rattle.std.specs.Int.{byte_at, bytes_high_first}
+use Rattle.std.specs.Int.{bytes_high_first}
 use Rattle.std.specs.Prelude.{All, slice_index}
 use Rattle.std.proofs.lemmas.List.{length-map}
 use Rattle.std.proofs.lemmas.List.Elements.{All-cons}
 use Rattle.std.proofs.lemmas.List.Sums.{count_by-le-length, length-filter}
-use Rattle.std.proofs.lemmas.Nat.{mod_below}
 use Rattle.sha2.proofs.Facts256.{length-sha256}
+use Rattle.sg_lists.proofs.Numbers.{byte_at_below}
 use Rattle.sg_outside.specs.TextLines.{lines_of}
 use Rattle.sg_plan.specs.Ballots.{ballots_of}
 use Rattle.sg_plan.specs.declared.plan.Draw.{Draw}
@@ -52,13 +52,9 @@ use Rattle.sg_sample.proofs.Voting.{Stood, behind_done, stood_behind, whole_done
 pub draw_fits : (number : ℕ) → fits_draw (sample_draw number) ≡ true
 draw_fits number = refl
 
-byte_low : (k n : ℕ) → byte_at k n < 256
-byte_low zero n = mod_below n 256 (omega arith)
-byte_low (suc k) n = mod_below (n / 256 ^ suc k) 256 (omega arith)
-
 high_bytes : (k n i : ℕ) → slice_index (bytes_high_first k n) i < 256
 high_bytes zero n i = omega arith
-high_bytes (suc k) n zero = byte_low k n
+high_bytes (suc k) n zero = byte_at_below k n
 high_bytes (suc k) n (suc i) = high_bytes k n i
 
 pub draw_askable : (number : ℕ) (setup : Setup) → IsAskable setup (act.Draw (sample_draw number))

@@ -1,7 +1,6 @@
 -- An office of a sample goes on from ballot to ballot, and to its end.
 use Rattle.std.proofs.Common.{◌≡◌, ℕ, suc, ◌+◌, ◌<◌, ◌≤◌, true, List, [], length, Option, Some, None, refl, sym, subst, ap, ◌∙◌, add-one, arith}
 use Rattle.std.specs.Option.{option_map_or}
-use Rattle.std.specs.Prelude.{Err, IfOk, Ok, OnOk, Result}
 use Rattle.sg_plan.specs.Ballots.{ballots_of}
 use Rattle.sg_acts.specs.declared.asks.Act.{Act}
 use Rattle.sg_acts.specs.declared.asks.Act.TheVariants as act
@@ -95,15 +94,6 @@ voted_some old new number before ballots done voted is goes =
       stands = subst (λ (s : Setup). StandsFor new (history_after s (ballot_asks s (before + 1)))) (sym setup) back;
       count = subst (λ (s : Setup). number + 1 ≡ length (ballot_asks s (before + 1))) (sym setup) (omega (arith, count, voted.count));
     }
-
--- what follows where a call succeeded
-pub on_ok : {T E : Type 0} (result : Result T E) (P Q : Type 0) → (P → Q) → OnOk result P → OnOk result Q
-on_ok (Ok value) P Q f held = f held
-on_ok (Err error) P Q f held = held
-
-pub if_ok : {T E : Type 0} (result : Result T E) (P Q : T → Type 0) → ((value : T) → P value → Q value) → IfOk result P → IfOk result Q
-if_ok (Ok value) P Q f held = f value held
-if_ok (Err error) P Q f held = held
 
 -- at first
 pub voted_nothing : (kept : Kept) (number ballots : ℕ) → kept.setup ≡ sample_setup number ballots → StandsFor kept [] → IsVoted kept 0 0 ballots

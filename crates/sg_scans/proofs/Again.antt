@@ -1,5 +1,5 @@
 -- How a scan is answered that comes again after another scan.
-use Rattle.std.proofs.Common.{◌≡◌, ◌≢◌, ℕ, ◌==◌, nat_lt, Bool, true, false, not, if◌then◌else◌, List, [], ◌∷◌, bytes_eq, Option, Some, None, is_none, refl, ap, sym, ◌∙◌, subst}
+use Rattle.std.proofs.Common.{◌≡◌, ◌≢◌, ℕ, ◌==◌, nat_lt, Bool, true, false, not, if◌then◌else◌, List, [], ◌∷◌, Option, Some, None, is_none, refl, ap, sym, ◌∙◌, subst}
 use Rattle.std.proofs.lemmas.Bool.{and_parts, eq-eqb, eqb-true}
 use Rattle.std.specs.Option.{option_map, unwrap_or}
 use Rattle.std.proofs.lemmas.Slice.Eq.{bytes_eq-Decides}
@@ -123,12 +123,6 @@ taken setup (entry ∷ history) a b x y station number e = by_stamp (is_stamped 
         let none : repeat_of setup history a x ≡ None = rw t at e in
         rw mine (ih none)
 
-pub same_bytes : (a b : List ℕ) → bytes_eq a b ≡ true → a ≡ b
-same_bytes a b e = (bytes_eq-Decides a b).0 e
-
-own_bytes : (a : List ℕ) → bytes_eq a a ≡ true
-own_bytes a = (bytes_eq-Decides a a).1 refl
-
 -- a reply that was early stays, or stays refused
 goes_on : (secret : Bool) (again refusal later refusal_later : Option Reply) (said : Reply) → early_is secret again refusal ≡ Some said
     → ((x : Reply) → again ≡ Some x → later ≡ Some x) → (again ≡ None → refusal ≢ None → Refuses later)
@@ -178,7 +172,7 @@ after_new setup history scan other small small_other p said e =
     by_act true b not_none =
         let is_one : IsAct setup.plan.version (scan_act other) = record { numbers = (small_other.ballot, small_other.marks); codes = tt } in
         let is_two : IsAct setup.plan.version (scan_act scan) = record { numbers = (small.ballot, small.marks); codes = tt } in
-        let same : scan_act other ≡ scan_act scan = texts_differ setup.plan.version (scan_act other) (scan_act scan) is_one is_two (same_bytes _ _ b) in
+        let same : scan_act other ≡ scan_act scan = texts_differ setup.plan.version (scan_act other) (scan_act scan) is_one is_two ((bytes_eq-Decides _ _).0 b) in
         let none : refusal_of setup history other.stamp.station (scan_act other) ≡ None = p.refusal in
         let mine : refusal_of setup history other.stamp.station (scan_act scan) ≡ None = subst (λ (a : Act). refusal_of setup history other.stamp.station a ≡ None) same none in
         absurd (not_none mine)
@@ -207,7 +201,7 @@ done_again : (setup : Setup) (history : List Entry) (scan : Scan) → knows_secr
 done_again setup history scan secret =
     let one : (scan.stamp.station == scan.stamp.station) ≡ true = eq-eqb scan.stamp.station scan.stamp.station refl in
     let two : (scan.stamp.number == scan.stamp.number) ≡ true = eq-eqb scan.stamp.number scan.stamp.number refl in
-    let three : same_act setup (scan_act scan) (scan_act scan) ≡ true = own_bytes (act_text setup.plan.version (scan_act scan)) in
+    let three : same_act setup (scan_act scan) (scan_act scan) ≡ true = (bytes_eq-Decides (act_text setup.plan.version (scan_act scan)) (act_text setup.plan.version (scan_act scan))).1 refl in
     rw (secret, one, two, three) refl
 
 pub first_then : (setup : Setup) (history : List Entry) (scan : Scan)

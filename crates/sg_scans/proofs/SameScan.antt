@@ -1,10 +1,10 @@
 -- Scans that pass the test are the same.
 use Rattle.std.proofs.Common.{◌≡◌, ℕ, ◌==◌, true, ◌&&◌, List, [], ◌∷◌, bytes_eq, refl, ap, ◌∙◌}
 use Rattle.std.proofs.lemmas.Bool.{and_parts, eqb-true}
+use Rattle.std.proofs.lemmas.Slice.Eq.{bytes_eq-Decides}
 use Rattle.sg_plan.specs.declared.plan.Mark.{Mark}
 use Rattle.sg_acts.specs.declared.asks.Stamp.{Stamp}
 use Rattle.sg_scans.specs.ScanLaws.{Scan, same_marks, same_scan, same_stamp}
-use Rattle.sg_scans.proofs.Again.{same_bytes}
 
 abbrev make_stamp : ℕ → List ℕ → ℕ → Stamp
 make_stamp station secret number = record { station = station; secret = secret; number = number }
@@ -19,7 +19,7 @@ stamp_is : (a b : Stamp) → same_stamp a b ≡ true → a ≡ b
 stamp_is a b e =
     let rest = (and_parts (a.station == b.station) _ e).1 in
     let one : a.station ≡ b.station = eqb-true _ _ (and_parts _ _ e).0 in
-    let two : a.secret ≡ b.secret = same_bytes _ _ (and_parts _ _ rest).0 in
+    let two : a.secret ≡ b.secret = (bytes_eq-Decides _ _).0 (and_parts _ _ rest).0 in
     let three : a.number ≡ b.number = eqb-true _ _ (and_parts (bytes_eq a.secret b.secret) _ rest).1 in
     ap (λ (x : ℕ). make_stamp x a.secret a.number) one ∙ (ap (λ (x : List ℕ). make_stamp b.station x a.number) two ∙ ap (λ (x : ℕ). make_stamp b.station b.secret x) three)
 

@@ -1,10 +1,9 @@
 -- How the lines of a sheet are listed.
 use Rattle.std.proofs.Common.{◌≡◌, ℕ, zero, suc, ◌+◌, ◌-◌, ◌<◌, ◌≤◌, ◌==◌, Bool, true, false, cond, List, [], ◌∷◌, ◌++◌, drop, length, map, Option, Some, None, refl, sym, ap, subst, ◌∙◌, append_assoc, append-nil, arith}
 use Rattle.std.specs.Prelude.{slice_get}
-use Rattle.std.proofs.Math.Seq.{drop-cons}
 use Rattle.std.proofs.lemmas.Bool.{ne_eqb}
 use Rattle.std.proofs.lemmas.List.{drop_all}
-use Rattle.std.proofs.lemmas.Option.{get_or_from_slice_get, slice_get_within}
+use Rattle.sg_lists.proofs.Lists.{drop_from_slice_get}
 use Rattle.sg_plan.specs.Ballots.{ballot_styles, ballots_of, races_of_style, style_of_ballot}
 use Rattle.sg_plan.specs.declared.plan.Plan.{Plan}
 use Rattle.sg_sheet.specs.Sheet.{Printed, SheetLine, ballot_lines, codes_line, lines_from, sheet_lines}
@@ -14,11 +13,6 @@ use Rattle.sg_sheet.specs.Sheet.SheetLine.{Ballot}
 
 -- LISTS
 
-drop_at : {A : Type 0} (xs : List A) (at : ℕ) (x : A) → slice_get xs at ≡ Some x → drop at xs ≡ x ∷ drop (at + 1) xs
-drop_at xs at x is =
-    let next : suc at ≡ at + 1 = omega arith in
-    drop-cons xs at x (slice_get_within xs at x is) ∙ (ap (λ y. y ∷ drop (suc at) xs) (get_or_from_slice_get xs at x x is) ∙ ap (λ n. x ∷ drop n xs) next)
-
 -- THE LINES OF A BALLOT'S RACES
 
 pub races_step : (plan : Plan) (ballot : ℕ) (due due' all : List Due) (races : List ℕ) (at race : ℕ) → slice_get races at ≡ Some race
@@ -27,7 +21,7 @@ pub races_step : (plan : Plan) (ballot : ℕ) (due due' all : List Due) (races :
 races_step plan ballot due due' all races at race is grown before =
     ap (λ (l : List Due). l ++ map (codes_due plan ballot) (drop (at + 1) races)) grown
     ∙ (append_assoc due (codes_due plan ballot race ∷ []) (map (codes_due plan ballot) (drop (at + 1) races))
-    ∙ (ap (λ (l : List ℕ). due ++ map (codes_due plan ballot) l) (sym (drop_at races at race is)) ∙ before))
+    ∙ (ap (λ (l : List ℕ). due ++ map (codes_due plan ballot) l) (sym (drop_from_slice_get races at race is)) ∙ before))
 
 -- THE LINES OF ALL BALLOTS
 
@@ -70,7 +64,7 @@ due_step plan due due' at less grows before =
     let rest = due_from plan ((at + 1) + 1) (drop (at + 1) (ballot_styles plan.runs)) in
     ap (λ (l : List Due). l ++ rest) (grows found.0 found.1)
     ∙ (append_assoc due (ballot_due plan (at + 1) found.0) rest
-    ∙ (ap (λ (l : List ℕ). due ++ due_from plan (at + 1) l) (sym (drop_at (ballot_styles plan.runs) at found.0 (style_place plan at found.0 found.1))) ∙ before))
+    ∙ (ap (λ (l : List ℕ). due ++ due_from plan (at + 1) l) (sym (drop_from_slice_get (ballot_styles plan.runs) at found.0 (style_place plan at found.0 found.1))) ∙ before))
 
 pub due_end : (plan : Plan) (due : List Due) (at : ℕ) → ballots_of plan ≤ at → due ++ due_from plan (at + 1) (drop at (ballot_styles plan.runs)) ≡ sheet_due plan → due ≡ sheet_due plan
 due_end plan due at past before =

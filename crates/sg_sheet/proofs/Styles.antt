@@ -1,10 +1,11 @@
 -- The races of a style: they rise, and each is one of the plan.
-use Rattle.std.proofs.Common.{◌≡◌, ℕ, zero, suc, ◌+◌, ◌-◌, ◌<◌, ◌≤◌, ◌==◌, nat_le, nat_lt, Bool, true, false, ◌&&◌, ◌||◌, inl, inr, not, List, [], ◌∷◌, ◌++◌, length, Option, Some, None, refl, sym, subst, ap, ◌∙◌, arith}
+use Rattle.std.proofs.Common.{◌≡◌, ℕ, zero, suc, ◌+◌, ◌-◌, ◌<◌, ◌≤◌, ◌==◌, nat_le, nat_lt, Bool, true, false, ◌&&◌, inl, inr, not, List, [], ◌∷◌, ◌++◌, length, Option, Some, None, refl, sym, subst, ap, ◌∙◌, arith}
 use Rattle.std.specs.List.{list_any}
 use Rattle.std.specs.Option.{option_map_or}
 use Rattle.std.specs.Prelude.{slice_get}
-use Rattle.std.proofs.lemmas.Bool.{and_parts, eq-eqb, eqb-true, leb-true, ltb-true, or_cases}
+use Rattle.std.proofs.lemmas.Bool.{and_parts, eqb-true, leb-true, ltb-true, or_cases}
 use Rattle.std.proofs.lemmas.Option.{slice_get_within}
+use Rattle.sg_lists.proofs.Tests.{list_any-slice_get}
 use Rattle.sg_plan.proofs.LimitLaws.{passes_tests}
 use Rattle.sg_plan.proofs.Lists.{first_fault-None}
 use Rattle.sg_plan.specs.Ballots.{ballot_has, races_of_ballot, races_of_style, style_has, style_of_ballot}
@@ -83,20 +84,9 @@ has-in_plan plan ballot race fine has =
     by_style None e = cc
     by_style (Some style) e = (rises-within 0 (length plan.races) race (races_of_style plan style) (style_rises plan style fine) e).1
 
-any_at : (xs : List ℕ) (at x : ℕ) → slice_get xs at ≡ Some x → list_any (λ r. r == x) xs ≡ true
-any_at [] at x is = absurd (omega (arith, slice_get_within [] at x is))
-any_at (y ∷ ys) zero x is =
-    let same : y ≡ x = cc in
-    ap (λ b. b || list_any (λ r. r == x) ys) (eq-eqb y x same)
-any_at (y ∷ ys) (suc at) x is = ap (λ b. (y == x) || b) (any_at ys at x is) ∙ or_true (y == x)
-  where
-    or_true : (b : Bool) → (b || true) ≡ true
-    or_true true = refl
-    or_true false = refl
-
 -- a ballot has the races of its list
 pub listed-has : (plan : Plan) (ballot at race : ℕ) (races : List ℕ) → races ≡ races_of_ballot plan ballot → slice_get races at ≡ Some race → ballot_has plan ballot race ≡ true
-listed-has plan ballot at race races are is = has_in (style_of_ballot plan ballot) ∙ any_at (races_of_ballot plan ballot) at race (subst (λ (l : List ℕ). slice_get l at ≡ Some race) are is)
+listed-has plan ballot at race races are is = has_in (style_of_ballot plan ballot) ∙ list_any-slice_get (races_of_ballot plan ballot) at race (subst (λ (l : List ℕ). slice_get l at ≡ Some race) are is)
   where
     has_in : (o : Option ℕ) → option_map_or (style_has plan race) o false ≡ list_any (λ r. r == race) (option_map_or (races_of_style plan) o [])
     has_in None = refl

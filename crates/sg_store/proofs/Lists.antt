@@ -14,6 +14,7 @@ use Rattle.sqlite.specs.View.{is_int}
 use Rattle.sqlite.specs.Edit.{id_in, is_taken, next_rowid}
 use Rattle.sqlite_value.proofs.OrderLemmas.{value_cmp-Int}
 use Rattle.sqlite_rules.proofs.TableLemmas.{int_is}
+use Rattle.sg_lists.proofs.Bools.{not_or_parts}
 use Rattle.sg_keeper.specs.Rows.{put, is_new}
 use Rattle.sg_store.specs.Told.{in_place}
 
@@ -40,11 +41,6 @@ rowids_lower r s k l = lower_by (id_in (rowid r)) (id_in (rowid s)) ∙ ap is_gt
 pub rowids_same : (r s : Row) → is_int (rowid r) ≡ true → is_int (rowid s) ≡ true → int_eq (id_in (rowid r)) (id_in (rowid s)) ≡ is_eq (value_cmp (rowid r) (rowid s))
 rowids_same r s k l = ap is_eq (rowids_cmp r s k l)
 
--- a row with a new key has not that of the first, and is new behind it
-pub first_new : (a b : Bool) → not (a || b) ≡ true → (a ≡ false) × (not b ≡ true)
-first_new true b e = absurd cc
-first_new false b e = (refl, e)
-
 -- a row with a new key is put at its place in the tree and in the list alike
 pub put_mapped : {A : Type 0} (f : Row → A) (before same : A → A → Bool) → AreRowids f before same
     → (new : Row) (rows : List Row) → is_int (rowid new) ≡ true → AreKeyed rows → is_new same (f new) (map f rows) ≡ true → map f (put_row new rows) ≡ put before (f new) (map f rows)
@@ -53,7 +49,7 @@ put_mapped f before same ids new (r ∷ rows) keyed all free =
     rw (ids.place r new all.0 keyed) (go (value_cmp (rowid r) (rowid new)) (sym (ids.key r new all.0 keyed) ∙ parts.0) (put_mapped f before same ids new rows keyed all.1 parts.1))
   where
     parts : (same (f r) (f new) ≡ false) × (is_new same (f new) (map f rows) ≡ true)
-    parts = first_new (same (f r) (f new)) (list_any (λ kept. same kept (f new)) (map f rows)) free
+    parts = not_or_parts (same (f r) (f new)) (list_any (λ kept. same kept (f new)) (map f rows)) free
 
     go : (o : Ordering) → is_eq o ≡ false → map f (put_row new rows) ≡ put before (f new) (map f rows)
         → map f (match_ordering o (r ∷ put_row new rows) (new ∷ rows) (new ∷ r ∷ rows)) ≡ cond (is_gt o) (f new ∷ f r ∷ map f rows) (f r ∷ put before (f new) (map f rows))

@@ -1,9 +1,10 @@
 -- How many numbers of a list are below, at and up to a number.
-use Rattle.std.proofs.Common.{inl, inr, ◌≡◌, ℕ, ◌+◌, ◌<◌, ◌≤◌, Bool, true, false, cond, List, [], ◌∷◌, ltb, leb, eqb, count_by, refl, arith}
+use Rattle.std.proofs.Common.{inl, inr, ◌≡◌, ℕ, ◌+◌, ◌<◌, ◌≤◌, true, false, List, [], ◌∷◌, ltb, leb, eqb, count_by, refl, arith}
 use Rattle.std.specs.List.{list_any}
 use Rattle.std.proofs.lemmas.Bool.{or_from, or_parts, both_ways, cases_order}
 use Rattle.std.proofs.lemmas.Bool.Decides.{nat_tests}
 use Rattle.std.proofs.lemmas.List.Sums.{sum_by-cons, sum_by-le-sum_by}
+use Rattle.sg_lists.proofs.Bools.{one_if}
 
 abbrev pub count_below : ℕ → List ℕ → ℕ
 count_below x us = count_by (λ u. ltb u x) us
@@ -17,9 +18,6 @@ count_at x us = count_by (λ u. eqb u x) us
 -- no number stands in the list twice
 abbrev pub IsOnce : List ℕ → Type 0
 IsOnce us = (x : ℕ) → count_at x us ≤ 1
-
-abbrev one_if : Bool → ℕ
-one_if b = cond b 1 0
 
 one_if-upto : (u x : ℕ) → one_if (leb u x) ≡ one_if (ltb u x) + one_if (eqb u x)
 one_if-upto u x = grind (arith, nat_tests)

@@ -9,9 +9,10 @@ use Rattle.std.proofs.lemmas.List.Elements.{All-map}
 use Rattle.std.proofs.lemmas.List.Sorted.{IsPermutation-map, All-permutation}
 use Rattle.std.proofs.lemmas.Map.Keys.{IsDistinct-IsPermutation, IsDistinct-from_apart}
 use Rattle.std.proofs.lemmas.Map.Made.{AllPairs-from_IsDistinct}
+use Rattle.sg_lists.proofs.Ranges.{range_with_len-next}
 use Rattle.sg_streams.specs.Numbers.{numbers_below}
 use Rattle.sg_streams.specs.Order.{sort_key, keyed, ComesBefore, IsOrder}
-use Rattle.sg_streams.proofs.NumberLists.{range_with_len-next, get_or-numbers_below, length-numbers_below}
+use Rattle.sg_streams.proofs.NumberLists.{get_or-numbers_below, length-numbers_below}
 
 -- how a sort compares pairs
 abbrev pub pair_cmp : (ℕ × ℕ) → (ℕ × ℕ) → Ordering

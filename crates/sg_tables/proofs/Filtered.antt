@@ -1,10 +1,12 @@
 -- Numbers below a number that pass a test, one number after another.
-use Rattle.std.proofs.Common.{◌≡◌, ℕ, zero, suc, ◌+◌, ◌-◌, ◌<◌, ◌≤◌, ◌==◌, Bool, true, false, ◌&&◌, ◌||◌, List, [], ◌∷◌, ◌++◌, length, map, drop, slice_get, Some, refl, sym, ap, ◌∙◌, arith}
+use Rattle.std.proofs.Common.{◌≡◌, ℕ, ◌+◌, ◌-◌, ◌<◌, ◌≤◌, ◌==◌, Bool, true, false, ◌&&◌, ◌||◌, List, [], ◌∷◌, ◌++◌, length, map, drop, slice_get, Some, refl, sym, ap, ◌∙◌, arith}
 use Rattle.std.specs.List.{filter, range_with_len}
 use Rattle.std.proofs.lemmas.Grind.{common_steps}
 use Rattle.std.proofs.lemmas.List.{append-nil, map-append}
 use Rattle.std.proofs.lemmas.List.Elements.{filter-append}
 use Rattle.std.proofs.lemmas.List.Folds.{list_any-append}
+use Rattle.std.proofs.Math.Bool.{or-false, or-true}
+use Rattle.sg_lists.proofs.Lists.{drop_from_slice_get}
 use Rattle.sg_streams.specs.Numbers.{numbers_below}
 use Rattle.sg_streams.proofs.NumberLists.{numbers_below-append, numbers_below-none, numbers_below-push}
 use Rattle.sg_tables.specs.Posts.{has_code}
@@ -63,21 +65,11 @@ filtered-same p n list fails so_far =
     ∙ ap (λ l. filter p (numbers_below n) ++ l) (one-fails p n fails)
     ∙ append-nil (filter p (numbers_below n)))
 
--- a map of a map
-pub map-twice : {X Y Z : Type 0} (g : Y → Z) (f : X → Y) (xs : List X) → map g (map f xs) ≡ map (λ x. g (f x)) xs
-map-twice g f [] = refl
-map-twice g f (x ∷ xs) = ap (λ l. g (f x) ∷ l) (map-twice g f xs)
-
 -- SEARCHES
 
 -- the codes from a place on
 pub code-here : (xs : List ℕ) (at x code : ℕ) → slice_get xs at ≡ Some x → has_code (drop at xs) code ≡ (x == code || has_code (drop (at + 1) xs) code)
-code-here xs at x code found = ap (λ l. has_code l code) (from_here xs at found)
-  where
-    from_here : (xs : List ℕ) (at : ℕ) → slice_get xs at ≡ Some x → drop at xs ≡ x ∷ drop (at + 1) xs
-    from_here [] at e = cc
-    from_here (y ∷ ys) zero e = let is : y ≡ x = (cc) in ap (λ z. z ∷ ys) is
-    from_here (y ∷ ys) (suc at) e = let n : suc at + 1 ≡ suc (at + 1) = omega arith in rw n (from_here ys at e)
+code-here xs at x code found = ap (λ l. has_code l code) (drop_from_slice_get xs at x found)
 
 pub code-end : (xs : List ℕ) (at code : ℕ) → length xs ≤ at → has_code (drop at xs) code ≡ false
 code-end xs at code past = let none : drop at xs ≡ [] = grind (arith, common_steps, past) in ap (λ l. has_code l code) none
@@ -96,12 +88,8 @@ upto-split f p code xs ys =
 upto-one : (f : ℕ → ℕ) (p : ℕ → Bool) (code x : ℕ) → has_code (map f (filter p (x ∷ []))) code ≡ (p x && (f x == code))
 upto-one f p code x = at (p x) refl
   where
-    or_false : (b : Bool) → (b || false) ≡ b
-    or_false true = refl
-    or_false false = refl
-
     at : (kept : Bool) → p x ≡ kept → has_code (map f (filter p (x ∷ []))) code ≡ (p x && (f x == code))
-    at true is = rw is (or_false (f x == code))
+    at true is = rw is (or-false (f x == code))
     at false is = rw is refl
 
 upto-next : (f : ℕ → ℕ) (p : ℕ → Bool) (code n : ℕ) → has_upto f p code (n + 1) ≡ (has_upto f p code n || (p n && (f n == code)))
@@ -121,12 +109,8 @@ upto-step f p code n none here = upto-next f p code n ∙ rw (none, here) refl
 pub upto-found : (f : ℕ → ℕ) (p : ℕ → Bool) (code n all : ℕ) → n < all → (p n && (f n == code)) ≡ true → has_upto f p code all ≡ true
 upto-found f p code n all within here =
     let split : all ≡ (n + 1) + (all - (n + 1)) = omega (arith, within) in
-    let first : has_upto f p code (n + 1) ≡ true = upto-next f p code n ∙ (ap (λ b. has_upto f p code n || b) here ∙ always (has_upto f p code n)) in
+    let first : has_upto f p code (n + 1) ≡ true = upto-next f p code n ∙ (ap (λ b. has_upto f p code n || b) here ∙ or-true (has_upto f p code n)) in
     ap (has_upto f p code) split
     ∙ ap (λ l. has_code (map f (filter p l)) code) (numbers_below-append (n + 1) (all - (n + 1)))
     ∙ upto-split f p code (numbers_below (n + 1)) (range_with_len (n + 1) (all - (n + 1)))
     ∙ ap (λ b. b || has_code (map f (filter p (range_with_len (n + 1) (all - (n + 1))))) code) first
-  where
-    always : (b : Bool) → (b || true) ≡ true
-    always true = refl
-    always false = refl

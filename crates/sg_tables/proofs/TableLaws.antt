@@ -1,9 +1,10 @@
 -- The laws of the tables.
 use Rattle.std.proofs.Common.{◌≡◌, ◌≢◌, ℕ, ◌+◌, ◌*◌, ◌/◌, ◌%◌, ◌<◌, inl, inr, List, [], length, map, slice_get, slice_index, Some, None, refl, sym, ap, ◌∙◌, arith}
 use Rattle.std.specs.Option.{option_map, option_map_or}
-use Rattle.std.proofs.lemmas.Bool.{cases_lt, cases_order}
+use Rattle.std.proofs.lemmas.Bool.{cases_order}
 use Rattle.std.proofs.lemmas.List.{length-map}
 use Rattle.std.proofs.lemmas.Option.{slice_get-get_or, slice_get-map}
+use Rattle.sg_lists.proofs.Numbers.{factor_above}
 use Rattle.sg_plan.specs.Ballots.{ballot_row, candidates_of, entries_of, races_of_style, rows_of, style_of_ballot}
 use Rattle.sg_plan.specs.Limits.{fault_of}
 use Rattle.sg_plan.specs.declared.plan.Plan.{Plan}
@@ -17,14 +18,6 @@ use Rattle.sg_tables.proofs.Inverses.{one_to_one-same}
 use Rattle.sg_tables.proofs.Permuting.{permutes}
 use Rattle.sg_tables.proofs.Sizes.{sizes}
 use Rattle.sg_tables.proofs.Values.{code_beside-below, column_shows, entry_split, left_of-below, lefts_of-one_to_one, length-codes_of_row, number_at, path_of-below, place_row-below, place_rows_of-one_to_one, shown_at, shown_by-below}
-
--- a race with an entry has a candidate
-some_candidate : (rows candidates entry : ℕ) → entry < rows * candidates → 0 < candidates
-some_candidate rows candidates entry below =
-    elim (cases_lt 0 candidates) [
-      | inl some ↦ some
-      | inr none ↦ let no : candidates ≡ 0 = omega arith in absurd (let less : entry < rows * 0 = rw no at below in omega arith)
-    ]
 
 -- POINTERS AND PATHS
 
@@ -48,7 +41,7 @@ pub shown_by-one : (plan : Plan) (seed : List ℕ) (race entry other : ℕ) → 
 unfolding shown_by
 shown_by-one plan seed race entry other below below' row same =
     let k = candidates_of plan race in
-    let some = some_candidate (rows_of plan race) k entry below in
+    let some = factor_above (rows_of plan race) k entry below in
     let at = entry_split plan race entry some below in
     let at' = entry_split plan race other some below' in
     let list = shown_in_row plan seed race (entry / k) in
@@ -62,7 +55,7 @@ pub path_split : (plan : Plan) (seed : List ℕ) (race entry : ℕ) → entry < 
     × (path_of plan seed race entry % candidates_of plan race ≡ shown_by plan seed race entry)
 unfolding path_of
 path_split plan seed race entry below =
-    let some = some_candidate (rows_of plan race) (candidates_of plan race) entry below in
+    let some = factor_above (rows_of plan race) (candidates_of plan race) entry below in
     let at = entry_split plan race entry some below in
     let candidate = shown_by plan seed race entry in
     let row = place_row plan seed race (entry / candidates_of plan race) candidate in
@@ -73,7 +66,7 @@ path_of-one : (plan : Plan) (seed : List ℕ) (race entry other : ℕ) → entry
     → path_of plan seed race entry ≡ path_of plan seed race other → entry ≡ other
 path_of-one plan seed race entry other below below' same =
     let k = candidates_of plan race in
-    let some = some_candidate (rows_of plan race) k entry below in
+    let some = factor_above (rows_of plan race) k entry below in
     let split = path_split plan seed race entry below in
     let split' = path_split plan seed race other below' in
     let candidate : shown_by plan seed race entry ≡ shown_by plan seed race other = sym split.1 ∙ ap (λ p. p % k) same ∙ split'.1 in
@@ -86,7 +79,7 @@ path_of-one plan seed race entry other below below' same =
 pub paths_permute : (plan : Plan) (seed : List ℕ) (race : ℕ) → Permutes (entries_of plan race) (path_of plan seed race)
 paths_permute plan seed race =
     permutes (entries_of plan race) (path_of plan seed race)
-    (λ entry below. path_of-below plan seed race entry (some_candidate (rows_of plan race) (candidates_of plan race) entry below) below)
+    (λ entry below. path_of-below plan seed race entry (factor_above (rows_of plan race) (candidates_of plan race) entry below) below)
     (path_of-one plan seed race)
 
 pub right_of-path : (plan : Plan) (seed : List ℕ) (race instance row : ℕ) → right_of plan seed race instance row ≡ path_of plan seed race (left_of plan seed race instance row)
@@ -109,7 +102,7 @@ pointer_laws = record { lefts = lefts_permute; paths = paths_permute; rights = r
 
 pub entry_leads : (plan : Plan) (seed : List ℕ) (race entry : ℕ) → entry < entries_of plan race → EntryLeads plan seed race entry
 entry_leads plan seed race entry below =
-    let some = some_candidate (rows_of plan race) (candidates_of plan race) entry below in
+    let some = factor_above (rows_of plan race) (candidates_of plan race) entry below in
     let at = entry_split plan race entry some below in
     let split = path_split plan seed race entry below in
     record {

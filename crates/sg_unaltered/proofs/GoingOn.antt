@@ -4,6 +4,7 @@ use Rattle.std.specs.Option.{option_map_or}
 use Rattle.std.proofs.lemmas.List.Elements.{All-cons, All-nil}
 use Rattle.std.proofs.lemmas.Option.{slice_get-get_or}
 use Rattle.std.proofs.lemmas.Slice.Eq.{bytes_eq-Decides}
+use Rattle.sg_lists.proofs.Options.{cond_none}
 use Rattle.sg_plan.specs.Limits.{fault_of}
 use Rattle.sg_plan.specs.declared.plan.Draw.{Draw}
 use Rattle.sg_plan.specs.declared.plan.Stage.{Stage}
@@ -26,7 +27,6 @@ use Rattle.sg_histories.specs.Lawful.{IsAskable, Lawful}
 use Rattle.sg_histories.specs.Stories.{answered, story_of, told_fates}
 use Rattle.sg_histories.specs.declared.kept.Claim.{Claim}
 use Rattle.sg_histories.proofs.OutDones.{claims_fit}
-use Rattle.sg_histories.proofs.Stamps.{passed_by}
 use Rattle.sg_histories.proofs.Talks.{next_lawful}
 use Rattle.sg_unaltered.specs.GoingOn.{ClosedHistoriesGoOn, ElectionsBegin, ElectionsEnd, HistoriesGoOn, IsDone, IsNewStamp, IsTrueHistory, closed_by, drawn_by}
 use Rattle.sg_unaltered.specs.UnalteredHistories.{HasTruePaper, IsUnalteredHistory}
@@ -39,7 +39,7 @@ use Rattle.sg_unaltered.proofs.Numbers.{numbers_are_left}
 no_repeat : (setup : Setup) (history : List Entry) (stamp : Stamp) (asked : Act) → act_of_stamp history stamp.station stamp.number ≡ None → repeat_of setup history stamp asked ≡ None
 no_repeat setup [] stamp asked none = refl
 no_repeat setup (entry ∷ history) stamp asked none =
-    let past = passed_by (is_stamped stamp.station stamp.number entry) entry.act (act_of_stamp history stamp.station stamp.number) none in
+    let past = cond_none (is_stamped stamp.station stamp.number entry) entry.act (act_of_stamp history stamp.station stamp.number) none in
     rw past.0 (no_repeat setup history stamp asked past.1)
 
 -- an act under a new stamp that is not refused is done

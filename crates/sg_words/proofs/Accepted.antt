@@ -6,6 +6,7 @@ use Rattle.std.proofs.lemmas.List.Elements.{All-cons, All-nil}
 use Rattle.std.proofs.lemmas.Slice.Eq.{bytes_eq-Decides}
 use Rattle.std.specs.Char.{encode_utf8}
 use Rattle.std.specs.Str.{chars, is_utf8}
+use Rattle.std.proofs.lemmas.Option.{none-some}
 use Rattle.clap.specs.Words.{Row, Text, first_of, subcommand_of, takes}
 use Rattle.clap.proofs.OnLiterals.{clap_on_literals}
 use Rattle.sg_lines.specs.Words.{decimal_of}
@@ -142,9 +143,6 @@ sample_taken p c d f low high low' high' =
 two_here : (left right : Text) → are_two (left ∷ right ∷ []) left right ≡ true
 two_here left right = rw ((bytes_eq-Decides left left).1 refl, (bytes_eq-Decides right right).1 refl) refl
 
-nothing : {X : Type 0} (x : X) → None ≡ Some x → ⊥
-nothing x is = cc is
-
 same_parts : {X Y : Type 0} (a b : X) (c d e f : Y) → ◌≡◌ {A = Option (X × Y × Y)} (Some (a, c, e)) (Some (b, d, f)) → (a ≡ b) × (c ≡ d) × (e ≡ f)
 same_parts {X} {Y} a b c d e f is =
     let same : ◌≡◌ {A = X × Y × Y} (a, c, e) (b, d, f) = cc is in
@@ -162,7 +160,7 @@ pair_read name first second left right asked finds asks taken = (taken.0, go (su
   where
     go : (found : Option (Text × List Row)) → values_in first second found ≡ Some (name, Some left, Some right)
         → command_found (name ∷ left ∷ right ∷ []) found ≡ command_in (name ∷ left ∷ right ∷ [])
-    go None is = absurd (nothing _ is)
+    go None is = absurd (none-some _ is)
     go (Some found) is =
         let parts = same_parts found.0 name (first_of first found.1) (Some left) (first_of second found.1) (Some right) is in
         finds left right found parts.0 parts.1 parts.2 ∙ sym asks

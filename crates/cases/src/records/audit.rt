@@ -3,26 +3,39 @@ ghost use Rattle.std.specs.Prelude.{◌<◌};
 
 use super::read_back::{ReadBack, read_back, tell_breaches};
 use super::report::is_report_of;
-use crate::commands::status_of;
 use crate::fault::Fault;
-use crate::rows::keeper_of;
 use sg_check::Judged;
 use sg_judge::judge;
 use sg_outside::{Bytes, Page};
-use sg_plan::Items;
 use sg_plan::limits::LONGEST_LINE;
+use sg_plan::{Items, Word};
+use sg_reports::run_reports;
 use std::alloc::Global;
 use std::io::Write;
 
 /// How many bytes a report may have: as many as a line of a record.
 const REPORT: usize = LONGEST_LINE;
 
-/// Audits an input over no rows, and answers the status.
+/// The words of the command.
+fn words(alloc: Global) -> Result<Items<Word>, Fault> {
+    let mut word = Word::new(alloc);
+    word.extend(b"audit")?;
+    let mut words = Items::new(alloc);
+    words.push(word)?;
+    Ok(words)
+}
+
+/// Runs the command of these words, and answers its status. The contract of `run_reports` is long, so this promises nothing.
+fn status_of(alloc: Global, words: &Items<Word>, input: &mut Bytes, page: &mut Page) -> u8 {
+    run_reports(alloc, words, input, page)
+}
+
+/// Audits an input, and answers the status.
 fn audited(alloc: Global, input: &mut Bytes, page: &mut Page) -> Result<u8, Fault> {
-    let mut keeper = keeper_of(alloc, Items::new(alloc));
-    let status = status_of(alloc, b"audit", input, &mut keeper, page);
-    drop(keeper);
-    status
+    let words = words(alloc)?;
+    let status = status_of(alloc, &words, input, page);
+    drop(words);
+    Ok(status)
 }
 
 /// Audits a record that is read in pieces of this many bytes, where these reads fail, and answers the status.

@@ -1,29 +1,12 @@
 //! Reports, and what they say of a record.
 use crate::cutting::size_of;
-use sg_check::{Judged, Kind};
-
-/// The word for a kind in a report.
-fn kind_word(kind: Kind) -> &'static [u8] {
-    match kind {
-        Kind::Form => b"form",
-        Kind::Seal => b"seal",
-        Kind::Opening => b"opening",
-        Kind::Side => b"side",
-        Kind::Pointer => b"pointer",
-        Kind::Flag => b"flag",
-        Kind::Path => b"path",
-        Kind::Total => b"total",
-        Kind::Print => b"print",
-        Kind::Rule => b"rule",
-        Kind::Dispute => b"dispute",
-    }
-}
+use sg_check::Judged;
 
 /// The report says what the verdict does: yes, or the same line and kind.
 pub(super) fn is_report_of(judged: &Judged, report: &[u8]) -> bool {
     match judged {
         Judged::Yes(_) => report.starts_with(b"yes\n"),
-        Judged::No { line, kind } => is_no(report, *line, kind_word(*kind)),
+        Judged::No { line, kind } => is_no(report, *line, kind.word()),
     }
 }
 

@@ -5,7 +5,7 @@ use Rattle.sg_outside.specs.declared.outcome.Outcome.{Outcome}
 use Rattle.sg_outside.specs.declared.outcome.Outcome.TheVariants as outcome
 use Rattle.sg_keeper.specs.declared.rows.Rows.{Rows}
 use Rattle.sg_keeper.specs.declared.setup.Setup.{Setup}
-use Rattle.sg_histories.specs.ValidRows.{Whole, opening}
+use Rattle.sg_histories.specs.Opens.{OpenTo, Whole}
 use Rattle.sg_clerk.specs.Talks.{StaysClosed, Talks}
 use Rattle.sg_clerk.specs.calls.Calls.{AreServed, stores_in}
 use Rattle.sg_clerk.specs.calls.Serves.{CallsEnd, Scene, listening, out_at}
@@ -19,7 +19,7 @@ HasServed result port count tells rows rows' before now =
 -- nothing was written, and the rows are as they were, where they are told
 pub record ListenFails (tells : Type 0) (rows rows' : Rows) (before now : Scene) : Type 0 where
   pub setup : Setup
-  pub whole : tells → opening rows ≡ Whole setup
+  pub whole : tells → OpenTo rows (Whole setup)
   pub cause : Rose before.link_faults now.link_faults
   pub board : now.board ≡ before.board
   pub same : tells → rows' ≡ rows

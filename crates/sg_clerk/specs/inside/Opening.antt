@@ -6,8 +6,8 @@ use Rattle.sg_outside.specs.Streams.{AppendsFront, Seen}
 use Rattle.sg_outside.specs.declared.outcome.Outcome.{Outcome}
 use Rattle.sg_outside.specs.declared.outcome.Outcome.TheVariants as outcome
 use Rattle.sg_keeper.specs.declared.rows.Rows.{Rows}
+use Rattle.sg_histories.specs.Opens.{Damaged, Empty, OpenTo}
 use Rattle.sg_histories.specs.Standing.{HasRows}
-use Rattle.sg_histories.specs.ValidRows.{Damaged, Empty, opening}
 use Rattle.sg_histories.specs.declared.kept.Kept.{Kept}
 use Rattle.sg_clerk.specs.Opening.{IsOpen}
 use Rattle.sg_clerk.specs.Shown.{damaged_line, empty_line}
@@ -17,8 +17,8 @@ use Rattle.sg_clerk.specs.declared.opened.Closed.TheVariants as closed
 -- why they open to no office
 abbrev pub IsClosedOf : Closed → Rows → Type 0
 IsClosedOf closed.LoadFault rows = ⊥
-IsClosedOf closed.Empty rows = opening rows ≡ Empty
-IsClosedOf (closed.Damaged table row) rows = opening rows ≡ Damaged table row
+IsClosedOf closed.Empty rows = OpenTo rows Empty
+IsClosedOf (closed.Damaged table row) rows = OpenTo rows (Damaged table row)
 IsClosedOf closed.NoMemory rows = Unit {0}
 
 -- the office that they open to, or why there is none
@@ -28,8 +28,8 @@ IsOpenedOf found rows = MatchResult found (λ office. IsOpen office rows × HasR
 -- why no office is opened of the rows of a keeper, where it tells them, with its counts of faults before and after
 abbrev pub IsClosedFor : Closed → (tells : Type 0) → Rows → ℕ → ℕ → Type 0
 IsClosedFor closed.LoadFault tells rows faults faults' = Rose faults faults'
-IsClosedFor closed.Empty tells rows faults faults' = tells → opening rows ≡ Empty
-IsClosedFor (closed.Damaged table row) tells rows faults faults' = tells → opening rows ≡ Damaged table row
+IsClosedFor closed.Empty tells rows faults faults' = tells → OpenTo rows Empty
+IsClosedFor (closed.Damaged table row) tells rows faults faults' = tells → OpenTo rows (Damaged table row)
 IsClosedFor closed.NoMemory tells rows faults faults' = Unit {0}
 
 -- what was opened of them

@@ -1,46 +1,64 @@
 -- What a tally keeps of the parts that have ended, and what it finds of one that ends.
 use Rattle.std.specs.Prelude.{◌≡◌, ℕ, ◌+◌, ◌<◌, ◌==◌, ◌^◌, if◌then◌else◌, Bool, true, false, List, [], ◌∷◌, ◌++◌, length, map, Option, Some, None}
+use Rattle.std.specs.Option.{option_map_or}
 use Rattle.sg_plan.specs.declared.plan.Race.{Race}
-use Rattle.sg_check.specs.Verdict.{totals_of}
+use Rattle.sg_record.specs.Lines.{texts_in}
+use Rattle.sg_record.specs.declared.record.Record.{Record}
 use Rattle.sg_check.specs.declared.judged.Judged.{Judged}
 use Rattle.sg_check.specs.declared.judged.Judged.TheVariants as judged
 use Rattle.sg_check.specs.declared.judged.Total.{Total}
-use Rattle.sg_judge.specs.FirstSeal.{first_seal}
-use Rattle.sg_judge.specs.Pass.{is_behind_plan}
-use Rattle.sg_county.specs.County.{Counts, HasTheRaces, Settles, first_sealed, races_of, sums_of, votes_in}
+use Rattle.sg_fronts.specs.ByRecords.{totals_on}
+use Rattle.sg_judge.specs.Pass.{plan_of}
+use Rattle.sg_county.specs.County.{Counts, HasTheRaces, Settles, first_seal_of, first_sealed, most_parts, parts_of, sums_of, votes_in}
 use Rattle.sg_county.specs.declared.ending.Close.{Close}
 use Rattle.sg_county.specs.declared.ending.Close.TheVariants as close
 use Rattle.sg_county.specs.declared.ending.Found.{Found}
 use Rattle.sg_county.specs.declared.kept.Kept.{Kept}
 use Rattle.sg_county.specs.declared.verdict.CountyVerdict.TheVariants.{No, Differs, Repeats}
 
+-- THE PARTS
+
+-- each of these records counts, behind those before it
+abbrev pub AllCount : List Record → List Record → Type 0
+AllCount before [] = Unit {0}
+AllCount before (posted ∷ more) = Counts before (texts_in posted) posted × AllCount (before ++ posted ∷ []) more
+
+-- the lines have this last part, behind records that settle nothing, and it is none too many
+pub record AreParts (lines : List (List ℕ)) (before : List Record) (last : List (List ℕ)) : Type 0 where
+  pub parts : parts_of lines ≡ map texts_in before ++ last ∷ []
+  pub count : AllCount [] before
+  pub few : length before < most_parts
+
 -- WHAT IS KEPT
 
--- the races of the first of the parts, where there is one
-abbrev pub FirstRaces : List Race → List (List (List ℕ)) → Type 0
-FirstRaces races [] = Unit {0}
-FirstRaces races (first ∷ parts) = races ≡ races_of first
+-- the races that lines give
+abbrev pub races_of : List (List ℕ) → List Race
+races_of part = option_map_or (λ plan. plan.races) (plan_of part) []
 
--- of these parts this is kept
-pub record Keeps (kept : Kept) (before : List (List (List ℕ))) : Type 0 where
+-- the races of the first of the records, where there is one
+abbrev pub FirstRaces : List Race → List Record → Type 0
+FirstRaces races [] = Unit {0}
+FirstRaces races (first ∷ others) = races ≡ first.plan.races
+
+-- of these records this is kept
+pub record Keeps (kept : Kept) (before : List Record) : Type 0 where
   pub races : FirstRaces kept.races before
   pub sums : kept.sums ≡ sums_of before
-  pub seals : kept.seals ≡ map first_seal before
+  pub seals : kept.seals ≡ map first_seal_of before
 
 -- WHAT IS FOUND OF A PART
 
--- behind these parts it has this number; whether it has the races of the first; and which part has its seal
-pub record IsFound (found : Found) (before : List (List (List ℕ))) (part : List (List ℕ)) : Type 0 where
-  pub number_is : found.number ≡ length before + 1
-  pub same : is_behind_plan part ≡ true → found.same ≡ true → HasTheRaces before part
-  pub differs : is_behind_plan part ≡ true → found.same ≡ false → HasTheRaces before part → ⊥
-  pub other : found.other ≡ first_sealed before part
+-- this is found of a record behind these: whether it has the races of the first, and which of them has its seal
+pub record IsFound (found : Found) (before : List Record) (posted : Record) : Type 0 where
+  pub same : found.same ≡ true → HasTheRaces before posted
+  pub differs : found.same ≡ false → HasTheRaces before posted → ⊥
+  pub other : found.other ≡ first_sealed before posted
 
--- what is kept of these parts, with the seal of one part more, and its races where it is the first
-pub record IsNoted (old new : Kept) (before : List (List (List ℕ))) (part : List (List ℕ)) : Type 0 where
-  pub races : is_behind_plan part ≡ true → FirstRaces new.races (before ++ part ∷ [])
+-- what is kept of these records, with the seal of one more, and its races where it is the first
+pub record IsNoted (old new : Kept) (before : List Record) (posted : Record) : Type 0 where
+  pub races : FirstRaces new.races (before ++ posted ∷ [])
   pub sums : new.sums ≡ old.sums
-  pub seals : new.seals ≡ map first_seal (before ++ part ∷ [])
+  pub seals : new.seals ≡ map first_seal_of (before ++ posted ∷ [])
 
 -- what the table says of a part of which this is found
 abbrev pub close_good : ℕ → List Total → Bool → Option ℕ → Close
@@ -53,8 +71,8 @@ close_of found (judged.No line kind) = close.Settles (No found.number line kind)
 close_of found (judged.Yes totals) = close_good found.number totals found.same found.other
 
 -- the part counts, with these totals; or it settles this
-abbrev pub Closes : List (List (List ℕ)) → List (List ℕ) → Close → Type 0
-Closes before part (close.Counts totals) = Counts before part × (totals ≡ totals_of part)
+abbrev pub Closes : List Record → List (List ℕ) → Close → Type 0
+Closes before part (close.Counts totals) = (posted : Record) × Counts before part posted × (totals ≡ totals_on posted)
 Closes before part (close.Settles verdict) = Settles before part verdict
 
 -- ADDING

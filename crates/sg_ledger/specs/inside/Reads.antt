@@ -1,25 +1,11 @@
--- What is read from the tables of a line, and the first of the kinds in which a line is bad.
-use Rattle.std.specs.Prelude.{ℕ, ◌+◌, ◌*◌, ◌/◌, ◌%◌, nat_lt, if◌then◌else◌, Bool, false, not, ◌&&◌, List, slice_index_or, Option, Some, None}
+-- What is read from the tables of a line.
+use Rattle.std.specs.Prelude.{ℕ, ◌+◌, ◌*◌, ◌/◌, ◌%◌, nat_lt, Bool, false, not, ◌&&◌, List, slice_index_or, Option, None}
 use Rattle.std.specs.Option.{option_map_or}
 use Rattle.sg_check.specs.Kinds.{is_there}
-use Rattle.sg_check.specs.declared.judged.Kind.{Kind}
-use Rattle.sg_check.specs.declared.judged.Kind.TheVariants as kind
 use Rattle.sg_forms.specs.declared.line.RowOpening.{RowOpening}
 use Rattle.sg_forms.specs.declared.line.RowOpening.TheVariants as row
 use Rattle.sg_plan.specs.Ballots.{candidates_of, entries_of, entry_place}
 use Rattle.sg_plan.specs.declared.plan.Plan.{Plan}
-
--- the first kind in which a code is bad
-abbrev pub code_kind : Bool → Bool → Bool → Option Kind
-code_kind opening rule dispute = (if opening then Some kind.Opening else (if rule then Some kind.Rule else (if dispute then Some kind.Dispute else None)))
-
--- the kind in which a line is bad that is judged by the rules alone
-abbrev pub rule_kind : Bool → Option Kind
-rule_kind rule = (if rule then Some kind.Rule else None)
-
--- the first kind in which a row is bad
-abbrev pub row_kind : Bool → Bool → Bool → Bool → Bool → Bool → Option Kind
-row_kind opening side pointer flag path print = (if opening then Some kind.Opening else (if side then Some kind.Side else (if pointer then Some kind.Pointer else (if flag then Some kind.Flag else (if path then Some kind.Path else (if print then Some kind.Print else None))))))
 
 -- the entry of a ballot in the column of the candidate to whom a place belongs
 abbrev pub beside : ℕ → ℕ → ℕ → ℕ

@@ -19,7 +19,7 @@ use Rattle.sg_reports.specs.inside.Judging.{county, county_outcome}
 -- the sums of a yes are bound
 told_bound : (known : Option (List ℕ)) (totals : List Total) → Answers known (Yes totals) → AreBound known totals
 told_bound None totals answers = tt
-told_bound (Some bytes) totals answers = λ all parts seen. sums_bound (lines_of bytes) totals all answers parts seen
+told_bound (Some bytes) totals answers = λ all are. sums_bound (lines_of bytes) totals all answers are
 
 -- an answer is due
 answer_due : (answer : CountyVerdict) (before now : Option (List ℕ)) → Answers before answer → HasRead county answer before now → CountyDue (county_outcome answer) (report_of answer) before now

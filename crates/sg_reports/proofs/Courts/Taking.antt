@@ -12,11 +12,13 @@ use Rattle.sg_driver.specs.Standing.{Goes}
 use Rattle.sg_driver.specs.declared.judge.Standing.{Standing}
 use Rattle.sg_driver.specs.declared.judge.Standing.TheVariants.{Open, Settled}
 use Rattle.sg_plan.proofs.PlanLaws.{bounds}
-use Rattle.sg_parts.proofs.Accepting.{good_plan}
+use Rattle.sg_parts.proofs.Accepting.{fine, good_plan}
 use Rattle.sg_parts.proofs.Finding.{readings_hold}
 use Rattle.sg_parts.proofs.Wholes.{due_few}
+use Rattle.sg_parts.specs.Faults.{record_lines}
 use Rattle.sg_parts.specs.Reads.{HasRead, lines_left}
 use Rattle.sg_parts.specs.declared.reading.PartsReading.{PartsReading}
+use Rattle.sg_reports.proofs.Auditing.Judging.{fine_front}
 use Rattle.sg_reports.proofs.Courts.Words.{all_before, none_behind}
 use Rattle.sg_reports.specs.court.Heard.{IsUnsettled}
 use Rattle.sg_reports.specs.court.inside.Answering.{court}
@@ -42,26 +44,31 @@ fine_few lines fine = let walks = fine_walks lines fine in most_lines_stand line
 
 -- no lines settle nothing
 pub none_unsettled : IsUnsettled []
-none_unsettled = record { fine = fine-empty; whole = inl refl; few = omega arith }
+none_unsettled = record { good = fine_front [] fine-empty; whole = inl refl; few = omega arith }
 
 -- nor do lines that were taken
 pub taken_unsettled : (taken : Taken) (lines : List (List ℕ)) → Stands taken lines → IsUnsettled lines
 taken_unsettled (taken.Record record_taken) lines is = record {
-  fine = subst AreFine (sym (all_before lines is.wordless)) is.fine;
+  good = fine_front (record_lines lines) (subst AreFine (sym (all_before lines is.wordless)) is.fine);
   whole = inl (none_behind lines is.wordless);
   few = omega (arith, fine_few lines is.fine);
 }
 taken_unsettled (taken.Parts parts) lines read =
     let holds = readings_hold parts lines read in
-    record { fine = holds.accepting.1.fine; whole = inr holds.accepting.1.whole; few = holds.few }
+    let of = read.of_record in
+    record {
+      good = fine_front (record_lines lines) (subst AreFine (sym of.text) (fine parts.posted of.accepted).fine);
+      whole = inr (parts.posted, record { words = of.accepted.words; formed = of.accepted.formed; text = of.text });
+      few = holds.few;
+    }
 taken_unsettled (taken.Fault wrong) lines none = absurd none
 
 -- of all parts few lines may still come
 pub parts_left : (parts : PartsReading) (lines : List (List ℕ)) → HasRead parts lines → lines_left parts ≤ 860002
 parts_left parts lines read =
     let plan = parts.posted.plan in
-    let fine = good_plan parts.posted read.of_record.accepted in
-    omega (arith, due_few plan fine, (bounds plan fine).few_r_rows, ap length read.due_are, read.count)
+    let good = good_plan parts.posted read.of_record.accepted in
+    omega (arith, due_few plan good, (bounds plan good).few_r_rows, ap length read.due_are, read.count)
 
 -- so it is where memory was wanted
 pub on_err : {A E : Type 0} (P : Type 0) (result : Result A E) → P → OnErr result P

@@ -1,5 +1,5 @@
 -- How the command ends (this project's command line).
-use Rattle.std.specs.Prelude.{◌≡◌, ℕ, List, map, Option, IfSome}
+use Rattle.std.specs.Prelude.{◌≡◌, ℕ, List, Option, IfSome}
 use Rattle.std.specs.Io.KnownBytes.{IsAtEnd}
 use Rattle.sg_outside.specs.Streams.{Seen}
 use Rattle.sg_outside.specs.TextLines.{lines_of}
@@ -22,7 +22,7 @@ Answers known answer = IfSome known (λ bytes. IsCounty (lines_of bytes) answer)
 -- where the source tells its bytes, each sum differs from the sum of the parts' counts by at most the sum of the altered rows
 -- of its race, whatever was printed for the parts and opens the rest of them
 abbrev pub AreBound : Option (List ℕ) → List Total → Type 0
-AreBound known totals = IfSome known (λ bytes. (all : List PartSeen) → map (λ part. part.lines) all ≡ parts_of (lines_of bytes) → AreSeen all → AreSumsBound totals all)
+AreBound known totals = IfSome known (λ bytes. (all : List PartSeen) → AreSeen (parts_of (lines_of bytes)) all → AreSumsBound totals all)
 
 -- a part is bad, has other races than the first, or the seal of another
 abbrev pub IsBad : CountyVerdict → Type 0

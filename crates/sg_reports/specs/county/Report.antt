@@ -1,7 +1,8 @@
 -- The report of the answer on a county (this project's formats).
 use Rattle.std.specs.Prelude.{ℕ, List, [], ◌∷◌, ◌++◌, codes, decimal}
+use Rattle.sg_check.specs.Kinds.{kind_word}
 use Rattle.sg_check.specs.declared.judged.Kind.{Kind}
-use Rattle.sg_report.specs.Report.{kind_word, totals_text}
+use Rattle.sg_report.specs.Report.{totals_text}
 use Rattle.sg_county.specs.declared.verdict.CountyVerdict.{CountyVerdict}
 use Rattle.sg_county.specs.declared.verdict.CountyVerdict.TheVariants.{Yes, No, Differs, Repeats, Parts}
 

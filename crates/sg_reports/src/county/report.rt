@@ -7,7 +7,7 @@ ghost use Rattle.sg_reports.specs.county.Report.{differs_text, no_text, repeats_
 use sg_check::Kind;
 use sg_county::CountyVerdict;
 use sg_outside::{Failed, Sink};
-use sg_report::{add_bytes, add_decimal, word_for, write_yes};
+use sg_report::{add_bytes, add_decimal, write_yes};
 
 /// Room for a line of a report, in bytes: the longest has 33.
 const ROOM: usize = 64;
@@ -70,7 +70,7 @@ fn no_line(line: &mut [u8], part: u32, number: u32, kind: Kind) -> usize
     let at = add_bytes(line, at, b" ");
     let at = add_decimal(line, at, number);
     let at = add_bytes(line, at, b" ");
-    let at = add_bytes(line, at, word_for(kind));
+    let at = add_bytes(line, at, kind.word());
     add_bytes(line, at, b"\n")
 }
 

@@ -1,5 +1,6 @@
 use Rattle.std.proofs.Common.{◌++◌, ◌∷◌, [], Option, None, sym, subst, ap, ◌∙◌}
 use Rattle.std.specs.Option.{is_some}
+use Rattle.sg_lists.proofs.Options.{is_some-false, is_some-true}
 use Rattle.sg_forms.specs.Said.{said}
 use Rattle.sg_ledger.specs.declared.ledger.Ledger.{Ledger}
 use Rattle.sg_judge.proofs.Advancing.{form_stops, made_stands, plan_advances}
@@ -7,7 +8,7 @@ use Rattle.sg_judge.proofs.FirstSeal.{next_seal-plan}
 use Rattle.sg_judge.proofs.Placing.{good_plan, plan_step-before, step-falls}
 use Rattle.sg_judge.proofs.header.advance_header.Goals as goal
 use Rattle.sg_judge.specs.inside.Taking.{Stands}
-use Rattle.sg_grammar.proofs.Walking.{none_there, some_there, take_bytes-not_read}
+use Rattle.sg_grammar.proofs.Walking.{take_bytes-not_read}
 use Rattle.sg_grammar.specs.Head.{head_line}
 use Rattle.sg_grammar.specs.Walk.{take_line}
 use Rattle.sg_plan.specs.Limits.{fault_of}
@@ -38,7 +39,7 @@ returns-then-is_of_plan-clause-seal c = λ good.
 
 pub make-requires : goal.make-requires
 make-requires c =
-    let there = some_there (take_line c.args.expect.now (said c.in-Some.line)) c.in-Some.ensures.found.2 in
+    let there = is_some-true (take_line c.args.expect.now (said c.in-Some.line)) c.in-Some.ensures.found.2 in
     ap fault_of c.plan.ensures.is
     ∙ good_plan c.args.expect.now (said c.in-Some.line) there.0 (made_stands c.args.expect.now c.args.sealer.now None c.requires.stands.0 c.requires.stands.1)
-    (none_there (head_line c.args.expect.now.plan c.args.expect.now.head (said c.in-Some.line)) (sym c.is_of_plan.ensures ∙ c.if-is_of_plan.false)) there.1
+    (is_some-false (head_line c.args.expect.now.plan c.args.expect.now.head (said c.in-Some.line)) (sym c.is_of_plan.ensures ∙ c.if-is_of_plan.false)) there.1

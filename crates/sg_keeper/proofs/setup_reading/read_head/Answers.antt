@@ -2,7 +2,7 @@
 use Rattle.std.proofs.Common.{sym, subst, ◌≡◌, drop}
 use Rattle.sg_outside.specs.TextLines.{lines_of}
 use Rattle.sg_grammar.specs.Walk.{Next}
-use Rattle.sg_keeper.specs.SetupReading.{no_line, read_plan}
+use Rattle.sg_keeper.specs.inside.SetupReading.{no_line, read_plan}
 use Rattle.sg_keeper.specs.inside.PlanLines.{making_of}
 use Rattle.sg_keeper.proofs.PlanSteps.{head_end, head_step, head_stop}
 use Rattle.sg_keeper.proofs.setup_reading.read_head.Goals as goal

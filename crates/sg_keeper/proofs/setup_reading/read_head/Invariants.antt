@@ -1,7 +1,7 @@
 -- The invariant of the loop of `read_head`.
 use Rattle.std.proofs.Common.{◌≡◌, ◌-◌, drop, length}
 use Rattle.sg_outside.specs.TextLines.{lines_of}
-use Rattle.sg_keeper.specs.SetupReading.{no_line, read_plan}
+use Rattle.sg_keeper.specs.inside.SetupReading.{no_line, read_plan}
 use Rattle.sg_keeper.specs.inside.PlanLines.{making_of}
 use Rattle.sg_keeper.proofs.setup_reading.read_head.Given as goal
 

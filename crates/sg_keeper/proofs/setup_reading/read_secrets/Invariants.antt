@@ -3,7 +3,7 @@ use Rattle.std.proofs.Common.{◌≡◌, ◌++◌, ◌-◌, drop, length}
 use Rattle.std.specs.Option.{option_map}
 use Rattle.sg_outside.specs.TextLines.{lines_of}
 use Rattle.sg_forms.specs.Reading.{all_by}
-use Rattle.sg_keeper.specs.SetupReading.{secret_of}
+use Rattle.sg_keeper.specs.inside.SetupReading.{secret_of}
 use Rattle.sg_keeper.proofs.setup_reading.read_secrets.Given as goal
 
 abbrev pub invariant-loop-at : goal.invariant-loop-at

@@ -1,15 +1,15 @@
 use Rattle.std.proofs.Common.{◌≡◌, ◌-◌, suc, None, Some, drop, w64, rules, arith, ap, sym, subst, ◌∙◌}
 use Rattle.std.proofs.lemmas.Int.{to_z-of_z}
 use Rattle.std.specs.List.{slice_get}
+use Rattle.std.proofs.lemmas.Option.{slice_get-get_or}
 use Rattle.sg_office.specs.inside.Runs.{flat, text_of}
 use Rattle.sg_office.proofs.Blocks.{none_above, not_above, not_below, only_here}
-use Rattle.sg_office.proofs.Numbers.{item_at}
 use Rattle.sg_office.proofs.run.block_of.Goals as goal
 
 pub returns-then-first-number-clause-some : goal.returns-then-first-number-clause-some
 returns-then-first-number-clause-some c =
     let block : slice_get c.args.blocks.now (c.back.at - 1) ≡ Some c.index-blocks-at.result =
-    item_at c.args.blocks.now (c.back.at - 1) c.index-blocks-at.result (omega (arith, c.back-test.true, c.back.invariant.0)) ∙ ap Some (sym c.index-blocks-at.is) in
+    slice_get-get_or c.args.blocks.now (c.back.at - 1) c.index-blocks-at.result (omega (arith, c.back-test.true, c.back.invariant.0)) ∙ ap Some (sym c.index-blocks-at.is) in
     let behind : text_of c.args.number (flat (drop (suc (c.back.at - 1)) c.args.blocks.now)) ≡ None =
     subst (λ n. text_of c.args.number (flat (drop n c.args.blocks.now)) ≡ None) {x = c.back.at} {y = suc (c.back.at - 1)} (omega (arith, c.back-test.true))
     (rw (to_z-of_z w64 c.args.number c.ranges.number) at c.back.invariant.1) in
@@ -20,7 +20,7 @@ returns-then-first-number-clause-some c =
 pub back-preserved-else-first-number : goal.back-preserved-else-first-number
 back-preserved-else-first-number c =
     let block : slice_get c.args.blocks.now (c.back.at - 1) ≡ Some c.index-blocks-at.result =
-    item_at c.args.blocks.now (c.back.at - 1) c.index-blocks-at.result (omega (arith, c.back-test.true, c.back.invariant.0)) ∙ ap Some (sym c.index-blocks-at.is) in
+    slice_get-get_or c.args.blocks.now (c.back.at - 1) c.index-blocks-at.result (omega (arith, c.back-test.true, c.back.invariant.0)) ∙ ap Some (sym c.index-blocks-at.is) in
     let behind : text_of c.args.number (flat (drop (suc (c.back.at - 1)) c.args.blocks.now)) ≡ None =
     subst (λ n. text_of c.args.number (flat (drop n c.args.blocks.now)) ≡ None) {x = c.back.at} {y = suc (c.back.at - 1)} (omega (arith, c.back-test.true))
     (rw (to_z-of_z w64 c.args.number c.ranges.number) at c.back.invariant.1) in

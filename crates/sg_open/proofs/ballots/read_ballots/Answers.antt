@@ -1,13 +1,13 @@
 use Rattle.std.proofs.Common.{◌≡◌, ◌<◌, [], length, take, true, ap, sym, ◌∙◌, arith}
 use Rattle.std.specs.List.{list_all}
 use Rattle.std.specs.Str.{is_utf8}
+use Rattle.std.proofs.lemmas.List.{length-set}
 use Rattle.sg_plan.specs.Limits.{first_bad}
 use Rattle.sg_desks.specs.ActReading.{act_in}
 use Rattle.sg_keeper.specs.Rows.{ballot_before}
 use Rattle.sg_histories.specs.ValidRows.{ballot_keeps, climbs}
 use Rattle.sg_open.specs.declared.ballots.Found.{Found}
 use Rattle.sg_open.specs.inside.Finding.{found_with}
-use Rattle.sg_open.proofs.Seats.{set_long}
 use Rattle.sg_open.proofs.Steps.{bad_here, bad_on, damage_here}
 use Rattle.sg_open.proofs.TellingRows.{ballot_bad, ballot_good, told_utf8, told_within}
 use Rattle.sg_open.proofs.Walking.{found_on, utf8_push}
@@ -42,6 +42,6 @@ loop-at-preserved c =
       bad = bad_on keeps c.args.rows.now c.loop-at.at c.get-row.result.now c.loop-at.invariant.bad c.get-row.ensures.front c.get-row.ensures.rest good;
       found = found_on c.args.index.now _ c.loop-at.found c.put_told.new.found c.args.rows.now c.loop-at.at c.get-row.result.now c.in-Some.told _ c.loop-at.invariant.found c.get-row.ensures.rest e is;
       utf8 = ap (λ (f : Found). list_all is_utf8 f.told) c.in_ok-put_told.ensures ∙ utf8_push c.loop-at.found.told c.in-Some.told.text c.loop-at.invariant.utf8 (told_utf8 c.args.index.now c.get-row.result.now c.in-Some.told e);
-      slots = ap (λ (f : Found). length f.slots) c.in_ok-put_told.ensures ∙ (set_long c.loop-at.found.slots _ _ ∙ c.loop-at.invariant.slots);
-      scanners = ap (λ (f : Found). length f.scanners) c.in_ok-put_told.ensures ∙ (set_long c.loop-at.found.scanners _ _ ∙ c.loop-at.invariant.scanners);
+      slots = ap (λ (f : Found). length f.slots) c.in_ok-put_told.ensures ∙ (length-set c.loop-at.found.slots _ _ ∙ c.loop-at.invariant.slots);
+      scanners = ap (λ (f : Found). length f.scanners) c.in_ok-put_told.ensures ∙ (length-set c.loop-at.found.scanners _ _ ∙ c.loop-at.invariant.scanners);
     }

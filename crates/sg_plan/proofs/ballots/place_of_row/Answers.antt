@@ -1,5 +1,6 @@
 use Rattle.std.proofs.Common.{◌<◌, if◌then◌else◌, arith}
-use Rattle.sg_plan.proofs.BallotLists.{counts_within, in_run, pass_run, rows_at_most, rows_of_run}
+use Rattle.sg_lists.proofs.Bools.{cond_le}
+use Rattle.sg_plan.proofs.BallotLists.{counts_within, in_run, pass_run, rows_of_run}
 use Rattle.sg_plan.proofs.ballots.place_of_row.Goals as goal
 use Rattle.sg_plan.specs.Ballots.{style_has}
 
@@ -7,7 +8,7 @@ pub overflow_add-result : goal.overflow_add-result
 overflow_add-result c =
     let run = c.get-run.result.now in
     let within = counts_within c.args.plan.now.runs c.loop-at.at run c.get-run.ensures.rest in
-    omega (arith, within, rows_at_most (style_has c.args.plan.now c.args.race run.style) run.count, c.rows_of_run-rows.ensures, c.loop-at.invariant.ballots)
+    omega (arith, within, cond_le (style_has c.args.plan.now c.args.race run.style) run.count, c.rows_of_run-rows.ensures, c.loop-at.invariant.ballots)
 
 pub overflow_add-passed : goal.overflow_add-passed
 overflow_add-passed c =

@@ -1,7 +1,8 @@
 -- The ballots follow one another.
 use Rattle.std.proofs.Common.{refl, ap, ◌∙◌, arith}
 use Rattle.std.specs.List.{flat_map}
-use Rattle.sg_record.proofs.Putting.{item_of, items_end, items_fault, items_next}
+use Rattle.sg_lists.proofs.Tests.{All-slice_get}
+use Rattle.sg_record.proofs.Putting.{items_end, items_fault, items_next}
 use Rattle.sg_post.specs.inside.Lines.{told_lines}
 use Rattle.sg_post.proofs.RowMarking.{FitsIn, each-fits}
 use Rattle.sg_post.proofs.ballots.put_ballots.Goals as goal
@@ -22,12 +23,12 @@ put_told-requires-clause-version g c = c.loop-at.invariant.puts.version ∙ c.re
 
 pub put_told-requires-clause-first : goal.put_told-requires-clause-first
 put_told-requires-clause-first g c =
-    (item_of (FitsIn c.args.tables.now.plan) c.args.fates.now c.loop-at.at c.get.result.now (each-fits c.args.tables.now.plan 0 c.args.fates.now c.requires.fits) c.get.ensures.item).first
+    (All-slice_get (FitsIn c.args.tables.now.plan) c.args.fates.now c.loop-at.at c.get.result.now (each-fits c.args.tables.now.plan 0 c.args.fates.now c.requires.fits) c.get.ensures.item).first
 
 pub put_told-requires-clause-last : goal.put_told-requires-clause-last
 put_told-requires-clause-last g c =
-    (item_of (FitsIn c.args.tables.now.plan) c.args.fates.now c.loop-at.at c.get.result.now (each-fits c.args.tables.now.plan 0 c.args.fates.now c.requires.fits) c.get.ensures.item).last
+    (All-slice_get (FitsIn c.args.tables.now.plan) c.args.fates.now c.loop-at.at c.get.result.now (each-fits c.args.tables.now.plan 0 c.args.fates.now c.requires.fits) c.get.ensures.item).last
 
 pub put_told-requires-clause-fits : goal.put_told-requires-clause-fits
 put_told-requires-clause-fits g c =
-    (item_of (FitsIn c.args.tables.now.plan) c.args.fates.now c.loop-at.at c.get.result.now (each-fits c.args.tables.now.plan 0 c.args.fates.now c.requires.fits) c.get.ensures.item).fate
+    (All-slice_get (FitsIn c.args.tables.now.plan) c.args.fates.now c.loop-at.at c.get.result.now (each-fits c.args.tables.now.plan 0 c.args.fates.now c.requires.fits) c.get.ensures.item).fate

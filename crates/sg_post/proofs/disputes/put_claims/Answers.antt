@@ -1,7 +1,8 @@
 -- The claims follow one another.
 use Rattle.std.proofs.Common.{refl, ap, ◌∙◌, arith}
 use Rattle.std.specs.List.{flat_map}
-use Rattle.sg_record.proofs.Putting.{item_of, items_end, items_fault, items_next}
+use Rattle.sg_lists.proofs.Tests.{All-slice_get}
+use Rattle.sg_record.proofs.Putting.{items_end, items_fault, items_next}
 use Rattle.sg_post.specs.inside.Lines.{claim_lines}
 use Rattle.std.proofs.Common.{◌≡◌, true}
 use Rattle.sg_post.specs.Fits.{claim_fits}
@@ -25,4 +26,4 @@ put_claim-requires-clause-version g c = c.loop-at.invariant.puts.version ∙ c.r
 
 pub put_claim-requires-clause-fits : goal.put_claim-requires-clause-fits
 put_claim-requires-clause-fits g c =
-    item_of (λ (claimed : Claimed). claim_fits c.args.tables.now.plan claimed ≡ true) c.args.claims.now c.loop-at.at c.get.result.now (each-claim c.args.tables.now.plan c.args.claims.now c.requires.fits) c.get.ensures.item
+    All-slice_get (λ (claimed : Claimed). claim_fits c.args.tables.now.plan claimed ≡ true) c.args.claims.now c.loop-at.at c.get.result.now (each-claim c.args.tables.now.plan c.args.claims.now c.requires.fits) c.get.ensures.item

@@ -8,27 +8,27 @@ use Rattle.sg_record.proofs.blocks.put_blocks.Goals as goal
 
 pub returns-in_err-put_block : goal.returns-in_err-put_block
 returns-in_err-put_block g c =
-    items_fault _ _ _ _ _ (flat_map (block_lines c.args.plan.now)) c.args.blocks.now c.loop-at.at (block_lines c.args.plan.now c.get-block.result.now) c.loop-at.invariant.left (ap (flat_map (block_lines c.args.plan.now)) c.get-block.ensures.rest) c.from_residual.ensures.0 c.in_err-put_block.ensures
+    items_fault _ _ _ _ _ (flat_map (block_lines c.args.index.now)) c.args.blocks.now c.loop-at.at (block_lines c.args.index.now c.get-block.result.now) c.loop-at.invariant.left (ap (flat_map (block_lines c.args.index.now)) c.get-block.ensures.rest) c.from_residual.ensures.0 c.in_err-put_block.ensures
 
 pub loop-at-preserved : goal.loop-at-preserved
 loop-at-preserved g c =
-    let first = first_fate c.args.plan.now 0 (drop c.loop-at.at c.args.blocks.now) c.get-block.result.now (drop (c.loop-at.at + 1) c.args.blocks.now) c.get-block.ensures.rest c.loop-at.invariant.fates in
+    let first = first_fate c.args.index.now 0 (drop c.loop-at.at c.args.blocks.now) c.get-block.result.now (drop (c.loop-at.at + 1) c.args.blocks.now) c.get-block.ensures.rest c.loop-at.invariant.fates in
     record {
-      left = items_next _ _ _ _ (flat_map (block_lines c.args.plan.now)) c.args.blocks.now c.loop-at.at (block_lines c.args.plan.now c.get-block.result.now) c.loop-at.invariant.left (ap (flat_map (block_lines c.args.plan.now)) c.get-block.ensures.rest) c.in_ok-put_block.ensures;
-      fates = fates_behind c.args.plan.now 0 c.get-block.result.now.ballot (drop (c.loop-at.at + 1) c.args.blocks.now) (omega arith) first.rest;
+      left = items_next _ _ _ _ (flat_map (block_lines c.args.index.now)) c.args.blocks.now c.loop-at.at (block_lines c.args.index.now c.get-block.result.now) c.loop-at.invariant.left (ap (flat_map (block_lines c.args.index.now)) c.get-block.ensures.rest) c.in_ok-put_block.ensures;
+      fates = fates_behind c.args.index.now 0 c.get-block.result.now.ballot (drop (c.loop-at.at + 1) c.args.blocks.now) (omega arith) first.rest;
     }
 
 pub returns : goal.returns
-returns g c = items_end _ _ _ (flat_map (block_lines c.args.plan.now)) c.args.blocks.now c.loop-at.at refl c.loop-at.invariant.left (omega arith)
+returns g c = items_end _ _ _ (flat_map (block_lines c.args.index.now)) c.args.blocks.now c.loop-at.at refl c.loop-at.invariant.left (omega arith)
 
 pub races-races-requires-clause-first : goal.races-races-requires-clause-first
-races-races-requires-clause-first g c = (first_fate c.args.plan.now 0 (drop c.loop-at.at c.args.blocks.now) c.get-block.result.now (drop (c.loop-at.at + 1) c.args.blocks.now) c.get-block.ensures.rest c.loop-at.invariant.fates).later
+races-races-requires-clause-first g c = (first_fate c.args.index.now 0 (drop c.loop-at.at c.args.blocks.now) c.get-block.result.now (drop (c.loop-at.at + 1) c.args.blocks.now) c.get-block.ensures.rest c.loop-at.invariant.fates).later
 
 pub races-races-requires-clause-last : goal.races-races-requires-clause-last
-races-races-requires-clause-last g c = rw c.requires.indexed (first_fate c.args.plan.now 0 (drop c.loop-at.at c.args.blocks.now) c.get-block.result.now (drop (c.loop-at.at + 1) c.args.blocks.now) c.get-block.ensures.rest c.loop-at.invariant.fates).within
+races-races-requires-clause-last g c = (first_fate c.args.index.now 0 (drop c.loop-at.at c.args.blocks.now) c.get-block.result.now (drop (c.loop-at.at + 1) c.args.blocks.now) c.get-block.ensures.rest c.loop-at.invariant.fates).within
 
 pub put_block-requires-clause-fate : goal.put_block-requires-clause-fate
-put_block-requires-clause-fate g c = (first_fate c.args.plan.now 0 (drop c.loop-at.at c.args.blocks.now) c.get-block.result.now (drop (c.loop-at.at + 1) c.args.blocks.now) c.get-block.ensures.rest c.loop-at.invariant.fates).fate
+put_block-requires-clause-fate g c = (first_fate c.args.index.now 0 (drop c.loop-at.at c.args.blocks.now) c.get-block.result.now (drop (c.loop-at.at + 1) c.args.blocks.now) c.get-block.ensures.rest c.loop-at.invariant.fates).fate
 
 pub put_block-requires-clause-version : goal.put_block-requires-clause-version
 put_block-requires-clause-version g c = c.loop-at.invariant.left.puts.version ∙ c.requires.version

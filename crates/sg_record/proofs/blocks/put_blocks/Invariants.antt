@@ -9,6 +9,6 @@ use Rattle.sg_record.proofs.blocks.put_blocks.Given as goal
 
 abbrev pub invariant-loop-at : goal.invariant-loop-at
 invariant-loop-at g l = record {
-  left : LeftOf (moment g.O.Sink.written g.O.Sink.faults l.fn.pen l.fn.out) (moment g.O.Sink.written g.O.Sink.faults l.pen l.out) (flat_map (block_lines l.plan)) l.blocks l.at;
-  fates : HaveFates l.plan 0 (drop l.at l.blocks);
+  left : LeftOf (moment g.O.Sink.written g.O.Sink.faults l.fn.pen l.fn.out) (moment g.O.Sink.written g.O.Sink.faults l.pen l.out) (flat_map (block_lines l.index)) l.blocks l.at;
+  fates : HaveFates l.index 0 (drop l.at l.blocks);
 }

@@ -11,7 +11,7 @@ abbrev pub invariant-loop-race : goal.invariant-loop-race
 invariant-loop-race g l = record {
   within : l.at ≤ length l.codes;
   over_within : l.over_at ≤ length l.overs;
-  left : LeftEach (moment g.O.Sink.written g.O.Sink.faults l.fn.pen l.fn.out) (moment g.O.Sink.written g.O.Sink.faults l.pen l.out) (cast_race_lines l.codes l.overs) l.race (length l.plan.races);
+  left : LeftEach (moment g.O.Sink.written g.O.Sink.faults l.fn.pen l.fn.out) (moment g.O.Sink.written g.O.Sink.faults l.pen l.out) (cast_race_lines l.codes l.overs) l.race (length l.index.races);
   have : HaveCodes l.fn.pen.version (drop l.at l.codes);
   order : DoNotFall l.race (drop l.at l.codes);
   over_order : DoRise l.race (drop l.over_at l.overs);

@@ -5,4 +5,4 @@ use Rattle.sg_record.specs.Formed.{each_passes}
 use Rattle.sg_record.proofs.formed.has_entries.Given as goal
 
 abbrev pub invariant-loop-race : goal.invariant-loop-race
-invariant-loop-race g l = each_passes (λ race items. length items == entries_of l.plan race) l.race (drop l.race l.lists) ≡ each_passes (λ race items. length items == entries_of l.plan race) 0 l.lists
+invariant-loop-race g l = each_passes (λ race items. length items == entries_of l.index race) l.race (drop l.race l.lists) ≡ each_passes (λ race items. length items == entries_of l.index race) 0 l.lists

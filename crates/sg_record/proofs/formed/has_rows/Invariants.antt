@@ -7,5 +7,5 @@ use Rattle.sg_record.proofs.formed.has_rows.Given as goal
 
 abbrev pub invariant-loop-race : goal.invariant-loop-race
 invariant-loop-race g l =
-    each_passes (λ race instances. length instances == l.plan.instances && list_all (λ items. length items == entries_of l.plan race) instances) l.race (drop l.race l.lists)
-    ≡ each_passes (λ race instances. length instances == l.plan.instances && list_all (λ items. length items == entries_of l.plan race) instances) 0 l.lists
+    each_passes (λ race instances. length instances == l.index.instances && list_all (λ items. length items == entries_of l.index race) instances) l.race (drop l.race l.lists)
+    ≡ each_passes (λ race instances. length instances == l.index.instances && list_all (λ items. length items == entries_of l.index race) instances) 0 l.lists

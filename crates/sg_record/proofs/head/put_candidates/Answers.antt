@@ -1,6 +1,6 @@
 -- The candidates follow one another.
 use Rattle.std.proofs.Common.{ap, refl, ◌∷◌, [], map, arith}
-use Rattle.sg_record.proofs.Putting.{item_of}
+use Rattle.sg_lists.proofs.Tests.{All-slice_get}
 use Rattle.sg_plan.specs.Names.{IsName}
 use Rattle.sg_record.proofs.Putting.{items_end, items_fault, items_next}
 use Rattle.sg_forms.specs.Said.Said.{Cand}
@@ -18,4 +18,4 @@ pub returns : goal.returns
 returns g c = items_end _ _ _ (map Cand) c.args.names.now c.loop-at.at refl c.loop-at.invariant (omega arith)
 
 pub put_candidate-requires : goal.put_candidate-requires
-put_candidate-requires g c = record { name = item_of IsName c.args.names.now c.loop-at.at c.get.result.now c.requires.names c.get.ensures.item }
+put_candidate-requires g c = record { name = All-slice_get IsName c.args.names.now c.loop-at.at c.get.result.now c.requires.names c.get.ensures.item }

@@ -1,6 +1,6 @@
 -- The races follow one another.
 use Rattle.std.proofs.Common.{ap, refl, arith}
-use Rattle.sg_record.proofs.Putting.{item_of}
+use Rattle.sg_lists.proofs.Tests.{All-slice_get}
 use Rattle.sg_plan.specs.Limits.{KeepsRace}
 use Rattle.sg_record.proofs.Putting.{items_end, items_fault, items_next}
 use Rattle.std.specs.List.{flat_map}
@@ -19,4 +19,4 @@ pub returns : goal.returns
 returns g c = items_end _ _ _ (flat_map race_lines) c.args.races.now c.loop-at.at refl c.loop-at.invariant (omega arith)
 
 pub put_race-requires : goal.put_race-requires
-put_race-requires g c = record { race = item_of KeepsRace c.args.races.now c.loop-at.at c.get.result.now c.requires.races c.get.ensures.item }
+put_race-requires g c = record { race = All-slice_get KeepsRace c.args.races.now c.loop-at.at c.get.result.now c.requires.races c.get.ensures.item }

@@ -1,6 +1,6 @@
 -- The styles follow one another.
 use Rattle.std.proofs.Common.{ap, refl, ◌∷◌, [], map, arith}
-use Rattle.sg_record.proofs.Putting.{item_of}
+use Rattle.sg_lists.proofs.Tests.{All-slice_get}
 use Rattle.sg_record.specs.inside.Parts.{StyleFits}
 use Rattle.sg_record.proofs.Putting.{items_end, items_fault, items_next}
 use Rattle.sg_record.specs.Lines.{style_line}
@@ -18,4 +18,4 @@ pub returns : goal.returns
 returns g c = items_end _ _ _ (map style_line) c.args.styles.now c.loop-at.at refl c.loop-at.invariant (omega arith)
 
 pub put_style-requires : goal.put_style-requires
-put_style-requires g c = record { style = item_of StyleFits c.args.styles.now c.loop-at.at c.get.result.now c.requires.styles c.get.ensures.item }
+put_style-requires g c = record { style = All-slice_get StyleFits c.args.styles.now c.loop-at.at c.get.result.now c.requires.styles c.get.ensures.item }

@@ -1,7 +1,8 @@
 -- The parts follow one another.
 use Rattle.std.proofs.Common.{[], ◌++◌, ◌<◌, ◌^◌, length, ap, arith}
 use Rattle.std.proofs.lemmas.Option.{get_or_from_slice_get}
-use Rattle.sg_record.proofs.Putting.{item_of, puts_stop, puts_then}
+use Rattle.sg_lists.proofs.Tests.{All-slice_get}
+use Rattle.sg_record.proofs.Putting.{puts_stop, puts_then}
 use Rattle.sg_record.specs.Lines.{flag_lines, indexed, place_lines, total_line}
 use Rattle.sg_record.proofs.results.put_race_results.Goals as goal
 
@@ -16,11 +17,11 @@ get-totals-requires g c = omega (arith, ap length c.totals.ensures, c.requires.l
 
 pub put_race_flags-requires : goal.put_race_flags-requires
 put_race_flags-requires g c =
-    record { few = item_of (λ instances. length instances < 2 ^ 32) (g.P.Posts.posted c.args.posted.now).flags c.args.race c.get-flags.result.now c.requires.lists.few_flags (rw c.flags.ensures at c.get-flags.ensures.item) }
+    record { few = All-slice_get (λ instances. length instances < 2 ^ 32) (g.P.Posts.posted c.args.posted.now).flags c.args.race c.get-flags.result.now c.requires.lists.few_flags (rw c.flags.ensures at c.get-flags.ensures.item) }
 
 pub put_totals-requires : goal.put_totals-requires
 put_totals-requires g c =
-    record { few = item_of (λ totals. length totals < 2 ^ 32) (g.P.Posts.posted c.args.posted.now).totals c.args.race c.get-totals.result.now c.requires.lists.few_totals (rw c.totals.ensures at c.get-totals.ensures.item) }
+    record { few = All-slice_get (λ totals. length totals < 2 ^ 32) (g.P.Posts.posted c.args.posted.now).totals c.args.race c.get-totals.result.now c.requires.lists.few_totals (rw c.totals.ensures at c.get-totals.ensures.item) }
 
 pub returns-in_err-put_race_flags : goal.returns-in_err-put_race_flags
 returns-in_err-put_race_flags g c =

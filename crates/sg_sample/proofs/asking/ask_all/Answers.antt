@@ -1,8 +1,8 @@
 -- The office goes on from ballot to ballot, and to its end.
 use Rattle.std.proofs.Common.{ap, ◌∙◌}
+use Rattle.std.proofs.lemmas.Result.{on_ok_weaker}
 use Rattle.sg_plan.specs.Limits.{fault_of}
 use Rattle.sg_tables.specs.Tables.{MadeFrom}
-use Rattle.sg_sample.proofs.Votes.{on_ok}
 use Rattle.sg_sample.proofs.asking.ask_all.Goals as goal
 
 pub make-requires : goal.make-requires
@@ -27,7 +27,7 @@ pub end-requires-clause-voted : goal.end-requires-clause-voted
 end-requires-clause-voted c = c.in-Ok-vote.ensures.voted
 
 pub returns-clause-setup : goal.returns-clause-setup
-returns-clause-setup c = on_ok c.end.result _ _ (λ same. same ∙ c.in-Ok-vote.ensures.setup) c.end.ensures.setup
+returns-clause-setup c = on_ok_weaker c.end.result (λ same. same ∙ c.in-Ok-vote.ensures.setup) c.end.ensures.setup
 
 pub returns-clause-stands : goal.returns-clause-stands
 returns-clause-stands c = c.end.ensures.stands

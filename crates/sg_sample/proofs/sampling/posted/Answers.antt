@@ -1,5 +1,6 @@
 -- The posting is that of the story, and what is written is the record of the run.
 use Rattle.std.proofs.Common.{◌≡◌, true, sym, subst, ap, ◌∙◌}
+use Rattle.std.proofs.lemmas.Result.{IfOk-weaker}
 use Rattle.sg_tables.specs.Tables.{MadeFrom}
 use Rattle.sg_keeper.specs.declared.setup.Setup.{Setup}
 use Rattle.sg_post.specs.Fits.{story_fits}
@@ -9,7 +10,6 @@ use Rattle.sg_post.specs.declared.story.Story.{Story}
 use Rattle.sg_histories.specs.Stories.{story_of}
 use Rattle.sg_sample.specs.SampleRun.{sample_history}
 use Rattle.sg_sample.proofs.Summing.{record_is}
-use Rattle.sg_sample.proofs.Votes.{if_ok}
 use Rattle.sg_sample.proofs.sampling.posted.Goals as goal
 
 pub record_text-requires-clause-fits : goal.record_text-requires-clause-fits
@@ -25,7 +25,7 @@ record_text-requires-clause-posting c =
 
 pub returns : goal.returns
 returns c =
-    if_ok c.record_text.result _ _
+    IfOk-weaker c.record_text.result _ _
     (λ text is.
     record_is c.args.office.now.setup c.args.story.now text c.args.sample.seed c.args.sample.ballots c.requires.setup c.requires.story
     (is ∙ ap (λ (made : MadeFrom). posted_text made.plan made.seed c.args.story.now) c.tables.ensures))

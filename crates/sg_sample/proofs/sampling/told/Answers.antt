@@ -1,9 +1,9 @@
 -- The record is accepted and ends with its seal, and the summary is that of the run.
 use Rattle.std.proofs.Common.{◌≤◌, List, length, sym, subst}
+use Rattle.std.proofs.lemmas.Result.{IfOk-weaker}
 use Rattle.sg_post.specs.declared.story.Told.{Told}
 use Rattle.sg_sample.proofs.SampleRuns.{fates_few}
 use Rattle.sg_sample.proofs.Summing.{ends_so, has_totals, seal_of, summary_is}
-use Rattle.sg_sample.proofs.Votes.{if_ok}
 use Rattle.sg_sample.proofs.sampling.told.Goals as goal
 
 pub audited_totals-requires : goal.audited_totals-requires
@@ -24,7 +24,7 @@ pub returns : goal.returns
 returns c =
     let seed = c.args.sample.seed in
     let ballots = c.args.sample.ballots in
-    if_ok c.write_summary.result _ _
+    IfOk-weaker c.write_summary.result _ _
     (λ text is.
     summary_is text c.args.text.now seed ballots c.count_lines-lines.result c.last_digits-digits.result.now c.args.fates.now c.in-Ok.totals c.requires.some c.requires.few
     c.requires.fates c.requires.text c.count_lines-lines.ensures c.in-Ok.ensures

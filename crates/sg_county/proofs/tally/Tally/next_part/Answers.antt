@@ -24,7 +24,7 @@ close_part-requires c =
     record {
       fits = subst (λ (e : Close). Fits c.in_ok-found.found.number c.note_part.new.self.sums e) (sym c.end_of.ensures)
           (next_fits c.args.self.now fresh c.note_part.new.self c.in_ok-found.found c.end_and_replace-judged.result (codes "next\n") c.requires.open refl fresh_stands fresh_open
-          c.in_ok-found.ensures.found c.in_ok-found.ensures.noted c.end_and_replace-judged.ensures.judges c.requires.stands.0 c.requires.stands.1);
+          c.in_ok-found.ensures.number c.in_ok-found.ensures.found c.in_ok-found.ensures.noted c.end_and_replace-judged.ensures.judges c.requires.stands.0 c.requires.stands.1);
     }
 
 pub returns-clause-adds : goal.returns-clause-adds
@@ -35,7 +35,7 @@ returns-clause-adds c = λ lines line next stands.
     let fresh_open = ap is_fine_so_far c.end_and_replace-judged.ensures.fresh ∙ c.fresh_pass.ensures.open in
     subst (λ (t : Tally). StandsFor t (lines ++ line ∷ [])) (sym (c.close_part.ensures.closed ∙ ap (λ (e : Close). closed begun c.in_ok-found.found.number e) c.end_of.ensures))
     (next_stands c.args.self.now fresh c.note_part.new.self c.in_ok-found.found c.end_and_replace-judged.result line c.requires.open next fresh_stands fresh_open
-    c.in_ok-found.ensures.found c.in_ok-found.ensures.noted c.end_and_replace-judged.ensures.judges lines stands)
+    c.in_ok-found.ensures.number c.in_ok-found.ensures.found c.in_ok-found.ensures.noted c.end_and_replace-judged.ensures.judges lines stands)
 
 pub returns-clause-says : goal.returns-clause-says
 returns-clause-says c = λ lines line next stands.
@@ -44,7 +44,7 @@ returns-clause-says c = λ lines line next stands.
     let fresh_open = ap is_fine_so_far c.end_and_replace-judged.ensures.fresh ∙ c.fresh_pass.ensures.open in
     subst (λ (s : Step). Says s (lines ++ line ∷ [])) (sym (c.close_part.ensures.step ∙ ap (λ (e : Close). step_behind c.in_ok-found.found.number e) c.end_of.ensures))
     (next_says c.args.self.now fresh c.note_part.new.self c.in_ok-found.found c.end_and_replace-judged.result line c.requires.open next fresh_stands fresh_open
-    c.in_ok-found.ensures.found c.in_ok-found.ensures.noted c.end_and_replace-judged.ensures.judges lines stands)
+    c.in_ok-found.ensures.number c.in_ok-found.ensures.found c.in_ok-found.ensures.noted c.end_and_replace-judged.ensures.judges lines stands)
 
 pub returns-clause-open : goal.returns-clause-open
 returns-clause-open c =

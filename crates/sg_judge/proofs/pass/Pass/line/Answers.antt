@@ -1,36 +1,35 @@
 use Rattle.std.proofs.Common.{◌+◌, ◌<◌, ◌^◌, [], ◌∷◌, ◌++◌, Option, Some, sym, subst, ◌∙◌, arith}
+use Rattle.sg_lists.proofs.Options.{is_none-true, is_some-false}
 use Rattle.sg_ledger.specs.declared.ledger.Ledger.{Ledger}
 use Rattle.sg_judge.proofs.FirstSeal.{seal_going}
 use Rattle.sg_judge.proofs.Going.{judges-push, number_fits, says_behind-push}
 use Rattle.sg_judge.proofs.pass.Pass.line.Goals as goal
 use Rattle.sg_judge.specs.Pass.{Judges, SaysBehind}
 use Rattle.sg_judge.specs.declared.pass.Step.{Step}
-use Rattle.sg_grammar.proofs.Claims.{is_none-None}
-use Rattle.sg_grammar.proofs.Walking.{none_there}
 
 pub overflow_add-self : goal.overflow_add-self
 overflow_add-self c =
     let some = c.requires.stands in
     let fits : c.args.self.now.number + 1 < 2 ^ 32 =
     number_fits c.args.self.now.broken c.args.self.now.expect c.args.self.now.sealer c.args.self.now.ledger c.args.self.now.number some.0 some.1.judges
-    (none_there c.args.self.now.broken (sym c.is_some.ensures ∙ c.if-is_some.false)) in
+    (is_some-false c.args.self.now.broken (sym c.is_some.ensures ∙ c.if-is_some.false)) in
     omega (arith, fits)
 
 pub returns-clause-adds : goal.returns-clause-adds
 returns-clause-adds c = λ still lines stands. record {
   judges = judges-push c.args.self.now.broken c.advance-broken.result c.args.self.now.expect c.advance-broken.new.expect c.args.self.now.sealer c.advance-broken.new.sealer
-      (Some c.in-Some.ledger) (Some c.advance-broken.new.ledger) c.args.self.now.number c.args.line.now (is_none-None c.args.self.now.broken still) c.advance-broken.ensures.goes_on lines
+      (Some c.in-Some.ledger) (Some c.advance-broken.new.ledger) c.args.self.now.number c.args.line.now (is_none-true c.args.self.now.broken still) c.advance-broken.ensures.goes_on lines
       (subst (λ (o : Option Ledger). Judges c.args.self.now.broken c.args.self.now.expect c.args.self.now.sealer o c.args.self.now.number lines) c.in-Some.is stands.judges)
       (λ good. sym (c.advance-broken.ensures.whole good));
   sealed = λ good. seal_going c.args.self.now.broken c.advance-broken.result c.args.self.now.expect c.advance-broken.new.expect c.args.self.now.sealer c.advance-broken.new.sealer
-      (Some c.in-Some.ledger) (Some c.advance-broken.new.ledger) c.args.self.now.number c.args.line.now lines (is_none-None c.args.self.now.broken still) good
+      (Some c.in-Some.ledger) (Some c.advance-broken.new.ledger) c.args.self.now.number c.args.line.now lines (is_none-true c.args.self.now.broken still) good
       (subst (λ (o : Option Ledger). Judges c.args.self.now.broken c.args.self.now.expect c.args.self.now.sealer o c.args.self.now.number lines) c.in-Some.is stands.judges)
-      c.advance-broken.ensures.goes_on c.args.self.now.seal c.advance-broken.new.seal (stands.sealed (is_none-None c.args.self.now.broken still)) (c.advance-broken.ensures.seal good);
+      c.advance-broken.ensures.goes_on c.args.self.now.seal c.advance-broken.new.seal (stands.sealed (is_none-true c.args.self.now.broken still)) (c.advance-broken.ensures.seal good);
 }
 
 pub returns-clause-says : goal.returns-clause-says
 returns-clause-says c = λ still lines stands.
     subst (λ (s : Step). SaysBehind s (lines ++ c.args.line.now ∷ [])) (sym c.answer.ensures)
     (says_behind-push c.args.self.now.broken c.advance-broken.result c.args.self.now.expect c.advance-broken.new.expect c.args.self.now.sealer c.advance-broken.new.sealer
-    (Some c.in-Some.ledger) (Some c.advance-broken.new.ledger) c.args.self.now.number c.args.line.now (is_none-None c.args.self.now.broken still) c.advance-broken.ensures.goes_on lines
+    (Some c.in-Some.ledger) (Some c.advance-broken.new.ledger) c.args.self.now.number c.args.line.now (is_none-true c.args.self.now.broken still) c.advance-broken.ensures.goes_on lines
     (subst (λ (o : Option Ledger). Judges c.args.self.now.broken c.args.self.now.expect c.args.self.now.sealer o c.args.self.now.number lines) c.in-Some.is stands.judges))

@@ -1,6 +1,6 @@
 use Rattle.std.proofs.Common.{◌≡◌, ◌||◌, Bool, get_or, false, Option, sym, ap₂, ◌∙◌}
 use Rattle.sg_check.specs.Facts.{is_flagged, is_marked, is_set, opened_on}
-use Rattle.sg_check.specs.inside.ByKind.{wrong_flag_on}
+use Rattle.sg_check.specs.inside.BySide.{wrong_flag_on}
 use Rattle.sg_commit.specs.declared.Opening.{Opening}
 use Rattle.sg_ledger.proofs.Judged.{flag_judged}
 use Rattle.sg_plan.specs.declared.plan.Side.TheVariants as side

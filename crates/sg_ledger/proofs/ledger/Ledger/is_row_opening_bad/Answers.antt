@@ -1,7 +1,7 @@
 use Rattle.std.proofs.Common.{◌≡◌, ◌||◌, slice_index_or, None, Option, ap₂, ◌∙◌, arith}
 use Rattle.sg_plan.specs.declared.plan.Side.TheVariants as side
 use Rattle.sg_check.specs.Facts.{half_commitment}
-use Rattle.sg_check.specs.inside.ByKind.{bad_pointer_opening}
+use Rattle.sg_check.specs.inside.BySide.{bad_pointer_opening}
 use Rattle.sg_commit.specs.declared.CommitKind.TheVariants as commit
 use Rattle.sg_commit.specs.declared.Digest.{Digest}
 use Rattle.sg_commit.specs.declared.Opening.{Opening}

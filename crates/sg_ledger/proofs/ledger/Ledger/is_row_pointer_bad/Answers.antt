@@ -1,7 +1,7 @@
 use Rattle.std.proofs.Common.{◌≡◌, ◌||◌, Bool, get_or, false, Option, ap, ap₂, ◌∙◌}
 use Rattle.std.specs.List.{list_any}
 use Rattle.sg_check.specs.Facts.{opened_on, opens_pointer}
-use Rattle.sg_check.specs.inside.ByKind.{bad_pointer_on}
+use Rattle.sg_check.specs.inside.BySide.{bad_pointer_on}
 use Rattle.sg_commit.specs.declared.Opening.{Opening}
 use Rattle.sg_ledger.proofs.Judged.{pointer_judged}
 use Rattle.sg_plan.specs.declared.plan.Side.TheVariants as side

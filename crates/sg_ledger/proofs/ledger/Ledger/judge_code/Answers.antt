@@ -1,16 +1,13 @@
-use Rattle.std.proofs.Common.{◌≡◌, ℕ, ◌+◌, ◌&&◌, nat_le, not, Bool, Option, None, get_or, ap, ap₂, ◌∙◌, arith}
+use Rattle.std.proofs.Common.{◌≡◌, ℕ, ◌+◌, ◌&&◌, nat_le, not, Option, None, get_or, ap, ap₂, ◌∙◌, arith}
 use Rattle.sg_grammar.specs.Lines.{is_cast}
 use Rattle.sg_check.specs.Facts.{code_commitment}
 use Rattle.sg_check.specs.Kinds.{code_opening, opens_digest}
-use Rattle.sg_check.specs.inside.ByKind.{bad_opening, bad_rule}
 use Rattle.sg_commit.specs.declared.CommitKind.TheVariants as commit
 use Rattle.sg_commit.specs.declared.Digest.{Digest}
 use Rattle.sg_ledger.proofs.Judged.{rule_judged}
 use Rattle.sg_ledger.proofs.Places.{entry_place-end}
-use Rattle.sg_ledger.specs.inside.Reads.{code_kind}
 use Rattle.sg_plan.proofs.PlanLaws.{bounds, entry_tells}
 use Rattle.sg_plan.specs.Ballots.{candidates_of, entry_at, entry_place}
-use Rattle.sg_grammar.specs.Placed.Placed.{CodeAt}
 use Rattle.sg_ledger.proofs.ledger.Ledger.judge_code.Goals as goal
 
 pub overflow_add-own : goal.overflow_add-own
@@ -74,7 +71,6 @@ returns c = λ lines tells.
     let few = bounds plan c.plan.ensures.good in
     let place = c.entry_place-at.result in
     let entry = entry_at plan race c.args.ballot c.args.column in
-    let line = CodeAt c.args.block c.args.ballot race c.args.column c.args.code.now in
     let entry_is : c.first_entry-first.result + c.args.column ≡ entry = omega (arith, c.first_entry-first.ensures.first) in
     let place_is : place + c.args.column ≡ entry_place plan race entry = omega (arith, c.entry_place-at.ensures.place, c.first_entry-first.ensures.first) in
     let digest_is : get_or c.args.self.now.commitments.codes (place + c.args.column) None ≡ code_commitment race entry lines =
@@ -87,7 +83,4 @@ returns c = λ lines tells.
     in_plan.0 in_plan.3 (omega (arith, few.few_votes race, few.few_candidates race)) tells.placed tells.codes.known tells.codes.marks
     (c.entry_place-at.ensures.place ∙ ap (λ (e : ℕ). entry_place plan race e) c.first_entry-first.ensures.first)
     (c.has_enough-many.ensures ∙ ap (λ (v : ℕ). is_cast c.args.block && nat_le v (get_or kept.marks place 0)) c.votes.ensures) found none in
-    let dispute = c.is_answer_wrong-dispute.ensures lines tells in
-    c.kind_of_code.ensures
-    ∙ (ap₂ (λ (o r : Bool). code_kind o r c.is_answer_wrong-dispute.result) opening rule
-    ∙ ap (λ (d : Bool). code_kind (bad_opening plan lines line) (bad_rule plan lines line) d) dispute)
+    rw (opening, rule, c.is_answer_wrong-dispute.ensures lines tells) at c.kind_of_code.ensures

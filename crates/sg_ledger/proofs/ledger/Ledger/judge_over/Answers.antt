@@ -1,7 +1,6 @@
-use Rattle.std.proofs.Common.{Bool, ap, ◌∙◌, arith}
+use Rattle.std.proofs.Common.{◌∙◌, arith}
 use Rattle.sg_check.specs.Facts.{marks_ballot}
 use Rattle.sg_ledger.proofs.ShownJudged.{over_judged}
-use Rattle.sg_ledger.specs.inside.Reads.{rule_kind}
 use Rattle.sg_ledger.specs.inside.Tables.{most_marks}
 use Rattle.sg_plan.proofs.PlanLaws.{bounds}
 use Rattle.sg_ledger.proofs.ledger.Ledger.judge_over.Goals as goal
@@ -18,4 +17,5 @@ returns c = λ lines tells.
     let marks = tells.codes.marks c.args.race c.args.ballot c.requires.placed.0 c.requires.placed.3 in
     let place = rw c.first_entry-first.ensures.first at c.entry_place-at.ensures.place in
     let many = rw place at c.has_mark.ensures in
-    c.kind_of_rule.ensures ∙ ap (λ (b : Bool). rule_kind b) (many ∙ over_judged most_marks _ (marks_ballot c.args.ballot c.args.race) lines (omega arith) marks)
+    let rule = many ∙ over_judged most_marks _ (marks_ballot c.args.ballot c.args.race) lines (omega arith) marks in
+    rw rule at c.kind_of_rule.ensures

@@ -3,8 +3,5 @@ use Rattle.sg_record.proofs.FormedLists.{formed_parts}
 use Rattle.sg_record.proofs.Marks.{blocks_pass}
 use Rattle.sg_record.proofs.listed.RecordPosts.put_blocks.Goals as goal
 
-pub put_blocks-requires-clause-limits : goal.put_blocks-requires-clause-limits
-put_blocks-requires-clause-limits g c = (formed_parts c.args.self.now c.requires.ready).plan
-
 pub put_blocks-requires-clause-fates : goal.put_blocks-requires-clause-fates
-put_blocks-requires-clause-fates g c = blocks_pass c.args.self.now.plan 0 c.args.self.now.ballots (formed_parts c.args.self.now c.requires.ready).blocks
+put_blocks-requires-clause-fates g c = rw c.requires.index (blocks_pass c.args.self.now.plan 0 c.args.self.now.ballots (formed_parts c.args.self.now c.requires.ready).blocks)

@@ -1,11 +1,12 @@
 -- Each turn adds the code of the next column, where it is marked.
 use Rattle.std.proofs.Common.{◌≡◌, ℕ, map, arith, ap, sym, ◌∙◌}
 use Rattle.std.specs.List.{filter}
+use Rattle.sg_lists.proofs.Lists.{map-map}
 use Rattle.sg_plan.specs.Ballots.{candidates_of}
 use Rattle.sg_streams.specs.Numbers.{numbers_below}
 use Rattle.sg_tables.specs.Posts.{column_marked, marked_columns, posted_codes, row_entry}
 use Rattle.sg_tables.specs.Tables.{code_of_entry}
-use Rattle.sg_tables.proofs.Filtered.{map-twice, passing-more, passing-none, passing-same}
+use Rattle.sg_tables.proofs.Filtered.{passing-more, passing-none, passing-same}
 use Rattle.sg_tables.proofs.table_set.Tables.posted_codes.Goals as goal
 
 pub loop-column-init : goal.loop-column-init
@@ -42,4 +43,4 @@ returns c =
     let all : c.loop-column.column ≡ candidates_of plan c.args.race = omega (arith, c.loop-column-test.false, c.loop-column.auto.column-end, c.lists.ensures.lists.candidates) in
     c.loop-column.invariant
     ∙ ap (λ n. map code (filter (column_marked plan seed c.args.race c.args.ballot_row c.args.fate.now) (numbers_below n))) all
-    ∙ sym (map-twice (code_of_entry plan seed c.args.race) (row_entry plan c.args.race c.args.ballot_row) (marked_columns plan seed c.args.race c.args.ballot_row c.args.fate.now))
+    ∙ sym (map-map (code_of_entry plan seed c.args.race) (row_entry plan c.args.race c.args.ballot_row) (marked_columns plan seed c.args.race c.args.ballot_row c.args.fate.now))

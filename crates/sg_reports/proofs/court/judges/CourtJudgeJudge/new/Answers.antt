@@ -7,3 +7,9 @@ returns-in_err-hearing-clause-unsettled g c = none_unsettled
 
 pub returns-in_err-hearing-clause-wants : goal.returns-in_err-hearing-clause-wants
 returns-in_err-hearing-clause-wants g c = none_unsettled
+
+pub returns-clause-unsettled : goal.returns-clause-unsettled
+returns-clause-unsettled g c = none_unsettled
+
+pub returns-clause-wants : goal.returns-clause-wants
+returns-clause-wants g c = none_unsettled

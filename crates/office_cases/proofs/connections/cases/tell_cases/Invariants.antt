@@ -1,0 +1,10 @@
+-- The setup is text.
+use denote.Text.{Utf8}
+use denote.Shadow.{shadow}
+use Rattle.office_cases.proofs.connections.cases.tell_cases.Given as goal
+
+abbrev pub invariant-loop-block : goal.invariant-loop-block
+invariant-loop-block g l =
+    (goal.iterator-loop-block g).can_next l.block-iterator
+    × (goal.iterator-loop-block g).is_finite l.block-iterator
+    × shadow (Utf8 l.setup)
