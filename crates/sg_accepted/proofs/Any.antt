@@ -1,8 +1,10 @@
--- Tests that one of the first numbers passes.
+-- Tests that one of the first numbers passes, and sums to which one of them adds.
 use Rattle.std.proofs.Common.{◌≡◌, ◌≢◌, ℕ, zero, suc, ◌+◌, ◌<◌, Bool, true, false, ◌||◌, [], ◌∷◌, refl, ap, ◌∙◌, arith}
 use Rattle.std.proofs.Math.Bool.{or-false}
 use Rattle.std.specs.List.{list_any, range_with_len}
+use Rattle.std.specs.Prelude.{sum_by}
 use Rattle.sg_lists.proofs.Any.{NumberPasses, none-range, number-range, range-number}
+use Rattle.sg_lists.proofs.Sums.{sum-only}
 use Rattle.sg_streams.specs.Numbers.{numbers_below}
 use Rattle.sg_grammar.specs.Due.{numbered}
 use Rattle.sg_check.proofs.Fronts.{any-at}
@@ -31,3 +33,8 @@ any-number test count number below others =
     any-range test 0 count
     ∙ (any-at test (λ k. k ∷ []) 0 count number (omega arith) (omega (arith, below)) (λ k after before other. ap (λ (b : Bool). b || false) (others k (omega (arith, before)) other))
     ∙ or-false (test number))
+
+-- only this number counts
+pub sum-number : (g : ℕ → ℕ) (count number : ℕ) → number < count → ((k : ℕ) → k < count → k ≢ number → g k ≡ 0) → sum_by g (numbers_below count) ≡ g number
+unfolding numbers_below
+sum-number g count number within none = sum-only g 0 count number (omega arith) (omega (arith, within)) (λ k a b other. none k (omega (arith, b)) other)

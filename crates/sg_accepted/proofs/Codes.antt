@@ -1,5 +1,5 @@
 -- The codes that the blocks of a posted record show in a race: those of marks, and all of an audited ballot.
-use Rattle.std.proofs.Common.{◌≡◌, ◌≢◌, ℕ, ◌+◌, ◌-◌, ◌*◌, ◌/◌, ◌%◌, ◌<◌, ◌≤◌, ◌==◌, nat_lt, Bool, true, false, ◌&&◌, ◌||◌, not, cond, inl, inr, List, [], ◌∷◌, ◌++◌, length, map, filter, None, refl, sym, ap, ◌∙◌, arith, append-nil}
+use Rattle.std.proofs.Common.{◌≡◌, ◌≢◌, ℕ, ◌+◌, ◌-◌, ◌*◌, ◌/◌, ◌%◌, ◌<◌, ◌≤◌, ◌==◌, nat_lt, Bool, true, false, ◌&&◌, ◌||◌, not, cond, inl, inr, List, [], ◌∷◌, ◌++◌, length, map, None, refl, sym, ap, ◌∙◌, arith, append-nil}
 use Rattle.std.proofs.Math.Bool.{and-false, and-true}
 use Rattle.std.proofs.lemmas.Bool.{and_parts, cases_eq, eq-eqb, ltb-true, ne_eqb}
 use Rattle.std.proofs.lemmas.List.Concat.{flat_map-append}
@@ -10,7 +10,7 @@ use Rattle.std.specs.Prelude.{sum_by}
 use Rattle.sg_lists.proofs.Any.{any-count, any-filter, any-flat, any-map}
 use Rattle.sg_lists.proofs.Bools.{one_if}
 use Rattle.sg_lists.proofs.Each.{EachOf, of-all, of-into, of-none}
-use Rattle.sg_lists.proofs.Sums.{sum-filter, sum-flat, sum-map, sum-of, sum-same, sum-zero}
+use Rattle.sg_lists.proofs.Sums.{sum-flat, sum-map, sum-of, sum-zero}
 use Rattle.sg_plan.proofs.PlanLaws.{bounds}
 use Rattle.sg_plan.specs.Ballots.{ballot_has, ballot_row, candidates_of, entry_at, is_over, races_of_ballot}
 use Rattle.sg_plan.specs.Fates.{fate_fits, has_mark, mark_fits, marks_differ}
@@ -21,30 +21,31 @@ use Rattle.sg_plan.specs.declared.plan.Fate.TheVariants as fate
 use Rattle.sg_plan.specs.declared.plan.Mark.{Mark}
 use Rattle.sg_plan.specs.declared.plan.Plan.{Plan}
 use Rattle.sg_streams.specs.Numbers.{numbers_below}
-use Rattle.sg_tables.specs.Posts.{fate_marks, marked_columns, void_races}
+use Rattle.sg_tables.specs.Posts.{fate_marks, marked_columns}
 use Rattle.sg_tables.specs.Tables.{shown_by}
 use Rattle.sg_forms.specs.declared.line.CodeLine.{CodeLine}
-use Rattle.sg_grammar.specs.Due.{each}
 use Rattle.sg_grammar.specs.Placed.{Placed}
 use Rattle.sg_grammar.specs.Placed.Placed.{Begun, CodeAt, OverAt, PaperAt}
 use Rattle.sg_grammar.specs.declared.state.Block.TheVariants as block
-use Rattle.sg_record.specs.Places.{block_places, cast_race_places, code_place, commit_places, paper_places, places_in}
+use Rattle.sg_record.specs.Places.{places_in}
+use Rattle.sg_record.specs.Tree.{as_place, block_tree, cast_leaf, cast_place, code_leaf, commit_tree, paper_tree}
 use Rattle.sg_record.specs.declared.record.BallotBlock.{BallotBlock}
 use Rattle.sg_record.specs.declared.record.BlockFate.{BlockFate}
 use Rattle.sg_record.specs.declared.record.BlockFate.TheVariants as blocked
+use Rattle.sg_record.specs.declared.record.CastLine.{CastLine}
+use Rattle.sg_record.specs.declared.record.CastLine.TheVariants as cast
 use Rattle.sg_record.specs.declared.record.Record.{Record}
 use Rattle.sg_check.specs.Facts.{is_marked as posted_marked, marks_entry}
 use Rattle.sg_post.proofs.OwnCodes.{marks-have}
 use Rattle.sg_post.proofs.StoryFits.{fits-later, fits_ballot}
 use Rattle.sg_post.specs.Fits.{fates_fit}
 use Rattle.sg_post.specs.Marks.{is_entry_of, is_entry_marked, told_marks}
-use Rattle.sg_post.specs.Posted.{audited_codes, audited_race_codes, cast_codes, code_in_row, code_line_of, fate_blocks, marked_codes, posted_record, race_codes_of, told_blocks}
+use Rattle.sg_post.specs.Posted.{audited_codes, audited_race_codes, cast_lines, code_in_row, code_line_of, fate_blocks, posted_record, race_cast_lines, race_codes_of, told_blocks}
 use Rattle.sg_post.specs.declared.story.Claimed.{Claimed}
 use Rattle.sg_post.specs.declared.story.Told.{Told}
 use Rattle.sg_facts.proofs.Rising.{IsPart, all-behind, ballots-rise, behind_ballots, behind_commits, blocks, commits_are, head, head_is, part_of}
 use Rattle.sg_facts.proofs.Sections.{papers-of}
-use Rattle.sg_accepted.proofs.Any.{any-number, none-below}
-use Rattle.sg_accepted.proofs.Sums.{sum-at, sum-number}
+use Rattle.sg_accepted.proofs.Any.{any-number, none-below, sum-number}
 use Rattle.sg_accepted.specs.Unaltered.{told_fate}
 
 -- THE CODES OF A BALLOT
@@ -60,9 +61,7 @@ audited_code_at plan seed race ballot column = CodeAt block.Audited ballot race 
 abbrev pub told_codes : Plan → List ℕ → ℕ → ℕ → Fate → List Placed
 told_codes plan seed race ballot (fate.Cast marks) = map (cast_code plan seed race ballot) (marked_columns plan seed race (ballot_row plan race ballot) (fate.Cast marks))
 told_codes plan seed race ballot (fate.Audited paper) = cond (ballot_has plan ballot race) (map (audited_code_at plan seed race ballot) (numbers_below (candidates_of plan race))) []
-told_codes plan seed race ballot fate.Unused = []
-told_codes plan seed race ballot fate.Spoiled = []
-told_codes plan seed race ballot fate.Voided = []
+told_codes plan seed race ballot other = []
 
 abbrev pub fates_codes : Plan → List ℕ → ℕ → List Told → List Placed
 fates_codes plan seed race fates = flat_map (λ told. told_codes plan seed race told.ballot told.fate) fates
@@ -77,11 +76,9 @@ module _ (P : Placed → Type 0) (plan : Plan) (seed : List ℕ) (race ballot : 
       at_has false = tt
 
   pub codes-each : ((column : ℕ) → P (cast_code plan seed race ballot column)) → (what : Fate) → EachOf P (told_codes plan seed race ballot what)
-  codes-each cast (fate.Cast marks) = of-all P (cast_code plan seed race ballot) (marked_columns plan seed race (ballot_row plan race ballot) (fate.Cast marks)) cast
-  codes-each cast (fate.Audited paper) = audited-each paper
-  codes-each cast fate.Unused = tt
-  codes-each cast fate.Spoiled = tt
-  codes-each cast fate.Voided = tt
+  codes-each marked (fate.Cast marks) = of-all P (cast_code plan seed race ballot) (marked_columns plan seed race (ballot_row plan race ballot) (fate.Cast marks)) marked
+  codes-each marked (fate.Audited paper) = audited-each paper
+  codes-each marked other = tt
 
 -- the line is a code of the race in the block of a cast or of an audited ballot
 abbrev pub shows_in : ℕ → Placed → Bool
@@ -102,69 +99,58 @@ module _ (plan : Plan) (seed : List ℕ) (race : ℕ) (within : race < length pl
   begun : (ballot : ℕ) (lines : List Placed) → sum_by g (Begun ballot ∷ lines) ≡ sum_by g lines
   begun ballot lines = omega (arith, sum_by-cons g (Begun ballot) lines, only (Begun ballot) refl)
 
-  -- the races of a cast ballot, put together from all its codes
-  race-sum : (ballot : ℕ) (codes : List CodeLine) (overs : List ℕ) (r : ℕ)
-      → sum_by g (cast_race_places ballot codes overs r) ≡ sum_by (λ code. cond (code.race == r) (g (code_place block.Cast ballot code)) 0) codes
-  race-sum ballot codes overs r =
-      let own : List CodeLine = filter (λ code. code.race == r) codes in
-      omega (
-        arith,
-        sum_by-append g (map (code_place block.Cast ballot) own) (cond (list_any (λ over. over == r) overs) (OverAt ballot r ∷ []) []),
-        over (list_any (λ over. over == r) overs),
-        sum-map g (code_place block.Cast ballot) own ∙ sum-filter (λ code. g (code_place block.Cast ballot code)) (λ code. code.race == r) codes,
-      )
+  -- a race of a cast ballot
+  race-sum : (ballot : ℕ) (marks : List Mark) (r : ℕ)
+      → sum_by (λ line. g (cast_place ballot line)) (race_cast_lines plan seed ballot (fate.Cast marks) r) ≡ sum_by (λ c. g (cast_code plan seed r ballot c)) (marked_columns plan seed r (ballot_row plan r ballot) (fate.Cast marks))
+  unfolding code_in_row
+  race-sum ballot marks r =
+      let columns : List ℕ = marked_columns plan seed r (ballot_row plan r ballot) (fate.Cast marks) in
+      let codes : List CodeLine = map (code_line_of plan seed ballot r) columns in
+      let shown : sum_by h (map cast.Code codes) ≡ sum_by (λ c. g (cast_code plan seed r ballot c)) columns = sum-map h cast.Code codes ∙ sum-map (λ code. h (cast.Code code)) (code_line_of plan seed ballot r) columns in
+      sum_by-append h (map cast.Code codes) (cond (is_over plan marks r) (cast.Over r ∷ []) []) ∙ omega (arith, shown, over (is_over plan marks r))
     where
-      over : (b : Bool) → sum_by g (cond b (OverAt ballot r ∷ []) []) ≡ 0
-      over true = sum-of g (OverAt ballot r ∷ []) (only (OverAt ballot r) refl, tt)
+      h : CastLine → ℕ
+      h line = g (cast_place ballot line)
+
+      over : (b : Bool) → sum_by h (cond b (cast.Over r ∷ []) []) ≡ 0
+      over true = sum-of h (cast.Over r ∷ []) (only (OverAt ballot r) refl, tt)
       over false = refl
 
-  other-code : (ballot r : ℕ) (code : CodeLine) → r ≢ race → (cond (code.race == r) (g (code_place block.Cast ballot code)) 0) ≡ 0
-  other-code ballot r code other =
-      elim (cases_eq code.race r) [
-        | inl same ↦ rw (eq-eqb code.race r same) (only (code_place block.Cast ballot code) (ne_eqb code.race race (λ e. other (sym same ∙ e))))
-        | inr differ ↦ rw (ne_eqb code.race r differ) refl
-      ]
-
-  cast-sum : (ballot : ℕ) (marks : List Mark) (overs : List ℕ)
-      → sum_by g (each (cast_race_places ballot (cast_codes plan seed ballot (fate.Cast marks)) overs) 0 (length plan.races)) ≡ sum_by g (told_codes plan seed race ballot (fate.Cast marks))
-  unfolding cast_codes code_in_row
-  cast-sum ballot marks overs =
-      let codes : List CodeLine = cast_codes plan seed ballot (fate.Cast marks) in
-      let h : CodeLine → ℕ = λ code. cond (code.race == race) (g (code_place block.Cast ballot code)) 0 in
+  cast-sum : (ballot : ℕ) (marks : List Mark) → sum_by g (map (cast_leaf as_place ballot) (cast_lines plan seed ballot (fate.Cast marks))) ≡ sum_by g (told_codes plan seed race ballot (fate.Cast marks))
+  unfolding cast_lines
+  cast-sum ballot marks =
+      let h : CastLine → ℕ = λ line. g (cast_place ballot line) in
+      let lines : ℕ → List CastLine = race_cast_lines plan seed ballot (fate.Cast marks) in
       let columns : ℕ → List ℕ = λ r. marked_columns plan seed r (ballot_row plan r ballot) (fate.Cast marks) in
-      sum-at g (cast_race_places ballot codes overs) 0 (length plan.races - 0) race (omega arith) (omega (arith, within))
-      (λ r a b other. race-sum ballot codes overs r ∙ sum-zero (λ (code : CodeLine). cond (code.race == r) (g (code_place block.Cast ballot code)) 0) codes (λ code. other-code ballot r code other))
-      ∙ (race-sum ballot codes overs race
-      ∙ (sum-flat h (marked_codes plan seed ballot (fate.Cast marks)) (numbers_below (length plan.races))
-      ∙ (sum-number (λ r. sum_by h (marked_codes plan seed ballot (fate.Cast marks) r)) (length plan.races) race within
-      (λ r below other. sum-map h (code_line_of plan seed ballot r) (columns r) ∙ sum-zero (λ c. h (code_line_of plan seed ballot r c)) (columns r) (λ c. rw (ne_eqb r race other) refl))
-      ∙ (sum-map h (code_line_of plan seed ballot race) (columns race)
-      ∙ (sum-same (λ c. h (code_line_of plan seed ballot race c)) (λ c. g (cast_code plan seed race ballot c)) (columns race) (λ c. rw (eq-eqb race race refl) refl)
-      ∙ sym (sum-map g (cast_code plan seed race ballot) (columns race)))))))
+      sum-map g (cast_leaf as_place ballot) (cast_lines plan seed ballot (fate.Cast marks))
+      ∙ (sum-flat h lines (numbers_below (length plan.races))
+      ∙ (sum-number (λ r. sum_by h (lines r)) (length plan.races) race within
+      (λ r below other. race-sum ballot marks r ∙ sum-zero (λ c. g (cast_code plan seed r ballot c)) (columns r) (λ c. only (cast_code plan seed r ballot c) (ne_eqb r race other)))
+      ∙ (race-sum ballot marks race ∙ sym (sum-map g (cast_code plan seed race ballot) (columns race)))))
 
   audit-sum : (ballot : ℕ) (paper : List (List ℕ))
-      → sum_by g (paper_places ballot (races_of_ballot plan ballot) paper ++ map (code_place block.Audited ballot) (audited_codes plan seed ballot)) ≡ sum_by g (told_codes plan seed race ballot (fate.Audited paper))
+      → sum_by g (paper_tree as_place ballot (races_of_ballot plan ballot) paper ++ map (code_leaf as_place block.Audited ballot) (audited_codes plan seed ballot)) ≡ sum_by g (told_codes plan seed race ballot (fate.Audited paper))
   unfolding audited_codes code_in_row
   audit-sum ballot paper =
-      let papers : List Placed = paper_places ballot (races_of_ballot plan ballot) paper in
+      let papers : List Placed = paper_tree as_place ballot (races_of_ballot plan ballot) paper in
       let codes : List CodeLine = audited_codes plan seed ballot in
       omega (
         arith,
-        sum_by-append g papers (map (code_place block.Audited ballot) codes),
+        sum_by-append g papers (map (code_leaf as_place block.Audited ballot) codes),
         sum-of g papers (papers-of (λ line. g line ≡ 0) (λ b r l. only (PaperAt b r l) refl) ballot (races_of_ballot plan ballot) paper),
-        sum-map g (code_place block.Audited ballot) codes
+        sum-map g (code_leaf as_place block.Audited ballot) codes
             ∙ (sum-flat h (audited_race_codes plan seed ballot) (numbers_below (length plan.races))
             ∙ (sum-number (λ r. sum_by h (audited_race_codes plan seed ballot r)) (length plan.races) race within (λ r below other. elsewhere r other (ballot_has plan ballot r))
             ∙ here (ballot_has plan ballot race))),
       )
     where
       h : CodeLine → ℕ
-      h code = g (code_place block.Audited ballot code)
+      h code = g (code_leaf as_place block.Audited ballot code)
 
       elsewhere : (r : ℕ) → r ≢ race → (b : Bool) → sum_by h (cond b (race_codes_of plan seed ballot r) []) ≡ 0
       elsewhere r other true =
           sum-map h (code_line_of plan seed ballot r) (numbers_below (candidates_of plan r))
-          ∙ sum-zero (λ c. h (code_line_of plan seed ballot r c)) (numbers_below (candidates_of plan r)) (λ c. only (code_place block.Audited ballot (code_line_of plan seed ballot r c)) (ne_eqb r race other))
+          ∙ sum-zero (λ c. h (code_line_of plan seed ballot r c)) (numbers_below (candidates_of plan r)) (λ c. only (code_leaf as_place block.Audited ballot (code_line_of plan seed ballot r c)) (ne_eqb r race other))
       elsewhere r other false = refl
 
       here : (b : Bool) → sum_by h (cond b (race_codes_of plan seed ballot race) []) ≡ sum_by g (cond b (map (audited_code_at plan seed race ballot) (numbers_below (candidates_of plan race))) [])
@@ -172,28 +158,28 @@ module _ (plan : Plan) (seed : List ℕ) (race : ℕ) (within : race < length pl
       here false = refl
 
   block-sum : (ballot : ℕ) (what : Fate)
-      → sum_by g (flat_map (block_places plan) (map (λ (w : BlockFate). let one : BallotBlock = record { ballot = ballot; fate = w } in one) (fate_blocks plan seed ballot what))) ≡ sum_by g (told_codes plan seed race ballot what)
+      → sum_by g (flat_map (block_tree as_place plan) (map (λ (w : BlockFate). let one : BallotBlock = record { ballot = ballot; fate = w } in one) (fate_blocks plan seed ballot what))) ≡ sum_by g (told_codes plan seed race ballot what)
   block-sum ballot fate.Unused = refl
   block-sum ballot (fate.Cast marks) =
-      let lines : List Placed = each (cast_race_places ballot (cast_codes plan seed ballot (fate.Cast marks)) (void_races plan (fate.Cast marks))) 0 (length plan.races) in
-      ap (sum_by g) (append-nil (Begun ballot ∷ lines)) ∙ (begun ballot lines ∙ cast-sum ballot marks (void_races plan (fate.Cast marks)))
+      let lines : List Placed = map (cast_leaf as_place ballot) (cast_lines plan seed ballot (fate.Cast marks)) in
+      ap (sum_by g) (append-nil (Begun ballot ∷ lines)) ∙ (begun ballot lines ∙ cast-sum ballot marks)
   block-sum ballot fate.Spoiled = begun ballot []
   block-sum ballot (fate.Audited paper) =
-      let lines : List Placed = paper_places ballot (races_of_ballot plan ballot) paper ++ map (code_place block.Audited ballot) (audited_codes plan seed ballot) in
+      let lines : List Placed = paper_tree as_place ballot (races_of_ballot plan ballot) paper ++ map (code_leaf as_place block.Audited ballot) (audited_codes plan seed ballot) in
       ap (sum_by g) (append-nil (Begun ballot ∷ lines)) ∙ (begun ballot lines ∙ audit-sum ballot paper)
   block-sum ballot fate.Voided = at_version (plan.version == 2)
     where
-      at_version : (b : Bool) → sum_by g (flat_map (block_places plan) (record { ballot = ballot; fate = cond b blocked.Voided blocked.Spoiled } ∷ [])) ≡ 0
+      at_version : (b : Bool) → sum_by g (flat_map (block_tree as_place plan) (record { ballot = ballot; fate = cond b blocked.Voided blocked.Spoiled } ∷ [])) ≡ 0
       at_version true = begun ballot []
       at_version false = begun ballot []
 
-  blocks-sum : (fates : List Told) → sum_by g (flat_map (block_places plan) (flat_map (told_blocks plan seed) fates)) ≡ sum_by g (fates_codes plan seed race fates)
+  blocks-sum : (fates : List Told) → sum_by g (flat_map (block_tree as_place plan) (flat_map (told_blocks plan seed) fates)) ≡ sum_by g (fates_codes plan seed race fates)
   blocks-sum [] = refl
   blocks-sum (told ∷ fates) =
-      ap (sum_by g) (flat_map-append (block_places plan) (told_blocks plan seed told) (flat_map (told_blocks plan seed) fates))
+      ap (sum_by g) (flat_map-append (block_tree as_place plan) (told_blocks plan seed told) (flat_map (told_blocks plan seed) fates))
       ∙ omega (
         arith,
-        sum_by-append g (flat_map (block_places plan) (told_blocks plan seed told)) (flat_map (block_places plan) (flat_map (told_blocks plan seed) fates)),
+        sum_by-append g (flat_map (block_tree as_place plan) (told_blocks plan seed told)) (flat_map (block_tree as_place plan) (flat_map (told_blocks plan seed) fates)),
         sum_by-append g (told_codes plan seed race told.ballot told.fate) (fates_codes plan seed race fates),
         block-sum told.ballot told.fate,
         blocks-sum fates,
@@ -207,11 +193,11 @@ module _ (plan : Plan) (seed : List ℕ) (race : ℕ) (within : race < length pl
       let none : (line : Placed) → part_of line ≢ 3 → g line ≡ 0 = λ line other. only line (other-part race line other) in
       omega (
         arith,
-        sum_by-append g (head posted) (commit_places posted ++ behind_commits posted),
-        sum_by-append g (commit_places posted) (behind_commits posted),
+        sum_by-append g (head posted) (commit_tree as_place posted ++ behind_commits posted),
+        sum_by-append g (commit_tree as_place posted) (behind_commits posted),
         sum_by-append g (blocks posted) (behind_ballots posted),
         sum-of g (head posted) (of-into (IsPart 0) (λ line. g line ≡ 0) (head posted) (λ line is. none line (λ e. omega (arith, is, e))) (head_is posted)),
-        sum-of g (commit_places posted) (of-into (IsPart 2) (λ line. g line ≡ 0) (commit_places posted) (λ line is. none line (λ e. omega (arith, is, e))) (commits_are posted)),
+        sum-of g (commit_tree as_place posted) (of-into (IsPart 2) (λ line. g line ≡ 0) (commit_tree as_place posted) (λ line is. none line (λ e. omega (arith, is, e))) (commits_are posted)),
         sum-of g (behind_ballots posted)
             (of-into (λ line. 4 ≤ part_of line) (λ line. g line ≡ 0) (behind_ballots posted) (λ line less. none line (λ e. omega (arith, less, e))) (all-behind 4 (behind_ballots posted) (ballots-rise posted))),
         blocks-sum fates,
@@ -306,12 +292,10 @@ told-marked plan seed race entry ballot (fate.Cast marks) some fit =
     with_race true same marked counts into = refl
     with_race false same true counts into = let no : false ≡ true = into refl in cc
     with_race false same false counts into = and-false same
-told-marked plan seed race entry ballot fate.Unused some fit = sym (and-false (is_entry_of plan race entry ballot))
-told-marked plan seed race entry ballot fate.Spoiled some fit = sym (and-false (is_entry_of plan race entry ballot))
 told-marked plan seed race entry ballot (fate.Audited paper) some fit =
     of-none (marks_entry plan race entry) (told_codes plan seed race ballot (fate.Audited paper)) (audited-each (λ (line : Placed). marks_entry plan race entry line ≡ false) plan seed race ballot (λ column. refl) paper)
     ∙ sym (and-false (is_entry_of plan race entry ballot))
-told-marked plan seed race entry ballot fate.Voided some fit = sym (and-false (is_entry_of plan race entry ballot))
+told-marked plan seed race entry ballot other some fit = sym (and-false (is_entry_of plan race entry ballot))
 
 fates-marked : (plan : Plan) (seed : List ℕ) (race entry last : ℕ) (fates : List Told) → 0 < candidates_of plan race → fates_fit plan last fates ≡ true
     → list_any (λ told. list_any (marks_entry plan race entry) (told_codes plan seed race told.ballot told.fate)) fates ≡ list_any (told_marks plan seed race entry) fates

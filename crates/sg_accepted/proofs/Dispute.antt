@@ -29,13 +29,14 @@ use Rattle.sg_forms.specs.declared.line.CodeLine.{CodeLine}
 use Rattle.sg_grammar.specs.Placed.{Placed}
 use Rattle.sg_grammar.specs.Placed.Placed.{CodeAt, Disputed}
 use Rattle.sg_grammar.specs.declared.state.Block.TheVariants as block
-use Rattle.sg_record.specs.Places.{code_place, commit_places, dispute_places, draw_place, opening_places, places_in, result_places}
+use Rattle.sg_record.specs.Places.{places_in}
+use Rattle.sg_record.specs.Tree.{as_place, code_leaf, commit_tree, dispute_tree, draw_leaf, opening_tree, result_tree}
 use Rattle.sg_record.specs.declared.record.Record.{Record}
 use Rattle.sg_check.specs.Facts.{DisputedCode, last_claim, marks_code, shows_disputed}
 use Rattle.sg_check.specs.Kinds.{bad_placed, is_right, wrong_answer}
 use Rattle.sg_check.specs.declared.judged.Kind.TheVariants as kind
 use Rattle.sg_post.proofs.Claims.{has-within}
-use Rattle.sg_post.proofs.MarkedCodes.{marked-counted, posts_code, right-same}
+use Rattle.sg_post.proofs.MarkedCodes.{posts_code, right-same}
 use Rattle.sg_post.specs.Posted.{code_in_row, code_line_of, dispute_of, posted_record}
 use Rattle.sg_post.specs.declared.story.Claimed.{Claimed}
 use Rattle.sg_post.specs.declared.story.Told.{Told}
@@ -80,12 +81,10 @@ told-code plan seed ballot race code (fate.Cast marks) =
     let shows : CodeLine → Bool = λ line. line.code == code in
     any-map (marks_code ballot race code) (cast_code plan seed race ballot) columns
     ∙ (any-same (λ c. marks_code ballot race code (cast_code plan seed race ballot c)) (λ c. shows (code_line_of plan seed ballot race c)) columns (λ c. rw (eq-eqb ballot ballot refl, eq-eqb race race refl) refl)
-    ∙ (sym (any-map shows (code_line_of plan seed ballot race) columns) ∙ ap (list_any shows) (marked-counted plan seed marks ballot race)))
+    ∙ sym (any-map shows (code_line_of plan seed ballot race) columns))
 told-code plan seed ballot race code (fate.Audited paper) =
     of-none (marks_code ballot race code) (told_codes plan seed race ballot (fate.Audited paper)) (audited-each (λ line. marks_code ballot race code line ≡ false) plan seed race ballot (λ column. refl) paper)
-told-code plan seed ballot race code fate.Unused = refl
-told-code plan seed ballot race code fate.Spoiled = refl
-told-code plan seed ballot race code fate.Voided = refl
+told-code plan seed ballot race code other = refl
 
 -- THE KIND
 
@@ -97,7 +96,7 @@ last-behind (Disputed b r c w ∷ xs) ballot race code word ys none =
     ap (λ (o : Option DisputedCode). option_map_or Some o (Some (record { code = c; answer = w; behind = xs ++ Disputed ballot race code word ∷ ys }))) (last-behind xs ballot race code word ys none)
 last-behind (line ∷ xs) ballot race code word ys none = last-behind xs ballot race code word ys none
 
-codes-claim_nothing : (ballot : ℕ) (codes : List CodeLine) → last_claim (map (code_place block.Dispute ballot) codes) ≡ None
+codes-claim_nothing : (ballot : ℕ) (codes : List CodeLine) → last_claim (map (code_leaf as_place block.Dispute ballot) codes) ≡ None
 codes-claim_nothing ballot [] = refl
 codes-claim_nothing ballot (code ∷ codes) = codes-claim_nothing ballot codes
 
@@ -108,7 +107,7 @@ never-bad plan (CodeAt block.Audited ballot race column code) other front = refl
 never-bad plan (CodeAt block.Dispute ballot race column code) other front = absurd (other refl)
 never-bad plan line other front = refl
 
-draw-never : (plan : Plan) (draw : Draw) (front : List Placed) → bad_placed kind.Dispute plan front (draw_place draw) ≡ false
+draw-never : (plan : Plan) (draw : Draw) (front : List Placed) → bad_placed kind.Dispute plan front (draw_leaf as_place draw) ≡ false
 draw-never plan drawn.Full front = refl
 draw-never plan (drawn.Public bytes) front = refl
 
@@ -156,7 +155,7 @@ module _ (plan : Plan) (seed : List ℕ) (fates : List Told) (draw : Draw) (clai
     first = Disputed claimed.ballot claimed.race claimed.code claimed.word
 
     abbrev code_at : ℕ → Placed
-    code_at column = code_place block.Dispute claimed.ballot (code_line_of plan seed claimed.ballot claimed.race column)
+    code_at column = code_leaf as_place block.Dispute claimed.ballot (code_line_of plan seed claimed.ballot claimed.race column)
 
     code-good : (column : ℕ) → bad_placed kind.Dispute plan ((before ++ first ∷ []) ++ map code_at (numbers_below column)) (code_at column) ≡ false
     unfolding code_in_row
@@ -169,7 +168,7 @@ module _ (plan : Plan) (seed : List ℕ) (fates : List Told) (draw : Draw) (clai
         elim (cases_eq (column + 1) (candidates_of plan r)) [
           | inr other ↦ and_left (column + 1 == candidates_of plan r) _ (ne_eqb (column + 1) (candidates_of plan r) other)
           | inl whole ↦
-              let none : last_claim earlier ≡ None = ap last_claim (sym (map-map (code_place block.Dispute b) (code_line_of plan seed b r) (numbers_below column))) ∙ codes-claim_nothing b (map (code_line_of plan seed b r) (numbers_below column)) in
+              let none : last_claim earlier ≡ None = ap last_claim (sym (map-map (code_leaf as_place block.Dispute b) (code_line_of plan seed b r) (numbers_below column))) ∙ codes-claim_nothing b (map (code_line_of plan seed b r) (numbers_below column)) in
               let claim : last_claim front ≡ Some (record { code = claimed.code; answer = claimed.word; behind = earlier }) =
               ap last_claim (append_assoc before (first ∷ []) earlier) ∙ last-behind before b r claimed.code claimed.word earlier none in
               let marked : list_any (marks_code b r claimed.code) front ≡ posts_code plan seed b r claimed.code (told_fate fates b) =
@@ -186,34 +185,34 @@ module _ (plan : Plan) (seed : List ℕ) (fates : List Told) (draw : Draw) (clai
               and_right (column + 1 == candidates_of plan r) _ (ap (λ (o : Option DisputedCode). option_map_or (wrong_answer front b r (code_line_of plan seed b r column).code) o false) claim ∙ ap not answered)
         ]
 
-    claim-good : Good (bad_placed kind.Dispute plan) before (dispute_places (dispute_of plan seed claimed))
+    claim-good : Good (bad_placed kind.Dispute plan) before (dispute_tree as_place (dispute_of plan seed claimed))
     claim-good =
         let columns : List ℕ = numbers_below (candidates_of plan claimed.race) in
-        good-append (bad_placed kind.Dispute plan) before (first ∷ []) (map (code_place block.Dispute claimed.ballot) (map (code_line_of plan seed claimed.ballot claimed.race) columns)) (good-one (bad_placed kind.Dispute plan) before first refl)
-        (subst (λ (l : List Placed). Good (bad_placed kind.Dispute plan) (before ++ first ∷ []) l) (sym (map-map (code_place block.Dispute claimed.ballot) (code_line_of plan seed claimed.ballot claimed.race) columns))
+        good-append (bad_placed kind.Dispute plan) before (first ∷ []) (map (code_leaf as_place block.Dispute claimed.ballot) (map (code_line_of plan seed claimed.ballot claimed.race) columns)) (good-one (bad_placed kind.Dispute plan) before first refl)
+        (subst (λ (l : List Placed). Good (bad_placed kind.Dispute plan) (before ++ first ∷ []) l) (sym (map-map (code_leaf as_place block.Dispute claimed.ballot) (code_line_of plan seed claimed.ballot claimed.race) columns))
         (good-numbers (bad_placed kind.Dispute plan) (before ++ first ∷ []) code_at (candidates_of plan claimed.race) (λ column below. code-good column)))
 
   -- all claims, behind the blocks
-  claims-good : (before : List Placed) (list : List Claimed) → MarksTold before → EachOf (ClaimRight plan seed fates) list → Good (bad_placed kind.Dispute plan) before (flat_map dispute_places (map (dispute_of plan seed) list))
+  claims-good : (before : List Placed) (list : List Claimed) → MarksTold before → EachOf (ClaimRight plan seed fates) list → Good (bad_placed kind.Dispute plan) before (flat_map (dispute_tree as_place) (map (dispute_of plan seed) list))
   claims-good before [] facts all = refl
   claims-good before (claimed ∷ list) facts all =
-      let lines : List Placed = dispute_places (dispute_of plan seed claimed) in
-      let part : EachOf (IsPart 7) lines = (refl, of-all (IsPart 7) (code_place block.Dispute claimed.ballot) (dispute_of plan seed claimed).codes (λ code. refl)) in
-      good-append (bad_placed kind.Dispute plan) before lines (flat_map dispute_places (map (dispute_of plan seed) list)) (claim-good before facts claimed all.0)
+      let lines : List Placed = dispute_tree as_place (dispute_of plan seed claimed) in
+      let part : EachOf (IsPart 7) lines = (refl, of-all (IsPart 7) (code_leaf as_place block.Dispute claimed.ballot) (dispute_of plan seed claimed).codes (λ code. refl)) in
+      good-append (bad_placed kind.Dispute plan) before lines (flat_map (dispute_tree as_place) (map (dispute_of plan seed) list)) (claim-good before facts claimed all.0)
       (claims-good (before ++ lines) list (λ b r code within. without before lines part b r code ∙ facts b r code within) all.1)
 
   -- what stands before the disputes
   abbrev others : List Placed
-  others = head posted ++ (commit_places posted ++ (blocks posted ++ (result_places posted ++ opening_places posted)))
+  others = head posted ++ (commit_tree as_place posted ++ (blocks posted ++ (result_tree as_place posted ++ opening_tree as_place posted)))
 
   whole : places_in posted ≡ others ++ claim_places posted
   unfolding places_in
   whole =
       let h : List Placed = head posted in
-      let c : List Placed = commit_places posted in
+      let c : List Placed = commit_tree as_place posted in
       let b : List Placed = blocks posted in
-      let r : List Placed = result_places posted in
-      let o : List Placed = opening_places posted in
+      let r : List Placed = result_tree as_place posted in
+      let o : List Placed = opening_tree as_place posted in
       let d : List Placed = claim_places posted in
       sym (append_assoc h (c ++ (b ++ (r ++ o))) d
       ∙ ap (λ l. h ++ l) (append_assoc c (b ++ (r ++ o)) d ∙ ap (λ l. c ++ l) (append_assoc b (r ++ o) d ∙ ap (λ l. b ++ l) (append_assoc r o d))))
@@ -223,9 +222,9 @@ module _ (plan : Plan) (seed : List ℕ) (fates : List Told) (draw : Draw) (clai
       let P : Placed → Type 0 = λ line. (front : List Placed) → bad_placed kind.Dispute plan front line ≡ false in
       let by : (part : ℕ) (xs : List Placed) → part < 7 → EachOf (IsPart part) xs → EachOf P xs = λ part xs less all. of-into (IsPart part) P xs (λ line is. never-bad plan line (λ e. omega (arith, less, is, e))) all in
       of-append P (head posted) _ (by 0 (head posted) (omega arith) (head_is posted))
-      (of-append P (commit_places posted) _ (by 2 (commit_places posted) (omega arith) (commits_are posted))
+      (of-append P (commit_tree as_place posted) _ (by 2 (commit_tree as_place posted) (omega arith) (commits_are posted))
       (of-append P (blocks posted) _ (by 3 (blocks posted) (omega arith) (blocks_are posted))
-      (of-append P (result_places posted) (opening_places posted) (by 4 (result_places posted) (omega arith) (results_are posted))
+      (of-append P (result_tree as_place posted) (opening_tree as_place posted) (by 4 (result_tree as_place posted) (omega arith) (results_are posted))
       (draw-never plan draw, by 6 _ (omega arith) (rows_are posted)))))
 
   pub disputes-whole : Good (bad_placed kind.Dispute plan) [] (places_in posted)

@@ -20,7 +20,6 @@ pub mod Seal
 pub mod Seals
 pub mod Side
 pub mod StoryWalks
-pub mod Sums
 pub mod Total
 pub mod Unaltered
 pub mod Votes

@@ -5,9 +5,9 @@ use Rattle.std.specs.Option.{option_and_then, option_map}
 use Rattle.std.specs.Prelude.{slice_get, slice_index_or}
 use Rattle.std.proofs.lemmas.Bool.{and_parts}
 use Rattle.std.proofs.lemmas.Option.{same_Some, slice_get_within}
-use Rattle.sg_lists.proofs.Each.{EachOf, of-append, of-every, of-flat, of-map}
+use Rattle.sg_lists.proofs.Each.{EachOf, of-append, of-flat, of-map}
 use Rattle.sg_lists.proofs.Options.{option_and_then-some}
-use Rattle.sg_plan.specs.Ballots.{ballot_has, candidates_of, entries_of, races_of_ballot}
+use Rattle.sg_plan.specs.Ballots.{ballot_has, candidates_of, entries_of, is_over, races_of_ballot}
 use Rattle.sg_plan.specs.Codes.{is_code}
 use Rattle.sg_plan.specs.Fates.{fate_fits, mark_fits, marks_differ}
 use Rattle.sg_plan.specs.Limits.{fault_of}
@@ -25,15 +25,16 @@ use Rattle.sg_grammar.specs.Placed.{Placed}
 use Rattle.sg_grammar.specs.Placed.Placed.{CodeAt, Disputed, OverAt, RowAt, TotalAt}
 use Rattle.sg_grammar.specs.declared.state.Block.{Block}
 use Rattle.sg_grammar.specs.declared.state.Block.TheVariants as block
-use Rattle.sg_record.specs.Places.{code_place, dispute_places, paper_places, places_in}
+use Rattle.sg_record.specs.Places.{places_in}
+use Rattle.sg_record.specs.Tree.{as_place, cast_place, code_leaf, dispute_tree, paper_tree}
 use Rattle.sg_record.specs.declared.record.BallotBlock.{BallotBlock}
 use Rattle.sg_record.specs.declared.record.BlockFate.{BlockFate}
 use Rattle.sg_record.specs.declared.record.BlockFate.TheVariants as blocked
+use Rattle.sg_record.specs.declared.record.CastLine.{CastLine}
 use Rattle.sg_record.specs.declared.record.Record.{Record}
 use Rattle.sg_check.specs.Completions.{IsHalfOf}
 use Rattle.sg_check.specs.Facts.{code_commitment, is_flagged, is_marked as posted_marked, is_set as posted_set, half_commitment}
-use Rattle.sg_post.proofs.MarkedCodes.{cast_overs}
-use Rattle.sg_post.proofs.OwnCodes.{HoldsOfOwn, audited_codes-of, cast_codes-of, race_codes-of}
+use Rattle.sg_post.proofs.OwnCodes.{HoldsOfOwn, audited_codes-of, cast_lines-of, race_codes-of}
 use Rattle.sg_post.proofs.StoryFits.{fits-later, fits_ballot}
 use Rattle.sg_post.specs.Fits.{claim_fits, fates_fit}
 use Rattle.sg_post.specs.Marks.{flag_of, is_entry_marked, is_place_set, total_of}
@@ -100,18 +101,18 @@ abbrev pub HasBlock : (Placed → Type 0) → Plan → BallotBlock → Type 0
 HasBlock P plan one = HasLines P plan one.ballot one.fate
 
 -- a property of the codes that the tables give a ballot
-module _ (P : Placed → Type 0) (plan : Plan) (seed : List ℕ) (fine : fault_of plan ≡ None) (own : (kind : Block) (ballot : ℕ) → HoldsOfOwn (λ (code : CodeLine). P (code_place kind ballot code)) plan seed ballot) where
+module _ (P : Placed → Type 0) (plan : Plan) (seed : List ℕ) (fine : fault_of plan ≡ None) (own : (kind : Block) (ballot : ℕ) → HoldsOfOwn (λ (code : CodeLine). P (code_leaf as_place kind ballot code)) plan seed ballot) where
   -- the block of a ballot, where its lines of races that are over and of its paper have the property too
-  pub told-lines : (ballot : ℕ) (what : Fate) → fits_ballot plan ballot what → ((marks : List Mark) → what ≡ fate.Cast marks → EachOf (λ (race : ℕ). P (OverAt ballot race)) (cast_overs plan marks))
-      → ((paper : List (List ℕ)) → what ≡ fate.Audited paper → EachOf P (paper_places ballot (races_of_ballot plan ballot) paper))
+  pub told-lines : (ballot : ℕ) (what : Fate) → fits_ballot plan ballot what → ((marks : List Mark) → what ≡ fate.Cast marks → (race : ℕ) → race < length plan.races → is_over plan marks race ≡ true → P (OverAt ballot race))
+      → ((paper : List (List ℕ)) → what ≡ fate.Audited paper → EachOf P (paper_tree as_place ballot (races_of_ballot plan ballot) paper))
       → EachOf (HasBlock P plan) (map (λ (w : BlockFate). let one : BallotBlock = record { ballot = ballot; fate = w } in one) (fate_blocks plan seed ballot what))
   told-lines ballot fate.Unused fit over paper = tt
   told-lines ballot (fate.Cast marks) fit over paper =
       let fits = (and_parts (list_all (mark_fits plan (races_of_ballot plan ballot)) marks) (marks_differ marks) fit).0 in
-      ((cast_codes-of (λ (code : CodeLine). P (code_place block.Cast ballot code)) plan seed marks ballot (own block.Cast ballot) fits, over marks refl), tt)
+      (cast_lines-of (λ (line : CastLine). P (cast_place ballot line)) plan seed marks ballot (own block.Cast ballot) (over marks refl) fits, tt)
   told-lines ballot fate.Spoiled fit over paper = (tt, tt)
   told-lines ballot (fate.Audited list) fit over paper =
-      ((paper list refl, audited_codes-of (λ (code : CodeLine). P (code_place block.Audited ballot code)) plan seed ballot fine (own block.Audited ballot)), tt)
+      ((paper list refl, audited_codes-of (λ (code : CodeLine). P (code_leaf as_place block.Audited ballot code)) plan seed ballot fine (own block.Audited ballot)), tt)
   told-lines ballot fate.Voided fit over paper = at_version (plan.version == 2)
     where
       at_version : (b : Bool) → EachOf (HasBlock P plan) (record { ballot = ballot; fate = cond b blocked.Voided blocked.Spoiled } ∷ [])
@@ -120,15 +121,15 @@ module _ (P : Placed → Type 0) (plan : Plan) (seed : List ℕ) (fine : fault_o
 
   -- the lines of all disputes
   pub claims-of : ((ballot race code : ℕ) (word : ClaimWord) → P (Disputed ballot race code word)) → (claims : List Claimed) → list_all (claim_fits plan) claims ≡ true
-      → EachOf P (flat_map dispute_places (map (dispute_of plan seed) claims))
+      → EachOf P (flat_map (dispute_tree as_place) (map (dispute_of plan seed) claims))
   claims-of disputed [] fit = tt
   claims-of disputed (claimed ∷ claims) fit =
       let parts = and_parts (claim_fits plan claimed) (list_all (claim_fits plan) claims) fit in
       let has = (and_parts (ballot_has plan claimed.ballot claimed.race) (is_code plan claimed.code) parts.0).0 in
-      of-append P (dispute_places (dispute_of plan seed claimed)) (flat_map dispute_places (map (dispute_of plan seed) claims)) (
+      of-append P (dispute_tree as_place (dispute_of plan seed claimed)) (flat_map (dispute_tree as_place) (map (dispute_of plan seed) claims)) (
         disputed claimed.ballot claimed.race claimed.code claimed.word,
-        of-map P (code_place block.Dispute claimed.ballot) (race_codes_of plan seed claimed.ballot claimed.race)
-            (race_codes-of (λ (code : CodeLine). P (code_place block.Dispute claimed.ballot code)) plan seed claimed.ballot claimed.race fine (own block.Dispute claimed.ballot) has),
+        of-map P (code_leaf as_place block.Dispute claimed.ballot) (race_codes_of plan seed claimed.ballot claimed.race)
+            (race_codes-of (λ (code : CodeLine). P (code_leaf as_place block.Dispute claimed.ballot code)) plan seed claimed.ballot claimed.race fine (own block.Dispute claimed.ballot) has),
       )
       (claims-of disputed claims parts.1)
 
@@ -141,7 +142,7 @@ SaysRight plan seed fates draw (RowAt race instance number opening) = IsHalfOf p
 SaysRight plan seed fates draw line = Unit {0}
 
 module _ (plan : Plan) (seed : List ℕ) (fates : List Told) (draw : Draw) where
-  own : (kind : Block) (ballot : ℕ) → HoldsOfOwn (λ (code : CodeLine). SaysRight plan seed fates draw (code_place kind ballot code)) plan seed ballot
+  own : (kind : Block) (ballot : ℕ) → HoldsOfOwn (λ (code : CodeLine). SaysRight plan seed fates draw (code_leaf as_place kind ballot code)) plan seed ballot
   unfolding code_in_row
   own kind ballot = λ race column has within below. (within, has, below, refl)
 
@@ -167,7 +168,7 @@ module _ (plan : Plan) (seed : List ℕ) (fates : List Told) (draw : Draw) where
       lines-of P (posted_record plan seed fates draw claims) plain-right
       (blocks-of P (λ ballot. tt) plan (flat_map (told_blocks plan seed) fates)
       (of-flat (HasBlock P plan) (λ (told : Told). fits_ballot plan told.ballot told.fate) (told_blocks plan seed) fates
-      (λ told fits. told-lines P plan seed fine own told.ballot told.fate fits (λ marks is. of-every (λ (race : ℕ). P (OverAt told.ballot race)) (cast_overs plan marks) (λ race. tt))
+      (λ told fits. told-lines P plan seed fine own told.ballot told.fate fits (λ marks is race within over. tt)
       (λ paper is. papers-of P (λ ballot race list. tt) told.ballot (races_of_ballot plan told.ballot) paper)) (fits-each plan 0 fates fit))) total-right
       (λ race instance number opening there. row_is plan (opened_row plan seed fates draw) race instance number opening there)
       (claims-of P plan seed fine own (λ ballot race code word. tt) claims claimed)

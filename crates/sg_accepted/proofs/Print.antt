@@ -37,7 +37,8 @@ use Rattle.sg_grammar.specs.Placed.{Placed}
 use Rattle.sg_grammar.specs.Placed.Placed.{CodeAt, PaperAt, RowAt}
 use Rattle.sg_grammar.specs.declared.state.Block.TheVariants as block
 use Rattle.sg_record.proofs.BlockTests.{has_among}
-use Rattle.sg_record.specs.Places.{block_places, code_place, commit_places, draw_place, paper_places, places_in}
+use Rattle.sg_record.specs.Places.{places_in}
+use Rattle.sg_record.specs.Tree.{as_place, block_tree, code_leaf, commit_tree, draw_leaf, paper_tree}
 use Rattle.sg_record.specs.declared.record.BallotBlock.{BallotBlock}
 use Rattle.sg_record.specs.declared.record.BlockFate.{BlockFate}
 use Rattle.sg_record.specs.declared.record.Record.{Record}
@@ -121,9 +122,7 @@ module _ (plan : Plan) (seed : List ℕ) (race : ℕ) (some : 0 < candidates_of 
   told-audits entry ballot (fate.Cast marks) =
       of-none (audit_test plan race entry) (told_codes plan seed race ballot (fate.Cast marks))
       (of-all (λ (line : Placed). audit_test plan race entry line ≡ false) (cast_code plan seed race ballot) (marked_columns plan seed race (ballot_row plan race ballot) (fate.Cast marks)) (λ c. refl)) ∙ sym (and-false (is_entry_of plan race entry ballot))
-  told-audits entry ballot fate.Unused = sym (and-false (is_entry_of plan race entry ballot))
-  told-audits entry ballot fate.Spoiled = sym (and-false (is_entry_of plan race entry ballot))
-  told-audits entry ballot fate.Voided = sym (and-false (is_entry_of plan race entry ballot))
+  told-audits entry ballot other = sym (and-false (is_entry_of plan race entry ballot))
 
   eq-sides : (a b : ℕ) → (a == b) ≡ (b == a)
   eq-sides a b = same_tests (a == b) (b == a) (λ e. eq-eqb b a (sym (eqb-true a b e))) (λ e. eq-eqb a b (sym (eqb-true b a e)))
@@ -153,12 +152,10 @@ module _ (plan : Plan) (seed : List ℕ) (race : ℕ) (some : 0 < candidates_of 
   told-count ballot (fate.Cast marks) =
       sum-of (λ line. one_if (audits_race race line)) (told_codes plan seed race ballot (fate.Cast marks))
       (of-all (λ (line : Placed). one_if (audits_race race line) ≡ 0) (cast_code plan seed race ballot) (marked_columns plan seed race (ballot_row plan race ballot) (fate.Cast marks)) (λ c. refl)) ∙ sym (none-audited ballot)
-  told-count ballot fate.Unused = sym (none-audited ballot)
-  told-count ballot fate.Spoiled = sym (none-audited ballot)
-  told-count ballot fate.Voided = sym (none-audited ballot)
+  told-count ballot other = sym (none-audited ballot)
 
   -- the paper of an audited entry's ballot row
-  papers-any : (ballot row : ℕ) (f : ℕ → List ℕ) (races : List ℕ) → ballot_row plan race ballot ≡ row → list_any (λ r. r == race) races ≡ true → list_any (paper_test plan race row) (paper_places ballot races (map f races)) ≡ true
+  papers-any : (ballot row : ℕ) (f : ℕ → List ℕ) (races : List ℕ) → ballot_row plan race ballot ≡ row → list_any (λ r. r == race) races ≡ true → list_any (paper_test plan race row) (paper_tree as_place ballot races (map f races)) ≡ true
   papers-any ballot row f [] is e = cc
   papers-any ballot row f (r ∷ races) is e =
       elim (or_cases (r == race) (list_any (λ o. o == race) races) e) [
@@ -169,29 +166,26 @@ module _ (plan : Plan) (seed : List ℕ) (race : ℕ) (some : 0 < candidates_of 
       ]
 
   told-paper : (entry ballot : ℕ) (what : Fate) → IsTrueFate plan seed ballot what → is_entry_of plan race entry ballot ≡ true → is_audit_fate what ≡ true
-      → list_any (paper_test plan race (entry / candidates_of plan race)) (flat_map (block_places plan) (map (λ (w : BlockFate). let one : BallotBlock = record { ballot = ballot; fate = w } in one) (fate_blocks plan seed ballot what))) ≡ true
+      → list_any (paper_test plan race (entry / candidates_of plan race)) (flat_map (block_tree as_place plan) (map (λ (w : BlockFate). let one : BallotBlock = record { ballot = ballot; fate = w } in one) (fate_blocks plan seed ballot what))) ≡ true
   unfolding paper_of
   told-paper entry ballot (fate.Audited paper) is own audit =
       let test : Placed → Bool = paper_test plan race (entry / candidates_of plan race) in
       let races : List ℕ = races_of_ballot plan ballot in
-      let codes : List Placed = map (code_place block.Audited ballot) (audited_codes plan seed ballot) in
+      let codes : List Placed = map (code_leaf as_place block.Audited ballot) (audited_codes plan seed ballot) in
       let parts = and_parts (ballot_has plan ballot race) (ballot_row plan race ballot == entry / candidates_of plan race) own in
-      let found : list_any test (paper_places ballot races paper) ≡ true = ap (λ (p : List (List ℕ)). list_any test (paper_places ballot races p)) is
+      let found : list_any test (paper_tree as_place ballot races paper) ≡ true = ap (λ (p : List (List ℕ)). list_any test (paper_tree as_place ballot races p)) is
       ∙ papers-any ballot (entry / candidates_of plan race) (λ r. codes_of_row plan seed r (ballot_row plan r ballot)) races (eqb-true (ballot_row plan race ballot) (entry / candidates_of plan race) parts.1) (sym (has_among plan ballot race) ∙ parts.0) in
-      list_any-append test (paper_places ballot races paper ++ codes) [] ∙ or_left (list_any test (paper_places ballot races paper ++ codes)) false (list_any-append test (paper_places ballot races paper) codes ∙ or_left (list_any test (paper_places ballot races paper)) (list_any test codes) found)
-  told-paper entry ballot (fate.Cast marks) is own audit = cc
-  told-paper entry ballot fate.Unused is own audit = cc
-  told-paper entry ballot fate.Spoiled is own audit = cc
-  told-paper entry ballot fate.Voided is own audit = cc
+      list_any-append test (paper_tree as_place ballot races paper ++ codes) [] ∙ or_left (list_any test (paper_tree as_place ballot races paper ++ codes)) false (list_any-append test (paper_tree as_place ballot races paper) codes ∙ or_left (list_any test (paper_tree as_place ballot races paper)) (list_any test codes) found)
+  told-paper entry ballot other is own audit = cc
 
   papers-there : (entry : ℕ) (fates : List Told) → EachOf (λ told. IsTrueFate plan seed told.ballot told.fate) fates → list_any (told_audits plan race entry) fates ≡ true
-      → list_any (paper_test plan race (entry / candidates_of plan race)) (flat_map (block_places plan) (flat_map (told_blocks plan seed) fates)) ≡ true
+      → list_any (paper_test plan race (entry / candidates_of plan race)) (flat_map (block_tree as_place plan) (flat_map (told_blocks plan seed) fates)) ≡ true
   papers-there entry [] all e = cc
   papers-there entry (told ∷ fates) all e =
       let test : Placed → Bool = paper_test plan race (entry / candidates_of plan race) in
-      let here : List Placed = flat_map (block_places plan) (told_blocks plan seed told) in
-      let behind : List Placed = flat_map (block_places plan) (flat_map (told_blocks plan seed) fates) in
-      ap (list_any test) (flat_map-append (block_places plan) (told_blocks plan seed told) (flat_map (told_blocks plan seed) fates))
+      let here : List Placed = flat_map (block_tree as_place plan) (told_blocks plan seed told) in
+      let behind : List Placed = flat_map (block_tree as_place plan) (flat_map (told_blocks plan seed) fates) in
+      ap (list_any test) (flat_map-append (block_tree as_place plan) (told_blocks plan seed told) (flat_map (told_blocks plan seed) fates))
       ∙ (list_any-append test here behind
       ∙ elim (or_cases (told_audits plan race entry told) (list_any (told_audits plan race entry) fates) e) [
         | inl own ↦
@@ -269,9 +263,9 @@ module _ (plan : Plan) (seed : List ℕ) (fates : List Told) (draw : Draw) (clai
       let row : ℕ = entry / candidates_of plan race in
       let test : Placed → Bool = paper_test plan race row in
       let v : ℕ = code_beside plan seed race row candidate in
-      let there : list_any test lines ≡ true = list_any-append test (head posted) (commit_places posted ++ behind_commits posted)
-      ∙ or_right (list_any test (head posted)) _ (list_any-append test (commit_places posted) (behind_commits posted)
-      ∙ or_right (list_any test (commit_places posted)) _ (list_any-append test (blocks posted) (behind_ballots posted)
+      let there : list_any test lines ≡ true = list_any-append test (head posted) (commit_tree as_place posted ++ behind_commits posted)
+      ∙ or_right (list_any test (head posted)) _ (list_any-append test (commit_tree as_place posted) (behind_commits posted)
+      ∙ or_right (list_any test (commit_tree as_place posted)) _ (list_any-append test (blocks posted) (behind_ballots posted)
       ∙ or_left (list_any test (blocks posted)) _ (papers-there plan seed race (some_candidate race within) entry fates told.papers audited))) in
       given-value (shows_paper plan race row candidate) test v lines
       (of-into (BlockRight plan seed fates) (Gives (shows_paper plan race row candidate) test v) lines (λ line is. paper-gives plan seed fates race row candidate line told.fine within below is) (blocks-right plan seed fates draw claims told))
@@ -379,7 +373,7 @@ module _ (plan : Plan) (seed : List ℕ) (fates : List Told) (draw : Draw) (clai
     row-fine : (d : Draw) → draw ≡ d → bad_placed kind.Print plan before (RowAt race instance number (opened_row plan seed fates d race instance number)) ≡ false
     unfolding opened_row
     row-fine drawn.Full is =
-        let none : first_given draws_digits before ≡ None = digits-kept lines before line front (omega arith) ∙ (digits_are posted ∙ ap (λ (d : Draw). draws_digits (draw_place d)) is) in
+        let none : first_given draws_digits before ≡ None = digits-kept lines before line front (omega arith) ∙ (digits_are posted ∙ ap (λ (d : Draw). draws_digits (draw_leaf as_place d)) is) in
         or_from _ (wrong_paper plan before race (both_sides plan seed race instance number)) (and_left (is_some (public_bytes before)) _ (ap (λ (o : Option (List ℕ)). is_some (option_map bytes_of_digits o)) none)) paper-fine
     row-fine (drawn.Public bytes) is =
         let row : RowOpening = opened_row plan seed fates (drawn.Public bytes) race instance number in

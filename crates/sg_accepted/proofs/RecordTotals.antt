@@ -15,8 +15,9 @@ use Rattle.sg_grammar.specs.Due.{each, numbered}
 use Rattle.sg_grammar.specs.Placed.{Placed}
 use Rattle.sg_grammar.specs.Placed.Placed.{TotalAt}
 use Rattle.sg_grammar.specs.Walk.{Walked}
-use Rattle.sg_record.specs.Lines.{indexed, lines_in}
-use Rattle.sg_record.specs.Places.{commit_places, flag_places, places_in, posts, race_result_places, result_places, seal_place, set_places, total_place}
+use Rattle.sg_record.specs.Lines.{lines_in}
+use Rattle.sg_record.specs.Places.{places_in, posts}
+use Rattle.sg_record.specs.Tree.{as_place, commit_tree, flag_tree, indexed, place_tree, race_results_tree, result_tree, seal_tree, total_leaf}
 use Rattle.sg_record.specs.declared.record.Record.{Record}
 use Rattle.sg_check.proofs.Verdicts.{one_verdict}
 use Rattle.sg_check.specs.Verdict.{IsVerdict, total_on, totals_in, totals_of}
@@ -73,33 +74,33 @@ module _ (plan : Plan) (seed : List ℕ) (fates : List Told) (draw : Draw) (clai
   abbrev posted : Record
   posted = posted_record plan seed fates draw claims
 
-  race-totals : (race : ℕ) → race < length plan.races → flat_map total_on (race_result_places posted race) ≡ each (one_total plan seed fates race) 0 (candidates_of plan race)
+  race-totals : (race : ℕ) → race < length plan.races → flat_map total_on (race_results_tree as_place posted race) ≡ each (one_total plan seed fates race) 0 (candidates_of plan race)
   race-totals race within =
       let flags = slice_index_or posted.flags race [] in
       let sets = slice_index_or posted.places race [] in
       let totals : slice_index_or posted.totals race [] ≡ map (total_of plan seed fates race) (numbers_below (candidates_of plan race))
       = get_or-map_below (λ r. map (total_of plan seed fates r) (numbers_below (candidates_of plan r))) (length plan.races) race [] within in
-      behind-none (indexed (flag_places race) 0 flags) (set_places race sets ++ indexed (total_place race) 0 (slice_index_or posted.totals race [])) (race_flags-of HasNone race flags (λ i f b. refl))
-      ∙ (behind-none (set_places race sets) (indexed (total_place race) 0 (slice_index_or posted.totals race [])) (race_sets-of HasNone race sets (λ f b. refl))
-      ∙ (ap (λ (l : List ℕ). flat_map total_on (indexed (total_place race) 0 l)) totals
-      ∙ (ap (flat_map total_on) (indexed-numbers (total_place race) (total_of plan seed fates race) (candidates_of plan race))
-      ∙ flat-numbered (λ candidate. total_place race candidate (total_of plan seed fates race candidate)) 0 (candidates_of plan race - 0))))
+      behind-none (indexed (flag_tree as_place race) 0 flags) (place_tree as_place race sets ++ indexed (total_leaf as_place race) 0 (slice_index_or posted.totals race [])) (race_flags-of HasNone race flags (λ i f b. refl))
+      ∙ (behind-none (place_tree as_place race sets) (indexed (total_leaf as_place race) 0 (slice_index_or posted.totals race [])) (race_sets-of HasNone race sets (λ f b. refl))
+      ∙ (ap (λ (l : List ℕ). flat_map total_on (indexed (total_leaf as_place race) 0 l)) totals
+      ∙ (ap (flat_map total_on) (indexed-numbers (total_leaf as_place race) (total_of plan seed fates race) (candidates_of plan race))
+      ∙ flat-numbered (λ candidate. total_leaf as_place race candidate (total_of plan seed fates race candidate)) 0 (candidates_of plan race - 0))))
 
-  results-totals : flat_map total_on (each (race_result_places posted) 0 (length plan.races)) ≡ told_totals plan seed fates
+  results-totals : flat_map total_on (each (race_results_tree as_place posted) 0 (length plan.races)) ≡ told_totals plan seed fates
   unfolding told_totals
   results-totals =
-      flat-numbered (race_result_places posted) 0 (length plan.races - 0)
-      ∙ each-same (λ race. flat_map total_on (race_result_places posted race)) (λ race. each (one_total plan seed fates race) 0 (candidates_of plan race)) (length plan.races) race-totals
+      flat-numbered (race_results_tree as_place posted) 0 (length plan.races - 0)
+      ∙ each-same (λ race. flat_map total_on (race_results_tree as_place posted race)) (λ race. each (one_total plan seed fates race) 0 (candidates_of plan race)) (length plan.races) race-totals
 
   places-totals : flat_map total_on (places_in posted) ≡ told_totals plan seed fates
   unfolding places_in
   places-totals =
-      behind-none (head posted) (commit_places posted ++ behind_commits posted) (part-none 0 (head posted) (λ e. omega (arith, e)) (head_is posted))
-      ∙ (behind-none (commit_places posted) (behind_commits posted) (part-none 2 (commit_places posted) (λ e. omega (arith, e)) (commits_are posted))
+      behind-none (head posted) (commit_tree as_place posted ++ behind_commits posted) (part-none 0 (head posted) (λ e. omega (arith, e)) (head_is posted))
+      ∙ (behind-none (commit_tree as_place posted) (behind_commits posted) (part-none 2 (commit_tree as_place posted) (λ e. omega (arith, e)) (commits_are posted))
       ∙ (behind-none (blocks posted) (behind_ballots posted) (part-none 3 (blocks posted) (λ e. omega (arith, e)) (blocks_are posted))
-      ∙ (before-none (result_places posted) (behind_results posted)
+      ∙ (before-none (result_tree as_place posted) (behind_results posted)
       (of-into (λ (line : Placed). 5 ≤ part_of line) HasNone (behind_results posted) (λ line less. other-none line (λ e. omega (arith, e, less))) (all-behind 5 (behind_results posted) (results-rise posted)))
-      ∙ (before-none (each (race_result_places posted) 0 (length plan.races)) (seal_place 2 posted.seals) (seals-of HasNone 2 posted.seals (λ d. refl)) ∙ results-totals))))
+      ∙ (before-none (each (race_results_tree as_place posted) 0 (length plan.races)) (seal_tree as_place 2 posted.seals) (seals-of HasNone 2 posted.seals (λ d. refl)) ∙ results-totals))))
 
 pub unaltered_has_totals : UnalteredHasTotals
 unaltered_has_totals plan seed story fine unaltered =

@@ -17,8 +17,8 @@ use Rattle.sg_forms.specs.declared.line.RowOpening.{RowOpening}
 use Rattle.sg_grammar.specs.Due.{numbered}
 use Rattle.sg_grammar.specs.Placed.{Placed}
 use Rattle.sg_grammar.specs.Placed.Placed.{RowAt}
-use Rattle.sg_record.specs.Lines.{indexed}
-use Rattle.sg_record.specs.Places.{commit_places, draw_place, instance_row_places, places_in, race_row_places, result_places, row_place, seal_place}
+use Rattle.sg_record.specs.Tree.{as_place, commit_tree, draw_leaf, indexed, instance_row_tree, race_row_tree, result_tree, row_leaf, seal_tree}
+use Rattle.sg_record.specs.Places.{places_in}
 use Rattle.sg_record.specs.declared.record.Record.{Record}
 use Rattle.sg_check.specs.Completions.{IsHalfOf}
 use Rattle.sg_post.proofs.Numbered.{indexed-numbers}
@@ -89,7 +89,7 @@ no-row : (race instance : ℕ) (line : Placed) → part_of line ≢ 6 → in_ins
 no-row race instance (RowAt of within number opening) other = absurd (other refl)
 no-row race instance line other = refl
 
-draw-row : (race instance : ℕ) (draw : Draw) → in_instance race instance (draw_place draw) ≡ false
+draw-row : (race instance : ℕ) (draw : Draw) → in_instance race instance (draw_leaf as_place draw) ≡ false
 draw-row race instance drawn.Full = refl
 draw-row race instance (drawn.Public bytes) = refl
 
@@ -112,23 +112,23 @@ module _ (plan : Plan) (seed : List ℕ) (fates : List Told) (draw : Draw) (clai
       let v : ℕ → ℕ → ℕ → RowOpening = opened_row plan seed fates draw in
       let rows : ℕ → ℕ → List RowOpening = λ r i. map (v r i) (numbers_below (entries_of plan r)) in
       let instances : ℕ → List (List RowOpening) = λ r. map (rows r) (numbers_below plan.instances) in
-      let all : List Placed = indexed race_row_places 0 posted.rows in
+      let all : List Placed = indexed (race_row_tree as_place) 0 posted.rows in
       let none : (part : ℕ) (xs : List Placed) → part ≢ 6 → EachOf (IsPart part) xs → EachOf (λ (line : Placed). test line ≡ false) xs
       = λ part xs other are. of-into (IsPart part) (λ (line : Placed). test line ≡ false) xs (λ line is. no-row race instance line (λ e. other (let same : part ≡ 6 = omega (arith, is, e) in same))) are in
       filter-behind test (head posted) _ (none 0 (head posted) (λ e. omega (arith, e)) (head_is posted))
-      ∙ (filter-behind test (commit_places posted) _ (none 2 (commit_places posted) (λ e. omega (arith, e)) (commits_are posted))
+      ∙ (filter-behind test (commit_tree as_place posted) _ (none 2 (commit_tree as_place posted) (λ e. omega (arith, e)) (commits_are posted))
       ∙ (filter-behind test (blocks posted) _ (none 3 (blocks posted) (λ e. omega (arith, e)) (blocks_are posted))
-      ∙ (filter-behind test (result_places posted) _ (none 4 (result_places posted) (λ e. omega (arith, e)) (results_are posted))
-      ∙ (filter-behind test (draw_place draw ∷ []) ((all ++ seal_place 3 posted.seals) ++ claims posted) (draw-row race instance draw, tt)
-      ∙ (filter-before test (all ++ seal_place 3 posted.seals) (claims posted) (disputes-of (λ line. test line ≡ false) posted.disputes (λ b r c w. refl) (λ b r c code. refl))
-      ∙ (filter-before test all (seal_place 3 posted.seals) (seals-of (λ line. test line ≡ false) 3 posted.seals (λ d. refl))
-      ∙ (ap (filter test) (indexed-numbers race_row_places instances (length plan.races))
-      ∙ (filter-at test (λ r. race_row_places r (instances r)) 0 (length plan.races - 0) race (omega arith) (omega (arith, in_race))
-      (λ r other. of-entries (λ line. test line ≡ false) (row_place r) (instances r) (λ i n o is. (and_left (r == race) (i == instance) (ne_eqb r race other), tt)))
-      ∙ (ap (filter test) (indexed-numbers (instance_row_places race) (rows race) plan.instances)
-      ∙ (filter-at test (λ i. instance_row_places race i (rows race i)) 0 (plan.instances - 0) instance (omega arith) (omega (arith, in_instances))
-      (λ i other. of-items (λ line. test line ≡ false) (row_place race i) (rows race i) (λ n o is. (and_right (race == race) (i == instance) (ne_eqb i instance other), tt)))
-      ∙ (ap (filter test) (indexed-numbers (row_place race instance) (v race instance) (entries_of plan race))
+      ∙ (filter-behind test (result_tree as_place posted) _ (none 4 (result_tree as_place posted) (λ e. omega (arith, e)) (results_are posted))
+      ∙ (filter-behind test (draw_leaf as_place draw ∷ []) ((all ++ seal_tree as_place 3 posted.seals) ++ claims posted) (draw-row race instance draw, tt)
+      ∙ (filter-before test (all ++ seal_tree as_place 3 posted.seals) (claims posted) (disputes-of (λ line. test line ≡ false) posted.disputes (λ b r c w. refl) (λ b r c code. refl))
+      ∙ (filter-before test all (seal_tree as_place 3 posted.seals) (seals-of (λ line. test line ≡ false) 3 posted.seals (λ d. refl))
+      ∙ (ap (filter test) (indexed-numbers (race_row_tree as_place) instances (length plan.races))
+      ∙ (filter-at test (λ r. race_row_tree as_place r (instances r)) 0 (length plan.races - 0) race (omega arith) (omega (arith, in_race))
+      (λ r other. of-entries (λ line. test line ≡ false) (row_leaf as_place r) (instances r) (λ i n o is. (and_left (r == race) (i == instance) (ne_eqb r race other), tt)))
+      ∙ (ap (filter test) (indexed-numbers (instance_row_tree as_place race) (rows race) plan.instances)
+      ∙ (filter-at test (λ i. instance_row_tree as_place race i (rows race i)) 0 (plan.instances - 0) instance (omega arith) (omega (arith, in_instances))
+      (λ i other. of-items (λ line. test line ≡ false) (row_leaf as_place race i) (rows race i) (λ n o is. (and_right (race == race) (i == instance) (ne_eqb i instance other), tt)))
+      ∙ (ap (filter test) (indexed-numbers (row_leaf as_place race instance) (v race instance) (entries_of plan race))
       ∙ (filter-all test opened 0 (entries_of plan race - 0) passes ∙ ap (λ (n : ℕ). map opened (range_with_len 0 n)) (let same : entries_of plan race - 0 ≡ entries_of plan race = omega arith in same)))))))))))))
 
   -- those before a row are the earlier ones

@@ -9,7 +9,7 @@ use Rattle.std.specs.Option.{option_map_or}
 use Rattle.std.specs.Prelude.{count_by, sum_by}
 use Rattle.sg_lists.proofs.Any.{any-count, any-place}
 use Rattle.sg_lists.proofs.Bools.{one_if}
-use Rattle.sg_lists.proofs.Each.{EachOf, of-flat, of-into, of-none, of-parts, of-passing}
+use Rattle.sg_lists.proofs.Each.{EachOf, of-flat, of-into, of-none, of-parts}
 use Rattle.sg_lists.proofs.Sums.{count-one, sum-filter, sum-flat, sum-map, sum-of, sum-same, sum-zero}
 use Rattle.sg_plan.proofs.LimitLaws.{keeps_limits, passes_tests}
 use Rattle.sg_plan.proofs.PlanLaws.{entry_tells}
@@ -31,12 +31,13 @@ use Rattle.sg_grammar.specs.Placed.{Placed}
 use Rattle.sg_grammar.specs.Placed.Placed.{CodeAt, OverAt, PaperAt}
 use Rattle.sg_grammar.specs.declared.state.Block.{Block}
 use Rattle.sg_grammar.specs.declared.state.Block.TheVariants as block
-use Rattle.sg_record.specs.Places.{code_place, paper_places, places_in}
+use Rattle.sg_record.specs.Places.{places_in}
+use Rattle.sg_record.specs.Tree.{as_place, code_leaf, paper_tree}
 use Rattle.sg_record.specs.declared.record.Record.{Record}
 use Rattle.sg_check.specs.Facts.{marks_ballot}
 use Rattle.sg_check.specs.Kinds.{bad_placed, has_repeat, shows_against}
 use Rattle.sg_check.specs.declared.judged.Kind.TheVariants as kind
-use Rattle.sg_post.proofs.MarkedCodes.{cast_overs, shows_mark}
+use Rattle.sg_post.proofs.MarkedCodes.{shows_mark}
 use Rattle.sg_post.proofs.OwnCodes.{HoldsOfOwn, marks-have}
 use Rattle.sg_post.proofs.StoryFits.{fits-later, fits_ballot}
 use Rattle.sg_post.specs.Fits.{fates_fit}
@@ -223,9 +224,7 @@ marks-within plan seed ballot race (fate.Cast marks) fit =
 marks-within plan seed ballot race (fate.Audited paper) fit =
     let none = sum-of (λ line. one_if (marks_ballot ballot race line)) (told_codes plan seed race ballot (fate.Audited paper)) (audited-each (λ line. one_if (marks_ballot ballot race line) ≡ 0) plan seed race ballot (λ column. refl) paper) in
     omega (arith, none)
-marks-within plan seed ballot race fate.Unused fit = omega arith
-marks-within plan seed ballot race fate.Spoiled fit = omega arith
-marks-within plan seed ballot race fate.Voided fit = omega arith
+marks-within plan seed ballot race other fit = omega arith
 
 -- the fate that is told of a ballot fits it
 told-fits : (plan : Plan) (last : ℕ) (fates : List Told) (ballot : ℕ) → fates_fit plan last fates ≡ true → fits_ballot plan ballot (told_fate fates ballot)
@@ -286,28 +285,22 @@ module _ (plan : Plan) (seed : List ℕ) (fates : List Told) (draw : Draw) (clai
   plain-right line is = tt
 
   papers-right : (ballot : ℕ) (races : List ℕ) → EachOf (λ race. race < length plan.races) races
-      → EachOf (BlockRight plan seed fates) (paper_places ballot races (map (λ race. codes_of_row plan seed race (ballot_row plan race ballot)) races))
+      → EachOf (BlockRight plan seed fates) (paper_tree as_place ballot races (map (λ race. codes_of_row plan seed race (ballot_row plan race ballot)) races))
   papers-right ballot [] all = tt
   papers-right ballot (race ∷ races) all = ((all.0, refl), papers-right ballot races all.1)
 
-  true-paper : (ballot : ℕ) (paper : List (List ℕ)) → paper ≡ paper_of plan seed ballot → EachOf (BlockRight plan seed fates) (paper_places ballot (races_of_ballot plan ballot) paper)
+  true-paper : (ballot : ℕ) (paper : List (List ℕ)) → paper ≡ paper_of plan seed ballot → EachOf (BlockRight plan seed fates) (paper_tree as_place ballot (races_of_ballot plan ballot) paper)
   unfolding paper_of
   true-paper ballot paper is = rw is (papers-right ballot (races_of_ballot plan ballot) (races-within plan ballot told.fine))
-
-  overs-right : (ballot : ℕ) (marks : List Mark) → told_fate fates ballot ≡ fate.Cast marks → EachOf (λ (race : ℕ). BlockRight plan seed fates (OverAt ballot race)) (cast_overs plan marks)
-  unfolding numbers_below
-  overs-right ballot marks is =
-      of-passing (λ (race : ℕ). BlockRight plan seed fates (OverAt ballot race)) (is_over plan marks) 0 (length plan.races)
-      (λ race below over. (omega (arith, below), ap (marks_posted plan seed ballot race) is ∙ over-none plan seed ballot race marks over))
 
   pub blocks-right : EachOf (BlockRight plan seed fates) lines
   blocks-right =
       let P : Placed → Type 0 = BlockRight plan seed fates in
-      let own : (kind : Block) (ballot : ℕ) → HoldsOfOwn (λ (code : CodeLine). P (code_place kind ballot code)) plan seed ballot = λ kind ballot race column has within below. tt in
+      let own : (kind : Block) (ballot : ℕ) → HoldsOfOwn (λ (code : CodeLine). P (code_leaf as_place kind ballot code)) plan seed ballot = λ kind ballot race column has within below. tt in
       lines-of P posted plain-right
       (blocks-of P (λ ballot. tt) plan (flat_map (told_blocks plan seed) fates)
       (of-flat (HasBlock P plan) (λ (one : Told). (fits_ballot plan one.ballot one.fate × IsTrueFate plan seed one.ballot one.fate) × IsToldAt 0 fates one) (told_blocks plan seed) fates
-      (λ one is. told-lines P plan seed told.fine own one.ballot one.fate is.0.0 (λ marks cast. overs-right one.ballot marks (is.1.1 ∙ cast))
+      (λ one is. told-lines P plan seed told.fine own one.ballot one.fate is.0.0 (λ marks cast race within over. (within, ap (marks_posted plan seed one.ballot race) (is.1.1 ∙ cast) ∙ over-none plan seed one.ballot race marks over))
       (λ paper audited. true-paper one.ballot paper (subst (IsTrueFate plan seed one.ballot) audited is.0.1)))
       (of-both (λ (one : Told). fits_ballot plan one.ballot one.fate × IsTrueFate plan seed one.ballot one.fate) (IsToldAt 0 fates) fates
       (of-both (λ (one : Told). fits_ballot plan one.ballot one.fate) (λ (one : Told). IsTrueFate plan seed one.ballot one.fate) fates (fits-each plan 0 fates told.fit) told.papers) (told-is plan 0 fates told.fit))))

@@ -19,6 +19,10 @@ use Rattle.sg_post.specs.Posted.{seal_over}
 use Rattle.sg_accepted.proofs.Late.{Good, good-append, good-never, good-one}
 use Rattle.sg_record.specs.Places.{posts}
 
+-- lists in a row are as long as others whose parts are
+pub both-length : {A B : Type 0} (a b : List A) (c d : List B) → length a ≡ length c → length b ≡ length d → length (a ++ b) ≡ length (c ++ d)
+both-length a b c d p q = omega (arith, length-append a b, length-append c d, p, q)
+
 -- the bytes of lines in their places are their text
 pub bytes-posts : (version : ℕ) (lines : List Said) (places : List Placed) → length lines ≡ length places → posted_bytes (posts version lines places) ≡ text_in version lines
 bytes-posts version [] places same = refl
@@ -62,7 +66,4 @@ section-good plan version before lines places_before places number is first seco
     good-append (is_bad kind.Seal plan) (posts version before places_before) (posts version lines places) _ (unsealed-good plan (posts version before places_before) (posts version lines places) all)
     (seal-good plan (posts version before places_before ++ posts version lines places) (spelling version (Seal number (seal_over plan (before ++ lines)))) number (seal_over plan (before ++ lines))
     (ap sha256 (ap (λ (v : ℕ). text_in v (before ++ lines)) (sym is)
-    ∙ sym (ap posted_bytes (sym (posts-append version before lines places_before places first)) ∙ bytes-posts version (before ++ lines) (places_before ++ places) (both before lines places_before places first second)))))
-  where
-    both : (a b : List Said) (c d : List Placed) → length a ≡ length c → length b ≡ length d → length (a ++ b) ≡ length (c ++ d)
-    both a b c d p q = omega (arith, length-append a b, length-append c d, p, q)
+    ∙ sym (ap posted_bytes (sym (posts-append version before lines places_before places first)) ∙ bytes-posts version (before ++ lines) (places_before ++ places) (both-length before lines places_before places first second)))))

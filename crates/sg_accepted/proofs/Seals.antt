@@ -1,20 +1,20 @@
 -- Kind seal over a whole posted record: each of the three seals is over all lines before it.
 use Rattle.std.proofs.Common.{◌≡◌, ℕ, zero, suc, ◌+◌, ◌-◌, Bool, true, not, List, [], ◌∷◌, ◌++◌, length, map, slice_index_or, refl, sym, subst, ap, ◌∙◌, append_assoc, append-nil, arith}
-use Rattle.std.proofs.lemmas.List.{length-append, length-map}
-use Rattle.std.specs.List.{flat_map}
+use Rattle.std.proofs.lemmas.List.{length-map}
+use Rattle.std.specs.List.{flat_map, zip}
 use Rattle.sg_lists.proofs.Each.{EachOf, of-append}
 use Rattle.sg_plan.specs.declared.plan.Draw.{Draw}
 use Rattle.sg_plan.specs.declared.plan.Draw.TheVariants as drawn
 use Rattle.sg_plan.specs.declared.plan.Plan.{Plan}
 use Rattle.sg_commit.specs.declared.Digest.{Digest}
 use Rattle.sg_forms.specs.Said.{Said}
-use Rattle.sg_forms.specs.Said.Said.{Code, Seal}
+use Rattle.sg_forms.specs.Said.Said.{Paper, Seal}
 use Rattle.sg_forms.specs.Spelling.{spelling}
 use Rattle.sg_grammar.specs.Due.{each, lines_for, numbered}
 use Rattle.sg_grammar.specs.Placed.{Placed}
-use Rattle.sg_grammar.specs.Placed.Placed.{OfPlan, SealAt}
+use Rattle.sg_grammar.specs.Placed.Placed.{OfPlan, PaperAt, SealAt}
 use Rattle.sg_grammar.specs.Walk.{Posted}
-use Rattle.sg_record.specs.Lines.{block_lines, cast_race_lines, code_commit_line, dispute_lines, draw_line, fate_lines, flag_line, flag_lines, indexed, instance_row_commit_lines, instance_row_lines, lines_in, paper_lines, place_line, place_lines, plan_lines, race_code_commit_lines, race_result_lines, race_row_commit_lines, race_row_lines, row_commit_line, row_line, total_line}
+use Rattle.sg_record.specs.Lines.{lines_in, plan_lines}
 use Rattle.sg_record.specs.declared.record.Record.{Record}
 use Rattle.sg_record.specs.declared.record.BallotBlock.{BallotBlock}
 use Rattle.sg_record.specs.declared.record.BlockFate.{BlockFate}
@@ -27,10 +27,10 @@ use Rattle.sg_post.specs.declared.story.Told.{Told}
 use Rattle.sg_facts.proofs.Finding.{of-each}
 use Rattle.sg_facts.proofs.Sections.{ballots-of, codes-of, disputes-of, plan-of, race_results-of, row_commits-of, rows-of}
 use Rattle.sg_accepted.proofs.Late.{Good, good-append}
-use Rattle.sg_accepted.proofs.Seal.{is_seal, posts-append, section-good, unsealed-good}
+use Rattle.sg_accepted.proofs.Seal.{both-length, is_seal, posts-append, section-good, unsealed-good}
 use Rattle.sg_grammar.specs.declared.state.Block.TheVariants as block
-use Rattle.sg_record.specs.Places.{block_places as record_block_places, code_commit_place, code_place, dispute_places, draw_place, fate_places as record_fate_places, flag_place, flag_places, instance_row_commit_places, instance_row_places, paper_places, places_in, posts, race_code_commit_places, race_result_places, race_row_commit_places, race_row_places, row_commit_place, row_place, set_place, set_places, total_place}
-use Rattle.sg_record.proofs.PlacedBlocks.{cast-mapped, cast_place}
+use Rattle.sg_record.specs.Places.{places_in, posts}
+use Rattle.sg_record.specs.Tree.{as_line, as_place, block_tree, cast_leaf, code_commit_leaf, code_leaf, dispute_tree, draw_leaf, fate_tree, flag_leaf, flag_tree, indexed, instance_row_commit_tree, instance_row_tree, paper_tree, place_leaf, place_tree, race_code_commit_tree, race_results_tree, race_row_commit_tree, race_row_tree, row_commit_leaf, row_leaf, total_leaf}
 use Rattle.sg_plan.specs.Ballots.{races_of_ballot}
 
 -- LISTS PUT TOGETHER OTHERWISE
@@ -86,49 +86,36 @@ over-step plan before lines rest places_before places others number digest is fi
 items-length : {A : Type 0} (g : ℕ → A → List Said) (h : ℕ → A → List Placed) (at : ℕ) (xs : List A) → ((k : ℕ) (x : A) → length (g k x) ≡ length (h k x)) → length (indexed g at xs) ≡ length (indexed h at xs)
 unfolding indexed
 items-length g h at [] same = refl
-items-length g h at (x ∷ xs) same = omega (arith, length-append (g at x) (indexed g (at + 1) xs), length-append (h at x) (indexed h (at + 1) xs), same at x, items-length g h (at + 1) xs same)
+items-length g h at (x ∷ xs) same = both-length (g at x) (indexed g (at + 1) xs) (h at x) (indexed h (at + 1) xs) (same at x) (items-length g h (at + 1) xs same)
 
 -- and for each number
 numbers-length : (g : ℕ → List Said) (h : ℕ → List Placed) (at count : ℕ) → ((k : ℕ) → length (g k) ≡ length (h k)) → length (numbered g at count) ≡ length (numbered h at count)
 unfolding numbered
 numbers-length g h at zero same = refl
-numbers-length g h at (suc count) same = omega (arith, length-append (g at) (numbered g (at + 1) count), length-append (h at) (numbered h (at + 1) count), same at, numbers-length g h (at + 1) count same)
+numbers-length g h at (suc count) same = both-length (g at) (numbered g (at + 1) count) (h at) (numbered h (at + 1) count) (same at) (numbers-length g h (at + 1) count same)
 
-papers-length : (ballot : ℕ) (races : List ℕ) (papers : List (List ℕ)) → length (paper_lines races papers) ≡ length (paper_places ballot races papers)
-papers-length ballot [] papers = refl
-papers-length ballot (race ∷ races) [] = refl
-papers-length ballot (race ∷ races) (list ∷ papers) = ap (λ (n : ℕ). suc n) (papers-length ballot races papers)
+-- both are maps of one list
+maps-length : {A B C : Type 0} (g : A → B) (h : A → C) (xs : List A) → length (map g xs) ≡ length (map h xs)
+maps-length g h xs = length-map xs g ∙ sym (length-map xs h)
 
-fate-length : (plan : Plan) (ballot : ℕ) (what : BlockFate) → length (fate_lines plan ballot what) ≡ length (record_fate_places plan ballot what)
-fate-length plan ballot (blocked.Cast codes overs) =
-    ap (λ (n : ℕ). suc n) (sym (length-map (each (cast_race_lines codes overs) 0 (length plan.races)) (cast_place ballot)) ∙ ap length (cast-mapped plan ballot codes overs))
-fate-length plan ballot blocked.Spoiled = refl
+fate-length : (plan : Plan) (ballot : ℕ) (what : BlockFate) → length (fate_tree as_line plan ballot what) ≡ length (fate_tree as_place plan ballot what)
+fate-length plan ballot (blocked.Cast lines) = ap (λ (n : ℕ). suc n) (maps-length (cast_leaf as_line ballot) (cast_leaf as_place ballot) lines)
 fate-length plan ballot (blocked.Audited papers codes) =
     let races : List ℕ = races_of_ballot plan ballot in
-    omega (
-      arith,
-      length-append (paper_lines races papers) (map Code codes),
-      length-append (paper_places ballot races papers) (map (code_place block.Audited ballot) codes),
-      length-map codes Code,
-      length-map codes (code_place block.Audited ballot),
-      papers-length ballot races papers,
-    )
-fate-length plan ballot blocked.Voided = refl
+    ap (λ (n : ℕ). suc n)
+    (both-length (paper_tree as_line ballot races papers) (map (code_leaf as_line block.Audited ballot) codes) (paper_tree as_place ballot races papers) (map (code_leaf as_place block.Audited ballot) codes)
+    (maps-length (λ (one : ℕ × List ℕ). Paper one.0 one.1) (λ (one : ℕ × List ℕ). PaperAt ballot one.0 one.1) (zip races papers)) (maps-length (code_leaf as_line block.Audited ballot) (code_leaf as_place block.Audited ballot) codes))
+fate-length plan ballot other = refl
 
-blocks-length : (plan : Plan) (blocks : List BallotBlock) → length (flat_map (block_lines plan) blocks) ≡ length (flat_map (record_block_places plan) blocks)
+blocks-length : (plan : Plan) (blocks : List BallotBlock) → length (flat_map (block_tree as_line plan) blocks) ≡ length (flat_map (block_tree as_place plan) blocks)
 blocks-length plan [] = refl
 blocks-length plan (one ∷ blocks) =
-    omega (
-      arith,
-      length-append (block_lines plan one) (flat_map (block_lines plan) blocks),
-      length-append (record_block_places plan one) (flat_map (record_block_places plan) blocks),
-      fate-length plan one.ballot one.fate,
-      blocks-length plan blocks,
-    )
+    both-length (block_tree as_line plan one) (flat_map (block_tree as_line plan) blocks) (block_tree as_place plan one) (flat_map (block_tree as_place plan) blocks)
+    (fate-length plan one.ballot one.fate) (blocks-length plan blocks)
 
 -- THE RECORD
 
-draw-no_seal : (draw : Draw) → not (is_seal (draw_place draw)) ≡ true
+draw-no_seal : (draw : Draw) → not (is_seal (draw_leaf as_place draw)) ≡ true
 draw-no_seal drawn.Full = refl
 draw-no_seal (drawn.Public bytes) = refl
 
@@ -141,22 +128,22 @@ module _ (plan : Plan) (seed : List ℕ) (fates : List Told) (draw : Draw) (clai
   record_of = posted_record plan seed fates draw claims
 
   abbrev codes : List Said
-  codes = indexed race_code_commit_lines 0 (by_entry plan (code_commit_of plan seed))
+  codes = indexed (race_code_commit_tree as_line) 0 (by_entry plan (code_commit_of plan seed))
 
   abbrev pairs : List Said
-  pairs = indexed race_row_commit_lines 0 (by_row plan (row_commit_of plan seed))
+  pairs = indexed (race_row_commit_tree as_line) 0 (by_row plan (row_commit_of plan seed))
 
   abbrev blocks : List Said
-  blocks = flat_map (block_lines plan) (flat_map (told_blocks plan seed) fates)
+  blocks = flat_map (block_tree as_line plan) (flat_map (told_blocks plan seed) fates)
 
   abbrev tallies : List Said
-  tallies = each (race_result_lines (posted_record plan seed fates draw claims)) 0 (length plan.races)
+  tallies = each (race_results_tree as_line (posted_record plan seed fates draw claims)) 0 (length plan.races)
 
   abbrev rows : List Said
-  rows = indexed race_row_lines 0 (by_row plan (opened_row plan seed fates draw))
+  rows = indexed (race_row_tree as_line) 0 (by_row plan (opened_row plan seed fates draw))
 
   abbrev disputes : List Said
-  disputes = flat_map dispute_lines (map (dispute_of plan seed) claims)
+  disputes = flat_map (dispute_tree as_line) (map (dispute_of plan seed) claims)
 
   -- what stands before the first seal, between it and the second, and between that and the third
   abbrev one : List Said
@@ -166,25 +153,25 @@ module _ (plan : Plan) (seed : List ℕ) (fates : List Told) (draw : Draw) (clai
   two = blocks ++ tallies
 
   abbrev three : List Said
-  three = draw_line draw ∷ rows
+  three = draw_leaf as_line draw ∷ rows
 
   abbrev codes_places : List Placed
-  codes_places = indexed race_code_commit_places 0 record_of.code_commits
+  codes_places = indexed (race_code_commit_tree as_place) 0 record_of.code_commits
 
   abbrev pairs_places : List Placed
-  pairs_places = indexed race_row_commit_places 0 record_of.row_commits
+  pairs_places = indexed (race_row_commit_tree as_place) 0 record_of.row_commits
 
   abbrev block_places : List Placed
-  block_places = flat_map (record_block_places plan) record_of.ballots
+  block_places = flat_map (block_tree as_place plan) record_of.ballots
 
   abbrev tally_places : List Placed
-  tally_places = each (race_result_places record_of) 0 (length plan.races)
+  tally_places = each (race_results_tree as_place record_of) 0 (length plan.races)
 
   abbrev rows_places : List Placed
-  rows_places = indexed race_row_places 0 record_of.rows
+  rows_places = indexed (race_row_tree as_place) 0 record_of.rows
 
   abbrev claim_places : List Placed
-  claim_places = flat_map dispute_places record_of.disputes
+  claim_places = flat_map (dispute_tree as_place) record_of.disputes
 
   abbrev one_places : List Placed
   one_places = map OfPlan (plan_lines plan) ++ (codes_places ++ pairs_places)
@@ -193,7 +180,7 @@ module _ (plan : Plan) (seed : List ℕ) (fates : List Told) (draw : Draw) (clai
   two_places = block_places ++ tally_places
 
   abbrev three_places : List Placed
-  three_places = draw_place draw ∷ rows_places
+  three_places = draw_leaf as_place draw ∷ rows_places
 
   abbrev seal_line_1 : List Said
   seal_line_1 = Seal 1 (seal_1 plan seed) ∷ []
@@ -219,76 +206,55 @@ module _ (plan : Plan) (seed : List ℕ) (fates : List Told) (draw : Draw) (clai
   third_is : seal_3 plan seed fates draw ≡ seal_over plan (((one ++ seal_line_1) ++ (two ++ seal_line_2)) ++ three)
   unfolding seal_3
   third_is =
-      ap (λ (l : List Said). seal_over plan ((l ++ (blocks ++ (tallies ++ seal_line_2))) ++ (draw_line draw ∷ (rows ++ [])))) (group (plan_lines plan) codes pairs seal_line_1)
-      ∙ (ap (λ (l : List Said). seal_over plan (((one ++ seal_line_1) ++ l) ++ (draw_line draw ∷ (rows ++ [])))) (sym (append_assoc blocks tallies seal_line_2))
-      ∙ ap (λ (l : List Said). seal_over plan (((one ++ seal_line_1) ++ (two ++ seal_line_2)) ++ (draw_line draw ∷ l))) (append-nil rows))
+      ap (λ (l : List Said). seal_over plan ((l ++ (blocks ++ (tallies ++ seal_line_2))) ++ (draw_leaf as_line draw ∷ (rows ++ [])))) (group (plan_lines plan) codes pairs seal_line_1)
+      ∙ (ap (λ (l : List Said). seal_over plan (((one ++ seal_line_1) ++ l) ++ (draw_leaf as_line draw ∷ (rows ++ [])))) (sym (append_assoc blocks tallies seal_line_2))
+      ∙ ap (λ (l : List Said). seal_over plan (((one ++ seal_line_1) ++ (two ++ seal_line_2)) ++ (draw_leaf as_line draw ∷ l))) (append-nil rows))
 
   -- as many lines as places
   codes_length : length codes ≡ length codes_places
   codes_length =
-      items-length race_code_commit_lines race_code_commit_places 0 (by_entry plan (code_commit_of plan seed)) (λ race digests. items-length (code_commit_line race) (code_commit_place race) 0 digests (λ entry digest. refl))
+      items-length (race_code_commit_tree as_line) (race_code_commit_tree as_place) 0 (by_entry plan (code_commit_of plan seed)) (λ race digests. items-length (code_commit_leaf as_line race) (code_commit_leaf as_place race) 0 digests (λ entry digest. refl))
 
   pairs_length : length pairs ≡ length pairs_places
   pairs_length =
-      items-length race_row_commit_lines race_row_commit_places 0 (by_row plan (row_commit_of plan seed))
-      (λ race instances. items-length (instance_row_commit_lines race) (instance_row_commit_places race) 0 instances
-      (λ instance commits. items-length (row_commit_line race instance) (row_commit_place race instance) 0 commits (λ row commit. refl)))
+      items-length (race_row_commit_tree as_line) (race_row_commit_tree as_place) 0 (by_row plan (row_commit_of plan seed))
+      (λ race instances. items-length (instance_row_commit_tree as_line race) (instance_row_commit_tree as_place race) 0 instances
+      (λ instance commits. items-length (row_commit_leaf as_line race instance) (row_commit_leaf as_place race instance) 0 commits (λ row commit. refl)))
 
   one_length : length one ≡ length one_places
   one_length =
-      omega (
-        arith,
-        codes_length,
-        pairs_length,
-        length-append (plan_lines plan) (codes ++ pairs),
-        length-append codes pairs,
-        length-append (map OfPlan (plan_lines plan)) (codes_places ++ pairs_places),
-        length-append codes_places pairs_places,
-        length-map (plan_lines plan) OfPlan,
-      )
+      both-length (plan_lines plan) (codes ++ pairs) (map OfPlan (plan_lines plan)) (codes_places ++ pairs_places) (sym (length-map (plan_lines plan) OfPlan))
+      (both-length codes pairs codes_places pairs_places codes_length pairs_length)
 
-  race_length : (race : ℕ) → length (race_result_lines (posted_record plan seed fates draw claims) race) ≡ length (race_result_places (posted_record plan seed fates draw claims) race)
+  race_length : (race : ℕ) → length (race_results_tree as_line (posted_record plan seed fates draw claims) race) ≡ length (race_results_tree as_place (posted_record plan seed fates draw claims) race)
   race_length race =
       let posted : Record = posted_record plan seed fates draw claims in
       let flags : List (List Bool) = slice_index_or posted.flags race [] in
       let places : List Bool = slice_index_or posted.places race [] in
       let totals : List ℕ = slice_index_or posted.totals race [] in
-      omega (
-        arith,
-        length-append (indexed (flag_lines race) 0 flags) (place_lines race places ++ indexed (total_line race) 0 totals),
-        length-append (place_lines race places) (indexed (total_line race) 0 totals),
-        length-append (indexed (flag_places race) 0 flags) (set_places race places ++ indexed (total_place race) 0 totals),
-        length-append (set_places race places) (indexed (total_place race) 0 totals),
-        items-length (flag_lines race) (flag_places race) 0 flags (λ instance bits. numbers-length (flag_line race instance bits) (flag_place race instance bits) 0 (lines_for (length bits) - 0) (λ line. refl)),
-        numbers-length (place_line race places) (set_place race places) 0 (lines_for (length places) - 0) (λ line. refl),
-        items-length (total_line race) (total_place race) 0 totals (λ candidate count. refl),
-      )
+      both-length (indexed (flag_tree as_line race) 0 flags) (place_tree as_line race places ++ indexed (total_leaf as_line race) 0 totals)
+      (indexed (flag_tree as_place race) 0 flags) (place_tree as_place race places ++ indexed (total_leaf as_place race) 0 totals)
+      (items-length (flag_tree as_line race) (flag_tree as_place race) 0 flags
+      (λ instance bits. numbers-length (flag_leaf as_line race instance bits) (flag_leaf as_place race instance bits) 0 (lines_for (length bits) - 0) (λ line. refl)))
+      (both-length (place_tree as_line race places) (indexed (total_leaf as_line race) 0 totals) (place_tree as_place race places) (indexed (total_leaf as_place race) 0 totals)
+      (numbers-length (place_leaf as_line race places) (place_leaf as_place race places) 0 (lines_for (length places) - 0) (λ line. refl))
+      (items-length (total_leaf as_line race) (total_leaf as_place race) 0 totals (λ candidate count. refl)))
 
   tallies_length : length tallies ≡ length tally_places
   tallies_length =
-      numbers-length (race_result_lines (posted_record plan seed fates draw claims)) (race_result_places (posted_record plan seed fates draw claims)) 0 (length plan.races - 0) race_length
+      numbers-length (race_results_tree as_line (posted_record plan seed fates draw claims)) (race_results_tree as_place (posted_record plan seed fates draw claims)) 0 (length plan.races - 0) race_length
 
   two_length : length two ≡ length two_places
-  two_length =
-      omega (
-        arith,
-        length-append blocks tallies,
-        length-append block_places tally_places,
-        blocks-length plan (flat_map (told_blocks plan seed) fates),
-        tallies_length,
-      )
+  two_length = both-length blocks tallies block_places tally_places (blocks-length plan (flat_map (told_blocks plan seed) fates)) tallies_length
 
   rows_length : length rows ≡ length rows_places
   rows_length =
-      items-length race_row_lines race_row_places 0 (by_row plan (opened_row plan seed fates draw))
-      (λ race instances. items-length instance_row_lines (instance_row_places race) 0 instances
-      (λ instance openings. items-length row_line (row_place race instance) 0 openings (λ row opening. refl)))
+      items-length (race_row_tree as_line) (race_row_tree as_place) 0 (by_row plan (opened_row plan seed fates draw))
+      (λ race instances. items-length (instance_row_tree as_line race) (instance_row_tree as_place race) 0 instances
+      (λ instance openings. items-length (row_leaf as_line race instance) (row_leaf as_place race instance) 0 openings (λ row opening. refl)))
 
   three_length : length three ≡ length three_places
   three_length = omega (arith, rows_length)
-
-  both : {A B : Type 0} (a b : List A) (c d : List B) → length a ≡ length c → length b ≡ length d → length (a ++ b) ≡ length (c ++ d)
-  both a b c d p q = omega (arith, length-append a b, length-append c d, p, q)
 
   -- the seals
   one_none : NoSeals one_places
@@ -299,7 +265,7 @@ module _ (plan : Plan) (seed : List ℕ) (fates : List Told) (draw : Draw) (clai
   two_none : NoSeals two_places
   two_none =
       of-append IsNoSeal block_places tally_places (ballots-of IsNoSeal (λ b. refl) (λ b r. refl) (λ b r l. refl) (λ b code. refl) (λ b code. refl) plan record_of.ballots)
-      (of-each IsNoSeal (race_result_places record_of) 0 (length plan.races) (λ race. race_results-of IsNoSeal record_of race (λ i f b. refl) (λ f b. refl) (λ c n is. refl)))
+      (of-each IsNoSeal (race_results_tree as_place record_of) 0 (length plan.races) (λ race. race_results-of IsNoSeal record_of race (λ i f b. refl) (λ f b. refl) (λ c n is. refl)))
 
   three_none : NoSeals three_places
   three_none = (draw-no_seal draw, rows-of IsNoSeal record_of (λ r i x o is. refl))
@@ -316,8 +282,8 @@ module _ (plan : Plan) (seed : List ℕ) (fates : List Told) (draw : Draw) (clai
       let places_1 : List Placed = one_places ++ seal_place_1 in
       let behind_2 : List Said = behind_1 ++ (two ++ seal_line_2) in
       let places_2 : List Placed = places_1 ++ (two_places ++ seal_place_2) in
-      let length_1 : length behind_1 ≡ length places_1 = both one seal_line_1 one_places seal_place_1 one_length refl in
-      let length_2 : length behind_2 ≡ length places_2 = both behind_1 (two ++ seal_line_2) places_1 (two_places ++ seal_place_2) length_1 (both two seal_line_2 two_places seal_place_2 two_length refl) in
+      let length_1 : length behind_1 ≡ length places_1 = both-length one seal_line_1 one_places seal_place_1 one_length refl in
+      let length_2 : length behind_2 ≡ length places_2 = both-length behind_1 (two ++ seal_line_2) places_1 (two_places ++ seal_place_2) length_1 (both-length two seal_line_2 two_places seal_place_2 two_length refl) in
       let last = unsealed-good plan (posts plan.version (behind_2 ++ (three ++ seal_3_line)) (places_2 ++ (three_places ++ seal_3_place))) (posts plan.version disputes claim_places)
       (no-seals plan.version disputes claim_places four_none) in
       let third = over-step plan behind_2 three disputes places_2 three_places claim_places 3 (seal_3 plan seed fates draw) third_is length_2 three_length three_none last in

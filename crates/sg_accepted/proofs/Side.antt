@@ -28,7 +28,8 @@ use Rattle.sg_post.specs.Posted.{both_sides, one_side, opened_row, posted_record
 use Rattle.sg_post.specs.declared.story.Claimed.{Claimed}
 use Rattle.sg_post.specs.declared.story.Told.{Told}
 use Rattle.sg_accepted.proofs.Late.{Good}
-use Rattle.sg_record.specs.Places.{draw_place, places_in}
+use Rattle.sg_record.specs.Places.{places_in}
+use Rattle.sg_record.specs.Tree.{as_place, draw_leaf}
 use Rattle.sg_facts.proofs.Facts.{digits_are, full_draw_is}
 use Rattle.sg_facts.proofs.Rising.{IsFront, digits-kept, full_draw-kept, record-good}
 use Rattle.sg_accepted.proofs.Posted.{SaysRight, all-right}
@@ -41,7 +42,7 @@ on_side plan seed race instance number side.Right true = refl
 on_side plan seed race instance number side.Right false = refl
 
 row-sided : (plan : Plan) (seed : List ℕ) (fates : List Told) (draw : Draw) (before : List Placed) (race instance number : ℕ) → AreDrawn draw
-    → is_full_draw before ≡ draws_full (draw_place draw) → first_given draws_digits before ≡ draws_digits (draw_place draw)
+    → is_full_draw before ≡ draws_full (draw_leaf as_place draw) → first_given draws_digits before ≡ draws_digits (draw_leaf as_place draw)
     → bad_placed kind.Side plan before (RowAt race instance number (opened_row plan seed fates draw race instance number)) ≡ false
 unfolding opened_row
 row-sided plan seed fates drawn.Full before race instance number are full digits =

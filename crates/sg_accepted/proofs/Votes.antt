@@ -18,11 +18,11 @@ use Rattle.sg_post.proofs.Made.{count-same}
 use Rattle.sg_post.specs.Fits.{fates_fit}
 use Rattle.sg_post.specs.Marks.{is_entry_of, is_entry_marked, is_place_set, told_marks, total_of}
 use Rattle.sg_post.specs.declared.story.Told.{Told}
+use Rattle.sg_accepted.proofs.Any.{sum-number}
 use Rattle.sg_accepted.proofs.Counted.{count-told}
 use Rattle.sg_accepted.proofs.Flag.{set-marked}
 use Rattle.sg_accepted.specs.Totals.{TotalsAreVotes, TotalsCountMarks, votes_so}
 use Rattle.sg_tables.specs.Posts.{fate_marks}
-use Rattle.sg_accepted.proofs.Sums.{sum-number}
 
 -- the places that are set are those of the marked entries, one for one
 pub totals_count_marks : TotalsCountMarks

@@ -22,16 +22,12 @@ told_fate (told ∷ fates) ballot = (if told.ballot == ballot then told.fate els
 -- a paper that was read is that of the ballot
 abbrev pub IsTrueFate : Plan → List ℕ → ℕ → Fate → Type 0
 IsTrueFate plan seed ballot (fate.Audited paper) = paper ≡ paper_of plan seed ballot
-IsTrueFate plan seed ballot fate.Unused = Unit {0}
-IsTrueFate plan seed ballot (fate.Cast marks) = Unit {0}
-IsTrueFate plan seed ballot fate.Spoiled = Unit {0}
-IsTrueFate plan seed ballot fate.Voided = Unit {0}
+IsTrueFate plan seed ballot other = Unit {0}
 
 -- sides are drawn, and the public bytes are bytes
 abbrev pub IsDrawn : Stage → Type 0
-IsDrawn stage.Voting = ⊥
-IsDrawn stage.Closed = ⊥
 IsDrawn (stage.Drawn draw) = AreDrawn draw
+IsDrawn other = ⊥
 
 -- the claim has the right answer
 abbrev pub IsRightClaim : Plan → List ℕ → List Told → Claimed → Type 0

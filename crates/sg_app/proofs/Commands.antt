@@ -5,6 +5,7 @@ use Rattle.sg_outside.specs.declared.outcome.Outcome.{Outcome}
 use Rattle.sg_outside.specs.declared.outcome.Outcome.TheVariants as outcome
 use Rattle.sg_plan.specs.Limits.{longest_election}
 use Rattle.sg_keeper.specs.declared.rows.Rows.{Rows}
+use Rattle.sg_clerk.specs.Outside.{Outside, input_at, output_at}
 use Rattle.sg_clerk.specs.Begun.{InitEnds}
 use Rattle.sg_clerk.specs.Laws.{KeepsPosted}
 use Rattle.sg_clerk.proofs.Beginning.{took_nothing}
@@ -13,7 +14,6 @@ use Rattle.sg_clerk.proofs.ScanFiles.Keeping.{scans_grow}
 use Rattle.sg_clerk.proofs.Connections.Keeping.{serve_grows}
 use Rattle.sg_reports.specs.declared.report.Report.TheVariants as report
 use Rattle.sg_reports.proofs.Reporting.{is_reported, memory_reports}
-use Rattle.sg_app.specs.Outside.{Outside, input_at, moment_of, output_at, scene_of}
 use Rattle.sg_app.specs.Says.{CommandSays}
 use Rattle.sg_app.specs.Touches.{NothingFailed, changes_rows}
 use Rattle.sg_app.proofs.Completing.{closed_well, talk_well, well}
@@ -60,9 +60,9 @@ pub command_grows : (asked : Command) (how : Outcome) (tells : Type 0) (rows row
     → (changes_rows asked ≡ false → tells → rows' ≡ rows) → tells → KeepsPosted rows rows'
 command_grows command.Init how tells rows rows' before now says same told =
     init_grows how (input_at before) (input_at now) tells rows rows' before.keep_faults now.keep_faults (output_at before) (output_at now) says told
-command_grows command.Do how tells rows rows' before now says same told = do_grows how tells rows rows' (moment_of before) (moment_of now) says told
-command_grows command.Scans how tells rows rows' before now says same told = scans_grow how tells rows rows' (moment_of before) (moment_of now) says told
-command_grows (command.Serve asked) how tells rows rows' before now says same told = serve_grows how asked.port asked.count tells rows rows' (scene_of before) (scene_of now) says told
+command_grows command.Do how tells rows rows' before now says same told = do_grows how tells rows rows' before now says told
+command_grows command.Scans how tells rows rows' before now says same told = scans_grow how tells rows rows' before now says told
+command_grows (command.Serve asked) how tells rows rows' before now says same told = serve_grows how asked.port asked.count tells rows rows' before now says told
 command_grows _ how tells rows rows' before now says same told = same_grows rows rows' (same refl told)
 
 -- where memory was wanted, and nothing was done; the last line is of what shows the rows

@@ -1,16 +1,15 @@
 -- What is said of the command that was run is said of the one that the words ask for; and what is said where memory for the
 -- words was wanted.
-use Rattle.std.proofs.Common.{◌≡◌, ℕ, Some, false, refl, subst}
+use Rattle.std.proofs.Common.{◌≡◌, ℕ, Some, false, subst}
 use Rattle.std.specs.Prelude.{List, Option}
 use Rattle.sg_outside.specs.Outcomes.{status_of}
 use Rattle.sg_outside.specs.declared.outcome.Outcome.{Outcome}
-use Rattle.sg_outside.specs.declared.outcome.Outcome.TheVariants.{NoMemory}
 use Rattle.sg_keeper.specs.declared.rows.Rows.{Rows}
 use Rattle.sg_words.specs.declared.command.Command.{Command}
-use Rattle.sg_app.specs.Outside.{Outside}
+use Rattle.sg_clerk.specs.Outside.{Outside}
 use Rattle.sg_app.specs.Says.{CommandSays, Ended}
 use Rattle.sg_app.specs.Touches.{changes_rows}
-use Rattle.sg_app.proofs.Commands.{memory_says, says_complete}
+use Rattle.sg_app.proofs.Commands.{says_complete}
 use Rattle.sg_links.specs.Board.{Board}
 
 -- what stands outside, by its parts
@@ -38,13 +37,3 @@ ended_for here asked found status how tells rows rows' before now is said status
       complete = says_complete asked how tells rows rows' before now found_says;
       same = subst (λ (a : Command). changes_rows a ≡ false → tells → rows' ≡ rows) (asked_is here asked found is said) same;
     }
-
--- where memory was wanted, and nothing was done
-pub memory_ended : (asked : Command) (tells : Type 0) (rows : Rows) (now : Outside) → Ended asked 9 tells rows rows now now
-memory_ended asked tells rows now = record {
-  outcome = NoMemory;
-  status_is = refl;
-  says = memory_says asked tells rows now;
-  complete = λ none. tt;
-  same = λ unchanged told. refl;
-}

@@ -3,6 +3,7 @@ use Rattle.std.specs.Prelude.{◌≡◌, ℕ, false}
 use Rattle.sg_outside.specs.Outcomes.{TellsNoFailure, status_of}
 use Rattle.sg_outside.specs.declared.outcome.Outcome.{Outcome}
 use Rattle.sg_keeper.specs.declared.rows.Rows.{Rows}
+use Rattle.sg_clerk.specs.Outside.{Outside, input_at, output_at}
 use Rattle.sg_clerk.specs.Asked.{DoSays}
 use Rattle.sg_clerk.specs.Begun.{InitSays}
 use Rattle.sg_clerk.specs.Sheet.{sheet_of}
@@ -12,7 +13,6 @@ use Rattle.sg_clerk.specs.scans.ScansAsked.{ScansSay}
 use Rattle.sg_clerk.specs.calls.Says.{ServeSays}
 use Rattle.sg_reports.specs.Reports.{ReportSays}
 use Rattle.sg_reports.specs.declared.report.Report.TheVariants as report
-use Rattle.sg_app.specs.Outside.{Outside, input_at, moment_of, output_at, scene_of}
 use Rattle.sg_sample.specs.Summary.{SampleSays}
 use Rattle.sg_app.specs.Touches.{NothingFailed, changes_rows}
 use Rattle.sg_words.specs.declared.command.Command.{Command}
@@ -25,10 +25,10 @@ CommandSays command.Init how tells rows rows' before now =
     InitSays how (input_at before) (input_at now) tells rows rows' before.keep_faults now.keep_faults (output_at before) (output_at now)
 CommandSays command.Sheet how tells rows rows' before now =
     ShowSays sheet_of how tells rows before.keep_faults now.keep_faults (output_at before) (output_at now)
-CommandSays command.Do how tells rows rows' before now = DoSays how tells rows rows' (moment_of before) (moment_of now)
-CommandSays command.Scans how tells rows rows' before now = ScansSay how tells rows rows' (moment_of before) (moment_of now)
+CommandSays command.Do how tells rows rows' before now = DoSays how tells rows rows' before now
+CommandSays command.Scans how tells rows rows' before now = ScansSay how tells rows rows' before now
 CommandSays (command.Serve asked) how tells rows rows' before now =
-    ServeSays how asked.port asked.count tells rows rows' (scene_of before) (scene_of now)
+    ServeSays how asked.port asked.count tells rows rows' before now
 CommandSays command.Record how tells rows rows' before now =
     ShowSays posted_of how tells rows before.keep_faults now.keep_faults (output_at before) (output_at now)
 CommandSays command.Openings how tells rows rows' before now =

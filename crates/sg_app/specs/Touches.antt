@@ -1,7 +1,7 @@
 -- What a command touches of what stands outside, and when nothing of that failed (this project's command line).
 use Rattle.std.specs.Prelude.{◌≡◌, Bool, true, false}
 use Rattle.sg_outside.specs.Faults.{Rose}
-use Rattle.sg_app.specs.Outside.{Outside}
+use Rattle.sg_clerk.specs.Outside.{Outside}
 use Rattle.sg_words.specs.declared.command.Command.{Command}
 use Rattle.sg_words.specs.declared.command.Command.TheVariants as command
 

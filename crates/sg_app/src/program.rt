@@ -14,7 +14,7 @@ use crate::work::obey;
 use sg_keeper::Keeper;
 use sg_links::Links;
 use sg_outside::{Sink, Source};
-use sg_plan::{Items, NoMemory, Word};
+use sg_plan::{Items, Word};
 use sg_words::{Command, command_of};
 use std::alloc::Global;
 
@@ -30,10 +30,9 @@ pub fn run<S: Source, K: Keeper, L: Links, O: Sink>(
     // No connection is current before, nor behind it.
     requires { L.is_open links.old ≡ false }
     ensures closed { L.is_open links.new ≡ false }
-    // Status 2 comes exactly where the words are no command's, but for want of memory (9). Then nothing is read, kept, taken or
-    // written.
+    // Status 2 comes exactly where the words are no command's. Then nothing is read, kept, taken or written.
     ensures form { result ≡ 2 → command_in words.now ≡ None }
-    ensures refused { command_in words.now ≡ None → (result ≡ 2) ⊎ (result ≡ 9) }
+    ensures refused { command_in words.now ≡ None → result ≡ 2 }
     ensures untouched { command_in words.now ≡ None → (input.new ≡ input.old) × (keeper.new ≡ keeper.old) × (links.new ≡ links.old) × (out.new ≡ out.old) }
     // Only the commands that the table `touched` says so of read the input, ask the keeper, and take connections.
     ensures unread { (command : CommandSeen) → command_in words.now ≡ Some command → reads_input command ≡ false → input.new ≡ input.old }
@@ -59,9 +58,8 @@ pub fn run<S: Source, K: Keeper, L: Links, O: Sink>(
     // Where no office is opened, `serve` leaves the links as they were.
     ensures unopened { (asked : ServiceSeen) → command_in words.now ≡ Some (Command.Serve asked) → (result ≡ 5) ⊎ (result ≡ 7) ⊎ (result ≡ 8) → links.new ≡ links.old }
 {
-    match command_of(alloc, words) {
-        Ok(Some(command)) => obey(alloc, command, input, keeper, links, out).status(),
-        Ok(None) => 2,
-        Err(NoMemory) => 9,
+    match command_of(words) {
+        Some(command) => obey(alloc, command, input, keeper, links, out).status(),
+        None => 2,
     }
 }

@@ -1,7 +1,7 @@
 -- What stands in a JSON value, by its kind.
 use Rattle.std.specs.Prelude.{ℕ, ◌^◌, nat_lt, ◌==◌, Bool, false, if◌then◌else◌, List, [], ◌∷◌, Option, None, Some}
 use Rattle.std.specs.Option.{option_map, option_and_then}
-use Rattle.serde_json.specs.Data.{Data, null, boolean, number, string, array, object, Items, no_items, item}
+use Rattle.serde_json.specs.Data.{Data, object, Items, no_items, item}
 use Rattle.serde_json.specs.Events.{members_len}
 use Rattle.serde_json.specs.Find.{as_array, as_number, as_str, as_u64, get}
 use Rattle.sg_lines.specs.Words.{code_of, key_of}
@@ -20,12 +20,8 @@ all_three make first second third = option_and_then (λ a. both (make a) second 
 
 -- the value is an object of so many members, each with a name of its own
 unfoldable pub has_members : ℕ → Data → Bool
-has_members count null = false
-has_members count (boolean truth) = false
-has_members count (number value) = false
-has_members count (string text) = false
-has_members count (array values) = false
 has_members count (object members) = members_len members == count
+has_members count other = false
 
 -- what is found, where the value is an object of so many members: if each member that was looked for is there, it has
 -- exactly these

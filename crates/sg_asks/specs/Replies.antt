@@ -5,9 +5,8 @@ use Rattle.serde_json.specs.Data.{Data, unsigned, boolean, number, string, array
 use Rattle.serde_json.specs.View.{items_of}
 use Rattle.serde_json.specs.Written.{compact_text}
 use Rattle.sg_plan.specs.Codes.{codes_of}
-use Rattle.sg_plan.specs.declared.plan.ClaimWord.{ClaimWord}
-use Rattle.sg_plan.specs.declared.plan.ClaimWord.TheVariants.{Posted, Unposted, Absent}
 use Rattle.sg_lines.specs.Words.{code_word}
+use Rattle.sg_forms.specs.Spelling.{claim_word}
 use Rattle.sg_acts.specs.declared.replies.Body.{Body}
 use Rattle.sg_acts.specs.declared.replies.Body.TheVariants as body
 use Rattle.sg_acts.specs.declared.replies.CodeSeen.{CodeSeen}
@@ -53,12 +52,6 @@ abbrev pub phase_word : Phase → List ℕ
 phase_word phase.Voting = codes "voting"
 phase_word phase.Closed = codes "closed"
 phase_word phase.Drawn = codes "drawn"
-
--- the word of a claim's answer
-abbrev pub claim_word : ClaimWord → List ℕ
-claim_word Posted = codes "posted"
-claim_word Unposted = codes "unposted"
-claim_word Absent = codes "absent"
 
 -- ---- replies
 

@@ -3,7 +3,8 @@ ghost use Rattle.std.specs.Prelude.{◌≡◌, ◌<◌, ◌∷◌, [], All, IfOk
 ghost use Rattle.std.specs.List.{concat};
 ghost use Rattle.sg_plan.specs.Codes.{codes_of};
 ghost use Rattle.sg_acts.specs.declared.replies.Reply.TheVariants as reply;
-ghost use Rattle.sg_asks.specs.Replies.{HasPlainText, HasReplyCodes, claim_word, fate_word, phase_word, text_of_reply};
+ghost use Rattle.sg_asks.specs.Replies.{HasPlainText, HasReplyCodes, fate_word, phase_word, text_of_reply};
+ghost use Rattle.sg_forms.specs.Spelling.{claim_word};
 ghost use Rattle.sg_asks.specs.inside.Pieces.{audited_pieces, body_pieces, bool_text, claimed_pieces, conflict_pieces, fate_pieces, mark_pieces, phase_pieces, receipt_pieces, ref_pieces, reply_pieces, scanned_pieces, station_pieces, totals_pieces};
 
 use crate::pieces::Piece::{Lists, Number, Numbers, Seen, Text};

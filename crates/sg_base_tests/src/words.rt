@@ -25,7 +25,7 @@ fn add_words(alloc: Global, words: &mut Items<Word>, line: &[u8]) -> Result<(), 
 /// The command of a line, whose words are put into the list.
 fn find(alloc: Global, words: &mut Items<Word>, line: &[u8]) -> Result<Option<Command>, NoMemory> {
     add_words(alloc, words, line)?;
-    command_of(alloc, words)
+    Ok(command_of(words))
 }
 
 /// The command of a line's words.

@@ -14,10 +14,10 @@ use Rattle.sg_histories.specs.Lawful.{Lawful}
 use Rattle.sg_histories.specs.Opens.{OpenTo, Whole}
 use Rattle.sg_histories.proofs.BackAll.{setup_kept}
 use Rattle.sg_histories.proofs.Opening.{lawful_rows_open, no_text, one_setup, open_rows_are_lawful}
+use Rattle.sg_clerk.specs.Outside.{Outside}
 use Rattle.sg_clerk.specs.Asked.{DoSays}
 use Rattle.sg_clerk.specs.Begun.{Beginning, InitEnds, InitSays, IsCut, Refusing}
 use Rattle.sg_clerk.specs.Does.{LineTalk, LinesEnd}
-use Rattle.sg_clerk.specs.Ends.{Moment}
 use Rattle.sg_clerk.specs.Laws.{KeepsPosted, KeepsRecord, PostedGrows}
 use Rattle.sg_clerk.specs.Shown.{posted_of}
 use Rattle.sg_clerk.specs.Talks.{Talks}
@@ -75,7 +75,7 @@ talks_grow Talk stores Ends result tells rows rows' faults faults' keeps talks t
     (keeps talks.setup does.exchanges talks.start does.next talks.lawful does.talk)
 
 -- `do`
-pub do_grows : (result : Outcome) (tells : Type 0) (rows rows' : Rows) (before now : Moment) → DoSays result tells rows rows' before now → tells → KeepsPosted rows rows'
+pub do_grows : (result : Outcome) (tells : Type 0) (rows rows' : Rows) (before now : Outside) → DoSays result tells rows rows' before now → tells → KeepsPosted rows rows'
 do_grows result tells rows rows' before now (inl talks) told =
     talks_grow LineTalk stores_in (LinesEnd before now) result tells rows rows' before.keep_faults now.keep_faults talks_keep_record talks told
 do_grows result tells rows rows' before now (inr closed) told = same_grows rows rows' (closed.same told)

@@ -9,9 +9,10 @@ use Rattle.sg_keeper.specs.declared.rows.Rows.{Rows}
 use Rattle.sg_keeper.specs.declared.setup.Setup.{Setup}
 use Rattle.sg_talk.specs.Talk.{Exchange, stores_in}
 use Rattle.sg_histories.specs.Histories.{Entry}
+use Rattle.sg_clerk.specs.Outside.{Outside, input_at, output_at}
 use Rattle.sg_clerk.specs.Asking.{EndsAfter, EndsBy, TalkBy, TalkedBy, stores_by}
 use Rattle.sg_clerk.specs.Does.{Does, EndsLines, LineTalk, lines_in, texts_in}
-use Rattle.sg_clerk.specs.Ends.{HasFailed, MissesLast, Moment, input_at, out_at}
+use Rattle.sg_clerk.specs.Ends.{HasFailed, MissesLast}
 use Rattle.sg_clerk.specs.Lines.{AreFirstLines, EndsSo}
 use Rattle.sg_clerk.specs.Talks.{KeeperFollows}
 use Rattle.sg_clerk.specs.inside.LineAsks.{IsStopped, LinesCame, LinesOver, by_lines}
@@ -79,8 +80,8 @@ lines_end cutter room how setup exchanges input input' out out' (inr cut) =
     })
 
 -- the talk over the lines
-pub does-talk : (cutter : Cutting) (room : ℕ) (how : Ending) (setup : Setup) (start : List Entry) (tells : Type 0) (rows after : Rows) (before now : Moment)
-    → TalkedBy by_lines (LinesCame cutter room (input_at before) (input_at now)) (λ why. LinesOver why (input_at before) (input_at now)) how (out_at before) (out_at now)
+pub does-talk : (cutter : Cutting) (room : ℕ) (how : Ending) (setup : Setup) (start : List Entry) (tells : Type 0) (rows after : Rows) (before now : Outside)
+    → TalkedBy by_lines (LinesCame cutter room (input_at before) (input_at now)) (λ why. LinesOver why (input_at before) (input_at now)) how (output_at before) (output_at now)
     setup start tells rows after before.keep_faults now.keep_faults
     → Does how setup start tells rows after before now
 does-talk cutter room how setup start tells rows after before now talked = record {
@@ -88,7 +89,7 @@ does-talk cutter room how setup start tells rows after before now talked = recor
   next = talked.next;
   talk = line_talk setup talked.exchanges start talked.next talked.talk;
   keeper = subst (λ (n : ℕ). KeeperFollows setup start talked.next n tells rows after before.keep_faults now.keep_faults) (line_stores talked.exchanges) talked.keeper;
-  ends = lines_end cutter room how setup talked.exchanges (input_at before) (input_at now) (out_at before) (out_at now) talked.ends;
+  ends = lines_end cutter room how setup talked.exchanges (input_at before) (input_at now) (output_at before) (output_at now) talked.ends;
 }
 
 -- memory was wanted before the first line
@@ -96,7 +97,7 @@ no-lines : (known : Option (List ℕ)) → AreFirstLines known []
 no-lines None = tt
 no-lines (Some bytes) = (lines_of bytes, refl)
 
-pub does-nothing : (tells : Type 0) (rows : Rows) (setup : Setup) (start : List Entry) (before : Moment) → Does ending.NoMemory setup start tells rows rows before before
+pub does-nothing : (tells : Type 0) (rows : Rows) (setup : Setup) (start : List Entry) (before : Outside) → Does ending.NoMemory setup start tells rows rows before before
 does-nothing tells rows setup start before = record {
   exchanges = [];
   next = start;

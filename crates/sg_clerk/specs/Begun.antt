@@ -61,11 +61,7 @@ IsBadFile refusal.Begun bytes = (setup : Setup) × IsFileOf setup bytes
 -- a setup is kept already
 abbrev pub IsBegun : Refusal → Rows → Type 0
 IsBegun refusal.Begun rows = (text : List ℕ) × (rows.setup ≡ Some text)
-IsBegun refusal.Size rows = Unit {0}
-IsBegun refusal.Json rows = Unit {0}
-IsBegun refusal.Shape rows = Unit {0}
-IsBegun (refusal.Plan broken) rows = Unit {0}
-IsBegun refusal.Secrets rows = Unit {0}
+IsBegun other rows = Unit {0}
 
 -- there is this cause to refuse, of bytes and of rows, where each is told
 pub record IsCause (why : Refusal) (known : Option (List ℕ)) (tells : Type 0) (rows : Rows) : Type 0 where

@@ -7,7 +7,8 @@ use Rattle.sg_keeper.specs.declared.setup.Setup.{Setup}
 use Rattle.sg_talk.specs.Talk.{Exchange, Talk, stores_in}
 use Rattle.sg_histories.specs.Histories.{Entry}
 use Rattle.sg_talk.specs.Turns.{AskTurn}
-use Rattle.sg_clerk.specs.Ends.{HasFailed, Moment, answer_line, input_at, out_at}
+use Rattle.sg_clerk.specs.Outside.{Outside, input_at, output_at}
+use Rattle.sg_clerk.specs.Ends.{HasFailed, answer_line}
 use Rattle.sg_clerk.specs.Lines.{AreFirstLines, EndsSo}
 use Rattle.sg_clerk.specs.Taken.{TookLines}
 use Rattle.sg_clerk.specs.Talks.{Talked}
@@ -34,9 +35,9 @@ pub record EndsLines (input input' out out' : Seen) (how : Ending) (setup : Setu
   pub cause : HasFailed how input.faults input'.faults out.faults out'.faults
   pub ends : EndsSo how (lines_in exchanges) (texts_in setup.plan.version exchanges) input.bytes input'.bytes out.bytes out'.bytes
 
-abbrev pub LinesEnd : Moment → Moment → Ending → Setup → List Exchange → Type 0
-LinesEnd before now = EndsLines (input_at before) (input_at now) (out_at before) (out_at now)
+abbrev pub LinesEnd : Outside → Outside → Ending → Setup → List Exchange → Type 0
+LinesEnd before now = EndsLines (input_at before) (input_at now) (output_at before) (output_at now)
 
 -- A run of `do` from a history on: a talk over lines, and how it ended.
-abbrev pub Does : Ending → Setup → List Entry → (tells : Type 0) → Rows → Rows → Moment → Moment → Type 0
+abbrev pub Does : Ending → Setup → List Entry → (tells : Type 0) → Rows → Rows → Outside → Outside → Type 0
 Does how setup history tells rows rows' before now = Talked LineTalk stores_in (LinesEnd before now how) setup history tells rows rows' before.keep_faults now.keep_faults

@@ -13,23 +13,6 @@ use Rattle.sg_clerk.specs.declared.ended.Ending.TheVariants as ending
 use Rattle.sg_clerk.specs.declared.ended.Unfit.{Unfit}
 use Rattle.sg_clerk.specs.declared.ended.Unfit.TheVariants as unfit
 
--- what stands outside at a moment: the bytes that the input still has and those that the output took, where they are
--- told, and the three counts of faults
-pub record Moment : Type 0 where
-  pub left : Option (List ℕ)
-  pub written : Option (List ℕ)
-  pub read_faults : ℕ
-  pub write_faults : ℕ
-  pub keep_faults : ℕ
-
--- the input at a moment
-abbrev pub input_at : Moment → Seen
-input_at moment = record { bytes = moment.left; faults = moment.read_faults }
-
--- the output at a moment
-abbrev pub out_at : Moment → Seen
-out_at moment = record { bytes = moment.written; faults = moment.write_faults }
-
 -- THE OUTCOME
 
 -- how a command ends whose talk ended so
@@ -44,12 +27,10 @@ outcome_of ending.NoMemory = outcome.NoMemory
 -- what failed, where a talk ends for that: the count of faults rose of what is asked from, the input or the links; or that of the
 -- output
 abbrev pub HasFailed : Ending → (asks asks' writes writes' : ℕ) → Type 0
-HasFailed ending.Done asks asks' writes writes' = Unit {0}
 HasFailed ending.ReadFault asks asks' writes writes' = Rose asks asks'
 HasFailed (ending.WriteFault due) asks asks' writes writes' = Rose writes writes'
 HasFailed ending.LinkFault asks asks' writes writes' = Rose asks asks'
-HasFailed (ending.Refused why) asks asks' writes writes' = Unit {0}
-HasFailed ending.NoMemory asks asks' writes writes' = Unit {0}
+HasFailed other asks asks' writes writes' = Unit {0}
 
 -- THE LINES
 

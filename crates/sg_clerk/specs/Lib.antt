@@ -7,6 +7,7 @@ pub mod Ends
 pub mod Laws
 pub mod Lines
 pub mod Opening
+pub mod Outside
 pub mod Sheet
 pub mod Shown
 pub mod Taken

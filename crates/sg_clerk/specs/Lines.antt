@@ -34,8 +34,7 @@ pub record AreLinesTaken (before now : Option (List ℕ)) (lines : List (List �
 abbrev pub IsRefusedFor : Unfit → List (List ℕ) → List ℕ → Type 0
 IsRefusedFor unfit.Line lines next = HasNoFeed next × (length next ≡ longest_ask) × (length lines < most_asks)
 IsRefusedFor unfit.Count lines next = (0 < length next) × (length lines ≡ most_asks)
-IsRefusedFor unfit.Size lines next = ⊥
-IsRefusedFor unfit.Header lines next = ⊥
+IsRefusedFor other lines next = ⊥
 
 -- the input goes on behind these lines, which are whole, with what is refused
 pub record IsRefused (why : Unfit) (before : Option (List ℕ)) (lines : List (List ℕ)) : Type 0 where

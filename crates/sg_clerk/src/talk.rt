@@ -4,6 +4,7 @@ ghost use Rattle.sg_plan.specs.Limits.{longest_ask};
 ghost use Rattle.sg_outside.specs.Streams.{seen};
 ghost use Rattle.sg_histories.specs.Histories.{Entry};
 ghost use Rattle.sg_histories.specs.Standing.{StandsFor};
+ghost use Rattle.sg_clerk.specs.Outside.{unlinked};
 ghost use Rattle.sg_clerk.specs.Does.{Does};
 ghost use Rattle.sg_clerk.specs.inside.LineAsks.{CutsNext, EndsBehind};
 
@@ -131,8 +132,8 @@ pub fn do_lines<S: Source, K: Keeper, O: Sink>(
 ) -> Ending
     ensures does { (history : List Entry) → StandsFor office.old history
         → Does result office.old.setup history (K.tells keeper.old) (K.rows keeper.old) (K.rows keeper.new)
-        (record { left = S.left input.old; written = O.written out.old; read_faults = S.faults input.old; write_faults = O.faults out.old; keep_faults = K.faults keeper.old })
-        (record { left = S.left input.new; written = O.written out.new; read_faults = S.faults input.new; write_faults = O.faults out.new; keep_faults = K.faults keeper.new }) }
+        (unlinked (S.left input.old) (O.written out.old) (S.faults input.old) (O.faults out.old) (K.faults keeper.old))
+        (unlinked (S.left input.new) (O.written out.new) (S.faults input.new) (O.faults out.new) (K.faults keeper.new)) }
     ensures told { K.tells keeper.old → K.tells keeper.new }
 {
     let Ok(lines) = Lines::new(alloc, LONGEST_ASK) else {

@@ -15,8 +15,9 @@ use Rattle.sg_record.proofs.FormedParts.{HasForm}
 use Rattle.sg_record.proofs.PlacesLaw.{places-many, posts-places}
 use Rattle.sg_record.proofs.TextLaw.{texts_differ}
 use Rattle.sg_record.specs.Laws.{AreLinesOf}
-use Rattle.sg_record.specs.Lines.{indexed, lines_in, plan_lines, text_of}
-use Rattle.sg_record.specs.Places.{code_commit_place, commit_places, instance_row_commit_places, places_in, race_code_commit_places, race_row_commit_places, row_commit_place, seal_place}
+use Rattle.sg_record.specs.Lines.{lines_in, plan_lines, text_of}
+use Rattle.sg_record.specs.Places.{places_in}
+use Rattle.sg_record.specs.Tree.{as_place, code_commit_leaf, commit_tree, indexed, instance_row_commit_tree, race_code_commit_tree, race_row_commit_tree, row_commit_leaf, seal_tree}
 use Rattle.sg_record.specs.declared.record.Record.{Record}
 use Rattle.sg_check.proofs.Accepted.{yes_is_sound}
 use Rattle.sg_check.proofs.Fronts.{given-behind, given-stays}
@@ -63,19 +64,19 @@ none_indexed f none at [] = refl
 none_indexed f none at (x ∷ xs) = given-behind first_seal_on (f at x) (indexed f (at + 1) xs) (none at x) ∙ none_indexed f none (at + 1) xs
 
 -- the seal stands behind the commitments
-seal_there : (posted : Record) (form : HasForm posted) → first_seal_in (commit_places posted) ≡ Some form.first
+seal_there : (posted : Record) (form : HasForm posted) → first_seal_in (commit_tree as_place posted) ≡ Some form.first
 seal_there posted form =
-    given-behind first_seal_on (indexed race_code_commit_places 0 posted.code_commits) (indexed race_row_commit_places 0 posted.row_commits ++ seal_place 1 posted.seals)
-    (none_indexed race_code_commit_places (λ race. none_indexed (code_commit_place race) (λ entry digest. refl) 0) 0 posted.code_commits)
-    ∙ (given-behind first_seal_on (indexed race_row_commit_places 0 posted.row_commits) (seal_place 1 posted.seals)
-    (none_indexed race_row_commit_places (λ race. none_indexed (instance_row_commit_places race) (λ instance. none_indexed (row_commit_place race instance) (λ row digests. refl) 0) 0) 0 posted.row_commits)
-    ∙ ap (λ (seals : List Digest). first_seal_in (seal_place 1 seals)) form.is.seals)
+    given-behind first_seal_on (indexed (race_code_commit_tree as_place) 0 posted.code_commits) (indexed (race_row_commit_tree as_place) 0 posted.row_commits ++ seal_tree as_place 1 posted.seals)
+    (none_indexed (race_code_commit_tree as_place) (λ race. none_indexed (code_commit_leaf as_place race) (λ entry digest. refl) 0) 0 posted.code_commits)
+    ∙ (given-behind first_seal_on (indexed (race_row_commit_tree as_place) 0 posted.row_commits) (seal_tree as_place 1 posted.seals)
+    (none_indexed (race_row_commit_tree as_place) (λ race. none_indexed (instance_row_commit_tree as_place race) (λ instance. none_indexed (row_commit_leaf as_place race instance) (λ row digests. refl) 0) 0) 0 posted.row_commits)
+    ∙ ap (λ (seals : List Digest). first_seal_in (seal_tree as_place 1 seals)) form.is.seals)
 
 seal_found : (posted : Record) → HasForm posted → first_seal_in (places_in posted) ≡ first_seal_of posted
 unfolding places_in
 seal_found posted form =
     given-behind first_seal_on (map OfPlan (plan_lines posted.plan)) _ (none_of_plan (plan_lines posted.plan))
-    ∙ (given-stays first_seal_on (commit_places posted) _ form.first (seal_there posted form) ∙ sym (ap (λ (seals : List Digest). slice_get seals 0) form.is.seals))
+    ∙ (given-stays first_seal_on (commit_tree as_place posted) _ form.first (seal_there posted form) ∙ sym (ap (λ (seals : List Digest). slice_get seals 0) form.is.seals))
 
 pub record_seal : (part : List (List ℕ)) (posted : Record) → AreLinesOf part posted → first_seal part ≡ first_seal_of posted
 record_seal part posted are =

@@ -58,11 +58,7 @@ behind byte (word ∷ words) = byte ∷ word ++ behind byte words
 abbrev pub HasCodes : ℕ → Act → Type 0
 HasCodes version (act.Audit ballot paper) = All (All (IsCode version)) paper
 HasCodes version (act.Claim ballot race code) = IsCode version code
-HasCodes version (act.Scan ballot marks) = Unit {0}
-HasCodes version (act.Spoil ballot) = Unit {0}
-HasCodes version act.Close = Unit {0}
-HasCodes version (act.Draw drawn) = Unit {0}
-HasCodes version (act.Void ballot) = Unit {0}
+HasCodes version other = Unit {0}
 
 -- the numbers of a mark are in the range of their types
 abbrev pub IsMark : Mark → Type 0

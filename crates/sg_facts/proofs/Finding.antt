@@ -1,5 +1,5 @@
 -- The first value that lines give, where the lines are put together from nested lists.
-use Rattle.std.proofs.Common.{◌≡◌, ◌≢◌, ℕ, zero, suc, ◌+◌, ◌-◌, ◌<◌, ◌≤◌, Bool, true, false, cond, inl, inr, List, [], ◌∷◌, ◌++◌, map, filter, Option, Some, None, refl, sym, subst, ap, ◌∙◌, arith}
+use Rattle.std.proofs.Common.{◌≡◌, ◌≢◌, ℕ, zero, suc, ◌+◌, ◌-◌, ◌<◌, ◌≤◌, Bool, false, inl, inr, List, [], ◌∷◌, ◌++◌, map, Option, Some, None, refl, sym, subst, ap, ◌∙◌, arith}
 use Rattle.std.proofs.lemmas.Bool.{cases_lt}
 use Rattle.std.specs.List.{flat_map, list_any}
 use Rattle.std.specs.Option.{option_and_then, option_map_or}
@@ -8,7 +8,7 @@ use Rattle.sg_lists.proofs.Any.{any-before, any-behind}
 use Rattle.sg_lists.proofs.Each.{EachOf, of-append}
 use Rattle.sg_grammar.proofs.Lists.{of-numbered}
 use Rattle.sg_grammar.specs.Due.{each, numbered}
-use Rattle.sg_record.specs.Lines.{indexed}
+use Rattle.sg_record.specs.Tree.{indexed}
 use Rattle.sg_check.specs.Facts.{first_given}
 use Rattle.sg_check.proofs.Fronts.{given-before, given-behind, given-none}
 use Rattle.sg_facts.specs.Items.{item_in, row_in}
@@ -156,23 +156,10 @@ any_indexed-at test f at (y ∷ ys) (suc k) x is none =
 
 -- LISTS THAT ARE MADE FROM OTHERS
 
-pub given-map : {A C B : Type 0} (g : C → Option B) (f : A → C) (xs : List A) → first_given g (map f xs) ≡ first_given (λ x. g (f x)) xs
-given-map g f [] = refl
-given-map {A} {C} {B} g f (x ∷ xs) = ap (λ (o : Option B). option_map_or Some (g (f x)) o) (given-map g f xs)
-
-pub given-same : {A B : Type 0} (g h : A → Option B) (xs : List A) → ((x : A) → g x ≡ h x) → first_given g xs ≡ first_given h xs
-given-same g h [] same = refl
-given-same {A} {B} g h (x ∷ xs) same =
-    ap (λ (o : Option B). option_map_or Some o (first_given g xs)) (same x) ∙ ap (λ (o : Option B). option_map_or Some (h x) o) (given-same g h xs same)
-
--- where the others give none
-pub given-filter : {A B : Type 0} (g : A → Option B) (p : A → Bool) (xs : List A) → ((x : A) → p x ≡ false → g x ≡ None) → first_given g (filter p xs) ≡ first_given g xs
-given-filter g p [] none = refl
-given-filter {A} {B} g p (x ∷ xs) none = at_first (p x) refl (given-filter g p xs none)
-  where
-    at_first : (b : Bool) → p x ≡ b → first_given g (filter p xs) ≡ first_given g xs → first_given g (cond b (x ∷ filter p xs) (filter p xs)) ≡ first_given g (x ∷ xs)
-    at_first true e rest = ap (λ (o : Option B). option_map_or Some (g x) o) rest
-    at_first false e rest = rest ∙ sym (ap (λ (o : Option B). option_map_or Some o (first_given g xs)) (none x e))
+pub given-map : {A C B : Type 0} (g : C → Option B) (f : A → C) (h : A → Option B) (xs : List A) → ((x : A) → g (f x) ≡ h x) → first_given g (map f xs) ≡ first_given h xs
+given-map g f h [] same = refl
+given-map {A} {C} {B} g f h (x ∷ xs) same =
+    ap (λ (o : Option B). option_map_or Some o (first_given g (map f xs))) (same x) ∙ ap (λ (o : Option B). option_map_or Some (h x) o) (given-map g f h xs same)
 
 pub given-append : {A B : Type 0} (g : A → Option B) (xs ys : List A) → first_given g (xs ++ ys) ≡ option_map_or Some (first_given g xs) (first_given g ys)
 given-append g [] ys = refl

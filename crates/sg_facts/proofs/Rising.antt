@@ -14,8 +14,9 @@ use Rattle.sg_forms.specs.declared.line.RowOpening.{RowOpening}
 use Rattle.sg_grammar.specs.Placed.{Placed}
 use Rattle.sg_grammar.specs.Placed.Placed.{Begun, CodeAt, CodeCommitAt, Disputed, DrawnFull, DrawnPublic, FlagsAt, OfPlan, OverAt, PaperAt, PlacesAt, RowAt, RowCommitAt, SealAt, TotalAt}
 use Rattle.sg_grammar.specs.declared.state.Block.TheVariants as block
-use Rattle.sg_record.specs.Lines.{indexed, plan_lines}
-use Rattle.sg_record.specs.Places.{block_places, commit_places, dispute_places, draw_place, opening_places, places_in, race_row_places, result_places, seal_place}
+use Rattle.sg_record.specs.Lines.{plan_lines}
+use Rattle.sg_record.specs.Places.{places_in}
+use Rattle.sg_record.specs.Tree.{as_place, block_tree, commit_tree, dispute_tree, draw_leaf, indexed, opening_tree, race_row_tree, result_tree, seal_tree}
 use Rattle.sg_record.specs.declared.record.Record.{Record}
 use Rattle.sg_check.specs.Facts.{code_commitment, commits_code, commits_half, draws_digits, draws_full, first_given, flags_row, is_flagged, is_full_draw, is_marked, is_set, marks_entry, sets_place, half_commitment}
 use Rattle.sg_check.specs.Verdict.{late}
@@ -67,7 +68,7 @@ rises-all : (low part : ℕ) (xs : List Placed) → low ≤ part → EachOf (IsP
 rises-all low part [] less all = tt
 rises-all low part (x ∷ xs) less all = (omega (arith, less, all.0), rises-all (part_of x) part xs (omega (arith, all.0)) all.1)
 
-draw-part : (draw : Draw) → part_of (draw_place draw) ≡ 5
+draw-part : (draw : Draw) → part_of (draw_leaf as_place draw) ≡ 5
 draw-part drawn.Full = refl
 draw-part (drawn.Public bytes) = refl
 
@@ -76,17 +77,17 @@ module _ (posted : Record) where
   head = map OfPlan (plan_lines posted.plan)
 
   abbrev pub blocks : List Placed
-  blocks = flat_map (block_places posted.plan) posted.ballots
+  blocks = flat_map (block_tree as_place posted.plan) posted.ballots
 
   abbrev pub claims : List Placed
-  claims = flat_map dispute_places posted.disputes
+  claims = flat_map (dispute_tree as_place) posted.disputes
 
   -- the lines behind the results, those behind the ballots, and those behind the commitments
   abbrev pub behind_results : List Placed
-  behind_results = opening_places posted ++ claims
+  behind_results = opening_tree as_place posted ++ claims
 
   abbrev pub behind_ballots : List Placed
-  behind_ballots = result_places posted ++ behind_results
+  behind_ballots = result_tree as_place posted ++ behind_results
 
   abbrev pub behind_commits : List Placed
   behind_commits = blocks ++ behind_ballots
@@ -94,18 +95,18 @@ module _ (posted : Record) where
   pub head_is : EachOf (IsPart 0) head
   head_is = plan-of (IsPart 0) posted.plan (λ said. refl)
 
-  pub commits_are : EachOf (IsPart 2) (commit_places posted)
+  pub commits_are : EachOf (IsPart 2) (commit_tree as_place posted)
   commits_are = commits-of (IsPart 2) posted (λ r e d. refl) (λ r i x a b. refl) (λ d. refl)
 
   pub blocks_are : EachOf (IsPart 3) blocks
   blocks_are = ballots-of (IsPart 3) (λ b. refl) (λ b r. refl) (λ b r l. refl) (λ b code. refl) (λ b code. refl) posted.plan posted.ballots
 
-  pub results_are : EachOf (IsPart 4) (result_places posted)
+  pub results_are : EachOf (IsPart 4) (result_tree as_place posted)
   results_are = results-of (IsPart 4) posted (λ r i f b. refl) (λ r f b. refl) (λ r c n low is. refl) (λ d. refl)
 
-  pub rows_are : EachOf (IsPart 6) (indexed race_row_places 0 posted.rows ++ seal_place 3 posted.seals)
+  pub rows_are : EachOf (IsPart 6) (indexed (race_row_tree as_place) 0 posted.rows ++ seal_tree as_place 3 posted.seals)
   rows_are =
-      of-append (IsPart 6) (indexed race_row_places 0 posted.rows) (seal_place 3 posted.seals) (rows-of (IsPart 6) posted (λ r i x o is. refl)) (seals-of (IsPart 6) 3 posted.seals (λ d. refl))
+      of-append (IsPart 6) (indexed (race_row_tree as_place) 0 posted.rows) (seal_tree as_place 3 posted.seals) (rows-of (IsPart 6) posted (λ r i x o is. refl)) (seals-of (IsPart 6) 3 posted.seals (λ d. refl))
 
   pub claims-rise : Rises 7 claims
   claims-rise = rises-all 7 7 claims (omega arith) (disputes-of (IsPart 7) posted.disputes (λ b r c w. refl) (λ b r c code. refl))
@@ -114,11 +115,11 @@ module _ (posted : Record) where
   results-rise =
       let draw = draw-part posted.draw in (
         omega (arith, draw),
-        rises-behind (part_of (draw_place posted.draw)) 6 (indexed race_row_places 0 posted.rows ++ seal_place 3 posted.seals) claims (omega (arith, draw)) rows_are (rises-from 6 7 claims (omega arith) claims-rise),
+        rises-behind (part_of (draw_leaf as_place posted.draw)) 6 (indexed (race_row_tree as_place) 0 posted.rows ++ seal_tree as_place 3 posted.seals) claims (omega (arith, draw)) rows_are (rises-from 6 7 claims (omega arith) claims-rise),
       )
 
   pub ballots-rise : Rises 4 behind_ballots
-  ballots-rise = rises-behind 4 4 (result_places posted) behind_results (omega arith) results_are (rises-from 4 5 behind_results (omega arith) results-rise)
+  ballots-rise = rises-behind 4 4 (result_tree as_place posted) behind_results (omega arith) results_are (rises-from 4 5 behind_results (omega arith) results-rise)
 
   commits-rise : Rises 3 behind_commits
   commits-rise = rises-behind 3 3 blocks behind_ballots (omega arith) blocks_are (rises-from 3 4 behind_ballots (omega arith) ballots-rise)
@@ -126,8 +127,8 @@ module _ (posted : Record) where
   pub record-rises : Rises 0 (places_in posted)
   unfolding places_in
   record-rises =
-      rises-behind 0 0 head (commit_places posted ++ behind_commits) (omega arith) head_is
-      (rises-behind 0 2 (commit_places posted) behind_commits (omega arith) commits_are (rises-from 2 3 behind_commits (omega arith) commits-rise))
+      rises-behind 0 0 head (commit_tree as_place posted ++ behind_commits) (omega arith) head_is
+      (rises-behind 0 2 (commit_tree as_place posted) behind_commits (omega arith) commits_are (rises-from 2 3 behind_commits (omega arith) commits-rise))
 
 pub all-behind : (part : ℕ) (lines : List Placed) → Rises part lines → EachOf (λ (line : Placed). part ≤ part_of line) lines
 all-behind part [] rises = tt
@@ -145,45 +146,45 @@ module _ (posted : Record) {B : Type 0} (given : Placed → Option B) where
   none-from : (part : ℕ) (xs : List Placed) → Rises part xs → ((line : Placed) → part ≤ part_of line → given line ≡ None) → first_given given xs ≡ None
   none-from part xs rises none = given-of given xs (of-into (λ (line : Placed). part ≤ part_of line) (λ (line : Placed). given line ≡ None) xs none (all-behind part xs rises))
 
-  pub given-commits : ((line : Placed) → part_of line ≢ 2 → given line ≡ None) → first_given given (places_in posted) ≡ first_given given (commit_places posted)
+  pub given-commits : ((line : Placed) → part_of line ≢ 2 → given line ≡ None) → first_given given (places_in posted) ≡ first_given given (commit_tree as_place posted)
   unfolding places_in
   given-commits none =
-      given-behind given (head posted) (commit_places posted ++ behind_commits posted) (none-of 0 (head posted) (head_is posted) (λ line is. none line (λ e. omega (arith, is, e))))
-      ∙ given-before given (commit_places posted) (behind_commits posted) (none-from 3 (behind_commits posted) (commits-rise posted) (λ line less. none line (λ e. omega (arith, less, e))))
+      given-behind given (head posted) (commit_tree as_place posted ++ behind_commits posted) (none-of 0 (head posted) (head_is posted) (λ line is. none line (λ e. omega (arith, is, e))))
+      ∙ given-before given (commit_tree as_place posted) (behind_commits posted) (none-from 3 (behind_commits posted) (commits-rise posted) (λ line less. none line (λ e. omega (arith, less, e))))
 
   -- of the ballots and the disputes
   pub given-codes : ((line : Placed) → part_of line ≢ 3 → part_of line ≢ 7 → given line ≡ None)
       → first_given given (places_in posted) ≡ option_map_or Some (first_given given (blocks posted)) (first_given given (claims posted))
   unfolding places_in
   given-codes none =
-      given-behind given (head posted) (commit_places posted ++ behind_commits posted) (none-of 0 (head posted) (head_is posted) (λ line is. none line (λ e. omega (arith, is, e)) (λ e. omega (arith, is, e))))
-      ∙ (given-behind given (commit_places posted) (behind_commits posted) (none-of 2 (commit_places posted) (commits_are posted) (λ line is. none line (λ e. omega (arith, is, e)) (λ e. omega (arith, is, e))))
+      given-behind given (head posted) (commit_tree as_place posted ++ behind_commits posted) (none-of 0 (head posted) (head_is posted) (λ line is. none line (λ e. omega (arith, is, e)) (λ e. omega (arith, is, e))))
+      ∙ (given-behind given (commit_tree as_place posted) (behind_commits posted) (none-of 2 (commit_tree as_place posted) (commits_are posted) (λ line is. none line (λ e. omega (arith, is, e)) (λ e. omega (arith, is, e))))
       ∙ (given-append given (blocks posted) (behind_ballots posted)
       ∙ ap (λ (o : Option B). option_map_or Some (first_given given (blocks posted)) o)
-      (given-behind given (result_places posted) (behind_results posted) (none-of 4 (result_places posted) (results_are posted) (λ line is. none line (λ e. omega (arith, is, e)) (λ e. omega (arith, is, e))))
-      ∙ given-behind given (opening_places posted) (claims posted) (given-of given (opening_places posted) (
-        (let draw = draw-part posted.draw in none (draw_place posted.draw) (λ e. omega (arith, draw, e)) (λ e. omega (arith, draw, e))),
-        of-into (IsPart 6) (λ (line : Placed). given line ≡ None) (indexed race_row_places 0 posted.rows ++ seal_place 3 posted.seals) (λ line is. none line (λ e. omega (arith, is, e)) (λ e. omega (arith, is, e))) (rows_are posted),
+      (given-behind given (result_tree as_place posted) (behind_results posted) (none-of 4 (result_tree as_place posted) (results_are posted) (λ line is. none line (λ e. omega (arith, is, e)) (λ e. omega (arith, is, e))))
+      ∙ given-behind given (opening_tree as_place posted) (claims posted) (given-of given (opening_tree as_place posted) (
+        (let draw = draw-part posted.draw in none (draw_leaf as_place posted.draw) (λ e. omega (arith, draw, e)) (λ e. omega (arith, draw, e))),
+        of-into (IsPart 6) (λ (line : Placed). given line ≡ None) (indexed (race_row_tree as_place) 0 posted.rows ++ seal_tree as_place 3 posted.seals) (λ line is. none line (λ e. omega (arith, is, e)) (λ e. omega (arith, is, e))) (rows_are posted),
       )))))
 
   before-results : ((line : Placed) → part_of line < 4 → given line ≡ None) → first_given given (places_in posted) ≡ first_given given (behind_ballots posted)
   unfolding places_in
   before-results none =
-      given-behind given (head posted) (commit_places posted ++ behind_commits posted) (none-of 0 (head posted) (head_is posted) (λ line is. none line (omega (arith, is))))
-      ∙ (given-behind given (commit_places posted) (behind_commits posted) (none-of 2 (commit_places posted) (commits_are posted) (λ line is. none line (omega (arith, is))))
+      given-behind given (head posted) (commit_tree as_place posted ++ behind_commits posted) (none-of 0 (head posted) (head_is posted) (λ line is. none line (omega (arith, is))))
+      ∙ (given-behind given (commit_tree as_place posted) (behind_commits posted) (none-of 2 (commit_tree as_place posted) (commits_are posted) (λ line is. none line (omega (arith, is))))
       ∙ given-behind given (blocks posted) (behind_ballots posted) (none-of 3 (blocks posted) (blocks_are posted) (λ line is. none line (omega (arith, is)))))
 
-  pub given-results : ((line : Placed) → part_of line ≢ 4 → given line ≡ None) → first_given given (places_in posted) ≡ first_given given (result_places posted)
+  pub given-results : ((line : Placed) → part_of line ≢ 4 → given line ≡ None) → first_given given (places_in posted) ≡ first_given given (result_tree as_place posted)
   given-results none =
       before-results (λ line less. none line (λ e. omega (arith, less, e)))
-      ∙ given-before given (result_places posted) (behind_results posted) (none-from 5 (behind_results posted) (results-rise posted) (λ line less. none line (λ e. omega (arith, less, e))))
+      ∙ given-before given (result_tree as_place posted) (behind_results posted) (none-from 5 (behind_results posted) (results-rise posted) (λ line less. none line (λ e. omega (arith, less, e))))
 
   -- of the draw and the rows
-  pub given-openings : ((line : Placed) → part_of line ≢ 5 → part_of line ≢ 6 → given line ≡ None) → first_given given (places_in posted) ≡ first_given given (opening_places posted)
+  pub given-openings : ((line : Placed) → part_of line ≢ 5 → part_of line ≢ 6 → given line ≡ None) → first_given given (places_in posted) ≡ first_given given (opening_tree as_place posted)
   given-openings none =
       before-results (λ line less. none line (λ e. omega (arith, less, e)) (λ e. omega (arith, less, e)))
-      ∙ (given-behind given (result_places posted) (behind_results posted) (none-of 4 (result_places posted) (results_are posted) (λ line is. none line (λ e. omega (arith, is, e)) (λ e. omega (arith, is, e))))
-      ∙ given-before given (opening_places posted) (claims posted) (none-from 7 (claims posted) (claims-rise posted) (λ line less. none line (λ e. omega (arith, less, e)) (λ e. omega (arith, less, e)))))
+      ∙ (given-behind given (result_tree as_place posted) (behind_results posted) (none-of 4 (result_tree as_place posted) (results_are posted) (λ line is. none line (λ e. omega (arith, is, e)) (λ e. omega (arith, is, e))))
+      ∙ given-before given (opening_tree as_place posted) (claims posted) (none-from 7 (claims posted) (claims-rise posted) (λ line less. none line (λ e. omega (arith, less, e)) (λ e. omega (arith, less, e)))))
 
 any-some : {A : Type 0} (test : A → Bool) (xs : List A) → list_any test xs ≡ is_some (first_given (λ (x : A). cond (test x) (Some x) None) xs)
 any-some test [] = refl
@@ -201,15 +202,15 @@ module _ (posted : Record) (test : Placed → Bool) where
   fails-none : (line : Placed) → test line ≡ false → passing line ≡ None
   fails-none line fails = ap (λ (b : Bool). cond b (Some line) None) fails
 
-  pub any-results : ((line : Placed) → part_of line ≢ 4 → test line ≡ false) → list_any test (places_in posted) ≡ list_any test (result_places posted)
+  pub any-results : ((line : Placed) → part_of line ≢ 4 → test line ≡ false) → list_any test (places_in posted) ≡ list_any test (result_tree as_place posted)
   any-results fails =
       any-some test (places_in posted)
-      ∙ (ap (λ (o : Option Placed). is_some o) (given-results posted passing (λ line other. fails-none line (fails line other))) ∙ sym (any-some test (result_places posted)))
+      ∙ (ap (λ (o : Option Placed). is_some o) (given-results posted passing (λ line other. fails-none line (fails line other))) ∙ sym (any-some test (result_tree as_place posted)))
 
-  pub any-openings : ((line : Placed) → part_of line ≢ 5 → part_of line ≢ 6 → test line ≡ false) → list_any test (places_in posted) ≡ list_any test (opening_places posted)
+  pub any-openings : ((line : Placed) → part_of line ≢ 5 → part_of line ≢ 6 → test line ≡ false) → list_any test (places_in posted) ≡ list_any test (opening_tree as_place posted)
   any-openings fails =
       any-some test (places_in posted)
-      ∙ (ap (λ (o : Option Placed). is_some o) (given-openings posted passing (λ line a b. fails-none line (fails line a b))) ∙ sym (any-some test (opening_places posted)))
+      ∙ (ap (λ (o : Option Placed). is_some o) (given-openings posted passing (λ line a b. fails-none line (fails line a b))) ∙ sym (any-some test (opening_tree as_place posted)))
 
 -- WHAT THE LINES BEFORE A LINE SAY
 
@@ -320,15 +321,15 @@ is_plain (TotalAt race candidate count) = false
 is_plain (RowAt race instance row opening) = false
 is_plain line = true
 
-pub lines-of : (P : Placed → Type 0) (posted : Record) → ((line : Placed) → is_plain line ≡ true → P line) → EachOf P (flat_map (block_places posted.plan) posted.ballots)
+pub lines-of : (P : Placed → Type 0) (posted : Record) → ((line : Placed) → is_plain line ≡ true → P line) → EachOf P (flat_map (block_tree as_place posted.plan) posted.ballots)
     → ((race candidate count : ℕ) → race < length posted.plan.races → slice_get (slice_index_or posted.totals race []) candidate ≡ Some count → P (TotalAt race candidate count))
-    → ((race instance row : ℕ) (opening : RowOpening) → row_in posted.rows race instance row ≡ Some opening → P (RowAt race instance row opening)) → EachOf P (flat_map dispute_places posted.disputes)
+    → ((race instance row : ℕ) (opening : RowOpening) → row_in posted.rows race instance row ≡ Some opening → P (RowAt race instance row opening)) → EachOf P (flat_map (dispute_tree as_place) posted.disputes)
     → EachOf P (places_in posted)
 unfolding places_in
 lines-of P posted plain blocks total row claims =
     of-append P (map OfPlan (plan_lines posted.plan)) _ (plan-of P posted.plan (λ said. plain (OfPlan said) refl))
-    (of-append P (commit_places posted) _ (commits-of P posted (λ r e d. plain (CodeCommitAt r e d) refl) (λ r i x a b. plain (RowCommitAt r i x a b) refl) (λ d. plain (SealAt 1 d) refl))
-    (of-append P (flat_map (block_places posted.plan) posted.ballots) _ blocks
-    (of-append P (result_places posted) _ (results-of P posted (λ r i f b. plain (FlagsAt r i f b) refl) (λ r f b. plain (PlacesAt r f b) refl) total (λ d. plain (SealAt 2 d) refl))
-    (of-append P (opening_places posted) (flat_map dispute_places posted.disputes)
+    (of-append P (commit_tree as_place posted) _ (commits-of P posted (λ r e d. plain (CodeCommitAt r e d) refl) (λ r i x a b. plain (RowCommitAt r i x a b) refl) (λ d. plain (SealAt 1 d) refl))
+    (of-append P (flat_map (block_tree as_place posted.plan) posted.ballots) _ blocks
+    (of-append P (result_tree as_place posted) _ (results-of P posted (λ r i f b. plain (FlagsAt r i f b) refl) (λ r f b. plain (PlacesAt r f b) refl) total (λ d. plain (SealAt 2 d) refl))
+    (of-append P (opening_tree as_place posted) (flat_map (dispute_tree as_place) posted.disputes)
     (openings-of P posted (plain DrawnFull refl) (λ digits. plain (DrawnPublic digits) refl) row (λ d. plain (SealAt 3 d) refl)) claims))))

@@ -1,32 +1,35 @@
 -- How a table of codes is filled.
-use Rattle.std.proofs.Common.{◌≡◌, ◌≢◌, ℕ, zero, suc, ◌+◌, ◌-◌, ◌*◌, ◌<◌, ◌==◌, ◌⊎◌, nat_lt, Bool, true, false, ◌&&◌, cond, inl, inr, List, [], ◌∷◌, ◌++◌, All, length, replicate, Option, Some, None, refl, sym, subst, ap, ◌∙◌, arith}
+use Rattle.std.proofs.Common.{◌≡◌, ◌≢◌, ℕ, zero, suc, ◌+◌, ◌*◌, ◌<◌, ◌==◌, ◌⊎◌, nat_lt, Bool, true, false, ◌&&◌, cond, inl, inr, List, [], ◌∷◌, ◌++◌, All, length, replicate, Option, Some, None, refl, sym, subst, ap, ◌∙◌, arith}
 use Rattle.std.specs.Option.{option_and_then, option_map, option_map_or}
 use Rattle.std.specs.Prelude.{IsSome, slice_get, slice_set}
-use Rattle.std.proofs.lemmas.Bool.{and_from, and_parts, cases_eq, cases_lt, eq-eqb, eqb-true, lt-ltb, ne_eqb, or_cases}
-use Rattle.std.proofs.lemmas.Option.{get_or_from_slice_get, same_Some, slice_get_past, slice_get_within}
+use Rattle.std.proofs.lemmas.Bool.{and_from, and_parts, cases_eq, cases_lt, eqb-true, lt-ltb, or_cases}
+use Rattle.std.proofs.lemmas.Option.{cond_some, same_Some, slice_get_past, slice_get_within}
 use Rattle.std.specs.List.{list_all, list_any}
 use Rattle.std.proofs.lemmas.List.{length-set, length_push}
 use Rattle.sg_lists.proofs.Each.{EachOf}
 use Rattle.sg_lists.proofs.Lists.{slice_get-push, slice_get-push_last, slice_get-replicate, slice_get-set, slice_get_there}
 use Rattle.sg_lists.proofs.Options.{option_map_or-Some}
-use Rattle.sg_grammar.proofs.Lists.{of-numbered}
+use Rattle.sg_lists.proofs.Tests.{All-slice_get, list_all-slice_get}
 use Rattle.sg_plan.specs.Ballots.{ballot_has, candidates_of, entries_of, entry_at, races_of_ballot, rows_of}
 use Rattle.sg_plan.specs.declared.plan.Plan.{Plan}
 use Rattle.sg_plan.specs.declared.plan.Race.{Race}
 use Rattle.sg_forms.specs.declared.line.CodeLine.{CodeLine}
 use Rattle.sg_grammar.specs.Walk.{follows_in_order, is_column, is_later}
 use Rattle.sg_record.proofs.BlockTests.{has_among}
+use Rattle.sg_record.proofs.CastLines.{first_cast}
 use Rattle.sg_record.proofs.Columns.{IsOfRaces, codes-own, race_codes-own}
 use Rattle.sg_plan.specs.Codes.{is_code}
-use Rattle.sg_record.specs.Formed.{are_blocks, are_columns, are_marks, are_overs, are_papers, has_columns, is_dispute, is_fate}
+use Rattle.sg_record.specs.Formed.{are_blocks, are_cast, are_columns, are_papers, behind_cast, has_columns, is_dispute, is_fate}
 use Rattle.sg_record.specs.declared.record.BallotBlock.{BallotBlock}
 use Rattle.sg_record.specs.declared.record.BlockFate.TheVariants as fate
+use Rattle.sg_record.specs.declared.record.CastLine.{CastLine}
+use Rattle.sg_record.specs.declared.record.CastLine.TheVariants as cast
 use Rattle.sg_record.specs.declared.record.DisputeBlock.{DisputeBlock}
 use Rattle.sg_check.specs.Facts.{first_given}
 use Rattle.sg_facts.specs.Items.{item_in}
 use Rattle.sg_facts.specs.Listed.{code_shown}
 use Rattle.sg_facts.specs.Tables.{HasTable}
-use Rattle.sg_facts.specs.inside.Putting.{AreDisputes, AreFates, AreOwn, IsSized, Puts, or_code, put_at, told, with_first}
+use Rattle.sg_facts.specs.inside.Putting.{AreDisputes, AreFates, AreOwn, AreOwnLines, IsOwnLine, IsSized, Puts, or_code, put_at, told, with_first}
 use Rattle.sg_facts.proofs.Finding.{given-append}
 
 -- only a race of the plan has entries
@@ -171,9 +174,9 @@ puts_both plan old mid new f h one two = λ r e within below.
     two r e within below ∙ (ap (λ (o : Option ℕ). option_map_or Some o (h r e)) (one r e within below) ∙ then_three (told old r e) (f r e) (h r e))
 
 -- those of one more item
-pub puts_more : {A : Type 0} (plan : Plan) (old mid new : List (List (Option ℕ))) (g : ℕ → ℕ → A → Option ℕ) (items front front' : List A) (x : A) → front' ≡ front ++ x ∷ []
+pub puts_more : {A : Type 0} (plan : Plan) (old mid new : List (List (Option ℕ))) (g : ℕ → ℕ → A → Option ℕ) (front front' : List A) (x : A) → front' ≡ front ++ x ∷ []
     → Puts plan old mid (λ r e. first_given (g r e) front) → Puts plan mid new (λ r e. g r e x) → Puts plan old new (λ r e. first_given (g r e) front')
-puts_more plan old mid new g items front front' x grown one two =
+puts_more plan old mid new g front front' x grown one two =
     puts_same plan old new (λ r e. option_map_or Some (first_given (g r e) front) (g r e x)) (λ r e. first_given (g r e) front')
     (λ r e. sym (ap (first_given (g r e)) grown ∙ (given-append (g r e) front (x ∷ []) ∙ ap (λ (o : Option ℕ). option_map_or Some (first_given (g r e) front) o) (option_map_or-Some (g r e x)))))
     (puts_both plan old mid new (λ r e. first_given (g r e) front) (λ r e. g r e x) one two)
@@ -183,41 +186,43 @@ blank_sized plan table blank = λ r e within below. subst (λ (x : Option (Optio
 
 -- a table in which nothing stood has what was put
 pub put_all : (plan : Plan) (blank table : List (List (Option ℕ))) (f value : ℕ → ℕ → Option ℕ) → HasTable plan blank (λ race entry. None) → IsSized plan table → Puts plan blank table f
-    → ((race entry : ℕ) → race < length plan.races → value race entry ≡ f race entry) → HasTable plan table value
+    → ((race entry : ℕ) → value race entry ≡ f race entry) → HasTable plan table value
 put_all plan blank table f value none sized puts same = λ r e within below.
     some_told (item_in table r e) (sized r e within below)
     ∙ ap (λ (o : Option ℕ). Some o)
-    (puts r e within below ∙ (ap (λ (x : Option (Option ℕ)). option_map_or Some (option_map_or (λ k. k) x None) (f r e)) (none r e within below) ∙ sym (same r e within)))
+    (puts r e within below ∙ (ap (λ (x : Option (Option ℕ)). option_map_or Some (option_map_or (λ k. k) x None) (f r e)) (none r e within below) ∙ sym (same r e)))
 
 -- CODES OF A BALLOT
 
-abbrev IsOwn : Plan → ℕ → CodeLine → Type 0
-IsOwn plan ballot code = is_column plan ballot code.race code.column ≡ true
+-- what holds of each item holds of the one at a place
+at_each : {A : Type 0} (P : A → Type 0) (xs : List A) → EachOf P xs → (at : ℕ) (x : A) → slice_get xs at ≡ Some x → P x
+at_each P [] all at x is = cc
+at_each P (y ∷ xs) all zero x is = subst P (same_Some y x is) all.0
+at_each P (y ∷ xs) all (suc at) x is = at_each P xs all.1 at x is
 
-own_at : (plan : Plan) (ballot : ℕ) (codes : List CodeLine) → EachOf (IsOwn plan ballot) codes → AreOwn plan ballot codes
-own_at plan ballot [] all = λ at code is. absurd (omega (arith, slice_get_within [] at code is))
-own_at plan ballot (c ∷ codes) all = λ at code is. at_place (own_at plan ballot codes all.1) at code is
-  where
-    at_place : AreOwn plan ballot codes → (k : ℕ) (code : CodeLine) → slice_get (c ∷ codes) k ≡ Some code → IsOwn plan ballot code
-    at_place rest zero code is = subst (IsOwn plan ballot) (same_Some c code is) all.0
-    at_place rest (suc k) code is = rest k code is
+-- a line that may stand in the block of a cast ballot is of the ballot
+line_own : (plan : Plan) (ballot race column : ℕ) (line : CastLine) (next : ℕ × ℕ) → behind_cast plan ballot race column line ≡ Some next → IsOwnLine plan ballot line
+line_own plan ballot race column (cast.Code code) next e =
+    let place = is_column plan ballot code.race code.column && follows_in_order race column code.race code.column in
+    let stands = and_parts place (is_code plan code.code) (cond_some (place && is_code plan code.code) (code.race, code.column + 1) next e).0 in
+    (and_parts (is_column plan ballot code.race code.column) (follows_in_order race column code.race code.column) stands.0).0
+line_own plan ballot race column (cast.Over over) next e = tt
 
-marks_own : (plan : Plan) (ballot race column : ℕ) (codes : List CodeLine) → are_marks plan ballot race column codes ≡ true → EachOf (IsOwn plan ballot) codes
-marks_own plan ballot race column [] e = tt
-marks_own plan ballot race column (code ∷ codes) e =
-    let parts = and_parts ((is_column plan ballot code.race code.column && follows_in_order race column code.race code.column) && is_code plan code.code) (are_marks plan ballot code.race (code.column + 1) codes) e in
-    let first = and_parts (is_column plan ballot code.race code.column && follows_in_order race column code.race code.column) (is_code plan code.code) parts.0 in
-    ((and_parts (is_column plan ballot code.race code.column) (follows_in_order race column code.race code.column) first.0).0, marks_own plan ballot code.race (code.column + 1) codes parts.1)
+lines_own : (plan : Plan) (ballot race column : ℕ) (lines : List CastLine) → are_cast plan ballot race column lines ≡ true → EachOf (IsOwnLine plan ballot) lines
+lines_own plan ballot race column [] e = tt
+lines_own plan ballot race column (line ∷ lines) e =
+    let first = first_cast plan ballot race column line lines e in
+    (line_own plan ballot race column line first.next first.stands, lines_own plan ballot first.next.0 first.next.1 lines first.others)
 
 -- codes of columns of races that the ballot has
 columns_own : (plan : Plan) (ballot : ℕ) (races : List ℕ) (codes : List CodeLine) → ((race : ℕ) → list_any (λ carried. carried == race) races ≡ true → ballot_has plan ballot race ≡ true)
     → All (IsOfRaces plan races) codes → AreOwn plan ballot codes
 columns_own plan ballot races codes has own = λ at code is.
-    let it = subst (IsOfRaces plan races) (get_or_from_slice_get codes at code code is) (own at code (slice_get_within codes at code is)) in
+    let it = All-slice_get (IsOfRaces plan races) codes at code own is in
     and_from (ballot_has plan ballot code.race) (nat_lt code.column (candidates_of plan code.race)) (has code.race it.race) (lt-ltb code.column (candidates_of plan code.race) it.column)
 
-pub cast_own : (plan : Plan) (ballot : ℕ) (codes : List CodeLine) (overs : List ℕ) → is_fate plan ballot (fate.Cast codes overs) ≡ true → AreOwn plan ballot codes
-cast_own plan ballot codes overs e = own_at plan ballot codes (marks_own plan ballot 0 0 codes (and_parts (are_marks plan ballot 0 0 codes) (are_overs plan ballot 0 overs) e).0)
+pub cast_own : (plan : Plan) (ballot : ℕ) (lines : List CastLine) → is_fate plan ballot (fate.Cast lines) ≡ true → AreOwnLines plan ballot lines
+cast_own plan ballot lines e = at_each (IsOwnLine plan ballot) lines (lines_own plan ballot 0 0 lines e)
 
 pub audited_own : (plan : Plan) (ballot : ℕ) (papers : List (List ℕ)) (codes : List CodeLine) → is_fate plan ballot (fate.Audited papers codes) ≡ true → AreOwn plan ballot codes
 audited_own plan ballot papers codes e =
@@ -235,23 +240,14 @@ dispute_own plan one e =
       | inr none ↦ cc
     ]) (race_codes-own plan one.race [] one.codes parts.1)
 
-pub blocks_fates : (plan : Plan) (last : ℕ) (blocks : List BallotBlock) → are_blocks plan last blocks ≡ true → AreFates plan blocks
-blocks_fates plan last [] e = λ at one is. absurd (omega (arith, slice_get_within [] at one is))
-blocks_fates plan last (b ∷ blocks) e =
-    let parts = and_parts (is_later plan last b.ballot && is_fate plan b.ballot b.fate) (are_blocks plan b.ballot blocks) e in
-    let here = (and_parts (is_later plan last b.ballot) (is_fate plan b.ballot b.fate) parts.0).1 in
-    λ at one is. at_place here (blocks_fates plan b.ballot blocks parts.1) at one is
-  where
-    at_place : is_fate plan b.ballot b.fate ≡ true → AreFates plan blocks → (k : ℕ) (one : BallotBlock) → slice_get (b ∷ blocks) k ≡ Some one → is_fate plan one.ballot one.fate ≡ true
-    at_place here rest zero one is = subst (λ (x : BallotBlock). is_fate plan x.ballot x.fate ≡ true) (same_Some b one is) here
-    at_place here rest (suc k) one is = rest k one is
+fates_each : (plan : Plan) (last : ℕ) (blocks : List BallotBlock) → are_blocks plan last blocks ≡ true → EachOf (λ (one : BallotBlock). is_fate plan one.ballot one.fate ≡ true) blocks
+fates_each plan last [] e = tt
+fates_each plan last (one ∷ blocks) e =
+    let parts = and_parts (is_later plan last one.ballot && is_fate plan one.ballot one.fate) (are_blocks plan one.ballot blocks) e in
+    ((and_parts (is_later plan last one.ballot) (is_fate plan one.ballot one.fate) parts.0).1, fates_each plan one.ballot blocks parts.1)
+
+pub blocks_fates : (plan : Plan) (blocks : List BallotBlock) → are_blocks plan 0 blocks ≡ true → AreFates plan blocks
+blocks_fates plan blocks e = at_each (λ (one : BallotBlock). is_fate plan one.ballot one.fate ≡ true) blocks (fates_each plan 0 blocks e)
 
 pub all_disputes : (plan : Plan) (blocks : List DisputeBlock) → list_all (is_dispute plan) blocks ≡ true → AreDisputes plan blocks
-all_disputes plan [] e = λ at one is. absurd (omega (arith, slice_get_within [] at one is))
-all_disputes plan (b ∷ blocks) e =
-    let parts = and_parts (is_dispute plan b) (list_all (is_dispute plan) blocks) e in
-    λ at one is. at_place parts.0 (all_disputes plan blocks parts.1) at one is
-  where
-    at_place : is_dispute plan b ≡ true → AreDisputes plan blocks → (k : ℕ) (one : DisputeBlock) → slice_get (b ∷ blocks) k ≡ Some one → is_dispute plan one ≡ true
-    at_place here rest zero one is = subst (λ (x : DisputeBlock). is_dispute plan x ≡ true) (same_Some b one is) here
-    at_place here rest (suc k) one is = rest k one is
+all_disputes plan blocks e = λ at one. list_all-slice_get (is_dispute plan) blocks at one e

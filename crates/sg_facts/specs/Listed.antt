@@ -11,6 +11,8 @@ use Rattle.sg_record.specs.Places.{places_in}
 use Rattle.sg_record.specs.declared.record.BallotBlock.{BallotBlock}
 use Rattle.sg_record.specs.declared.record.BlockFate.{BlockFate}
 use Rattle.sg_record.specs.declared.record.BlockFate.TheVariants as fate
+use Rattle.sg_record.specs.declared.record.CastLine.{CastLine}
+use Rattle.sg_record.specs.declared.record.CastLine.TheVariants as cast
 use Rattle.sg_record.specs.declared.record.DisputeBlock.{DisputeBlock}
 use Rattle.sg_record.specs.declared.record.Record.{Record}
 use Rattle.sg_record.specs.declared.record.RowCommit.{RowCommit}
@@ -29,22 +31,23 @@ digest_on side.Right commit = commit.right
 abbrev pub code_shown : Plan → ℕ → ℕ → ℕ → CodeLine → Option ℕ
 code_shown plan race entry ballot code = (if code.race == race && entry_at plan code.race ballot code.column == entry then Some code.code else None)
 
+abbrev pub cast_shown : Plan → ℕ → ℕ → ℕ → CastLine → Option ℕ
+cast_shown plan race entry ballot (cast.Code code) = code_shown plan race entry ballot code
+cast_shown plan race entry ballot (cast.Over over) = None
+
 -- the code of the entry in the block of a cast ballot
 abbrev pub fate_mark : Plan → ℕ → ℕ → ℕ → BlockFate → Option ℕ
-fate_mark plan race entry ballot (fate.Cast codes overs) = first_given (code_shown plan race entry ballot) codes
-fate_mark plan race entry ballot fate.Spoiled = None
-fate_mark plan race entry ballot (fate.Audited papers codes) = None
-fate_mark plan race entry ballot fate.Voided = None
+fate_mark plan race entry ballot (fate.Cast lines) = first_given (cast_shown plan race entry ballot) lines
+fate_mark plan race entry ballot other = None
 
 abbrev pub block_mark : Plan → ℕ → ℕ → BallotBlock → Option ℕ
 block_mark plan race entry block = fate_mark plan race entry block.ballot block.fate
 
 -- the code of the entry in the block of a cast or of an audited ballot
 abbrev pub fate_code : Plan → ℕ → ℕ → ℕ → BlockFate → Option ℕ
-fate_code plan race entry ballot (fate.Cast codes overs) = first_given (code_shown plan race entry ballot) codes
-fate_code plan race entry ballot fate.Spoiled = None
+fate_code plan race entry ballot (fate.Cast lines) = first_given (cast_shown plan race entry ballot) lines
 fate_code plan race entry ballot (fate.Audited papers codes) = first_given (code_shown plan race entry ballot) codes
-fate_code plan race entry ballot fate.Voided = None
+fate_code plan race entry ballot other = None
 
 abbrev pub block_code : Plan → ℕ → ℕ → BallotBlock → Option ℕ
 block_code plan race entry block = fate_code plan race entry block.ballot block.fate
@@ -61,7 +64,7 @@ pub record AreListed (posted : Record) : Type 0 where
   pub place : (race place : ℕ) (bit : Bool) → race < length posted.plan.races → item_in posted.places race place ≡ Some bit → is_set race place (places_in posted) ≡ bit
   pub total : (race candidate count : ℕ) → race < length posted.plan.races → item_in posted.totals race candidate ≡ Some count
       → first_given (totals_candidate race candidate) (places_in posted) ≡ Some count
-  pub mark : (race entry : ℕ) → race < length posted.plan.races → marked_code posted.plan race entry (places_in posted) ≡ first_given (block_mark posted.plan race entry) posted.ballots
-  pub known : (race entry : ℕ) → race < length posted.plan.races
+  pub mark : (race entry : ℕ) → marked_code posted.plan race entry (places_in posted) ≡ first_given (block_mark posted.plan race entry) posted.ballots
+  pub known : (race entry : ℕ)
       → known_code posted.plan race entry (places_in posted)
       ≡ option_map_or Some (first_given (block_code posted.plan race entry) posted.ballots) (first_given (dispute_code posted.plan race entry) posted.disputes)

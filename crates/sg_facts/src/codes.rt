@@ -2,9 +2,9 @@
 ghost use Rattle.std.specs.Prelude.{◌≡◌, ◌+◌, ◌<◌, ◌==◌, ◌&&◌, IfOk, None, length, true};
 ghost use Rattle.sg_check.specs.Facts.{first_given, known_code};
 ghost use Rattle.sg_check.specs.Printings.{marked_code};
-ghost use Rattle.sg_facts.specs.Listed.{block_code, block_mark, code_shown, dispute_code};
+ghost use Rattle.sg_facts.specs.Listed.{block_code, block_mark, cast_shown, code_shown, dispute_code};
 ghost use Rattle.sg_facts.specs.Tables.{HasTable};
-ghost use Rattle.sg_facts.specs.inside.Putting.{AreDisputes, AreFates, AreOwn, IsSized, Puts};
+ghost use Rattle.sg_facts.specs.inside.Putting.{AreDisputes, AreFates, AreOwn, AreOwnLines, IsOwnLine, IsSized, Puts};
 ghost use Rattle.sg_grammar.specs.Walk.{is_column};
 ghost use Rattle.sg_plan.specs.Ballots.{entries_of, entry_at};
 ghost use Rattle.sg_record.specs.Formed.{is_dispute, is_fate, is_formed};
@@ -13,7 +13,7 @@ ghost use Rattle.sg_record.specs.Places.{places_in};
 use crate::tables::{blank_table, put_code};
 use sg_forms::CodeLine;
 use sg_plan::{BallotIndex, Items, NoMemory};
-use sg_record::{BallotBlock, BlockFate, DisputeBlock, Record};
+use sg_record::{BallotBlock, BlockFate, CastLine, DisputeBlock, Record};
 use std::alloc::Global;
 
 /// The entry of a code of a ballot.
@@ -30,6 +30,59 @@ fn entry_of(index: &BallotIndex, ballot: u32, code: &CodeLine) -> u32
     row * plan.candidates(code.race) as u32 + code.column
 }
 
+/// Puts a code of a ballot.
+fn note_code(
+    alloc: Global,
+    table: &mut Items<Items<Option<u16>>>,
+    index: &BallotIndex,
+    ballot: u32,
+    code: &CodeLine,
+)
+    requires own { is_column index.now ballot code.now.race code.now.column ≡ true }
+    requires sized { IsSized index.now table.old }
+    ensures sized { IsSized index.now table.new }
+    ensures puts { Puts index.now table.old table.new (λ race entry. code_shown index.now race entry ballot code.now) }
+{
+    let entry = entry_of(index, ballot, code);
+    put_code(alloc, table, code.race as usize, entry as usize, code.code);
+}
+
+/// Puts the code of a line of a cast ballot, if it has one.
+fn note_line(
+    alloc: Global,
+    table: &mut Items<Items<Option<u16>>>,
+    index: &BallotIndex,
+    ballot: u32,
+    line: &CastLine,
+)
+    requires own { IsOwnLine index.now ballot line.now }
+    requires sized { IsSized index.now table.old }
+    ensures sized { IsSized index.now table.new }
+    ensures puts { Puts index.now table.old table.new (λ race entry. cast_shown index.now race entry ballot line.now) }
+{
+    if let CastLine::Code(code) = line {
+        note_code(alloc, table, index, ballot, code);
+    }
+}
+
+/// Puts the codes of the lines of a cast ballot.
+fn note_lines(
+    alloc: Global,
+    table: &mut Items<Items<Option<u16>>>,
+    index: &BallotIndex,
+    ballot: u32,
+    lines: &Items<CastLine>,
+)
+    requires own { AreOwnLines index.now ballot lines.now }
+    requires sized { IsSized index.now table.old }
+    ensures sized { IsSized index.now table.new }
+    ensures puts { Puts index.now table.old table.new (λ race entry. first_given (cast_shown index.now race entry ballot) lines.now) }
+{
+    for at in 0..lines.len() {
+        note_line(alloc, table, index, ballot, lines.get(at));
+    }
+}
+
 /// Puts the codes of a ballot.
 fn note_codes(
     alloc: Global,
@@ -44,9 +97,7 @@ fn note_codes(
     ensures puts { Puts index.now table.old table.new (λ race entry. first_given (code_shown index.now race entry ballot) codes.now) }
 {
     for at in 0..codes.len() {
-        let code = codes.get(at);
-        let entry = entry_of(index, ballot, code);
-        put_code(alloc, table, code.race as usize, entry as usize, code.code);
+        note_code(alloc, table, index, ballot, codes.get(at));
     }
 }
 
@@ -62,8 +113,8 @@ fn note_mark(
     ensures sized { IsSized index.now table.new }
     ensures puts { Puts index.now table.old table.new (λ race entry. block_mark index.now race entry block.now) }
 {
-    if let BlockFate::Cast(codes, _) = &block.fate {
-        note_codes(alloc, table, index, block.ballot, codes);
+    if let BlockFate::Cast(lines) = &block.fate {
+        note_lines(alloc, table, index, block.ballot, lines);
     }
 }
 
@@ -80,7 +131,7 @@ fn note_block(
     ensures puts { Puts index.now table.old table.new (λ race entry. block_code index.now race entry block.now) }
 {
     match &block.fate {
-        BlockFate::Cast(codes, _) => note_codes(alloc, table, index, block.ballot, codes),
+        BlockFate::Cast(lines) => note_lines(alloc, table, index, block.ballot, lines),
         BlockFate::Audited(_, codes) => note_codes(alloc, table, index, block.ballot, codes),
         BlockFate::Spoiled => {}
         BlockFate::Voided => {}

@@ -5,8 +5,8 @@ use Rattle.std.proofs.lemmas.List.Elements.{All-cons, All-nil}
 use Rattle.std.proofs.lemmas.Nat.{mul-le}
 use Rattle.sg_plan.proofs.NameTests.{is_name_word-true, is_within-true}
 use Rattle.sg_plan.specs.Ballots.{all_entries, ballot_styles, candidates_of, entries_before, entries_of, r_rows, style_has}
-use Rattle.sg_plan.specs.Limits.{each_keeps, candidate_keeps, race_head_keeps, race_keeps, races_have, run_keeps, style_keeps}
-use Rattle.sg_plan.specs.Names.{is_name_word, is_within}
+use Rattle.sg_plan.specs.Limits.{each_keeps, race_head_keeps, race_keeps, races_have, run_keeps, style_keeps}
+use Rattle.sg_plan.specs.Names.{is_name_word, is_within, name_keeps}
 use Rattle.sg_plan.specs.declared.plan.Plan.{Plan}
 use Rattle.sg_plan.specs.declared.plan.Race.{Race as PlanRace}
 use Rattle.sg_plan.specs.declared.plan.Run.{Run}
@@ -108,7 +108,7 @@ later_races-ends plan one kept =
 few_candidates : (left : ℕ) (earlier races : List PlanRace) → races_keep_but left earlier races ≡ true → length (last_candidates races) ≤ 16
 few_candidates left earlier [] keep = cc
 few_candidates left earlier (race ∷ []) keep =
-    let parts = and_parts (race_head_keeps earlier race.name (length race.candidates + left) race.votes) (each_keeps candidate_keeps [] race.candidates) keep in
+    let parts = and_parts (race_head_keeps earlier race.name (length race.candidates + left) race.votes) (each_keeps name_keeps [] race.candidates) keep in
     let sizes = and_parts (is_name_word race.name && not (races_have earlier race.name))
     (is_within 2 16 (length race.candidates + left) && is_within 1 (length race.candidates + left) race.votes) parts.0 in
     let two = is_within-true 2 16 (length race.candidates + left)
@@ -124,7 +124,7 @@ candidate-ends left plan on is kept ends =
     let few = few_candidates left [] plan.races kept.stands.1.keep in
     let name : List ℕ = new_name (last_candidates plan.races) in
     let taken : head_line plan (head.Candidates left) (Cand name) ≡ Some (made (with_cand plan name) on)
-    = passes (candidate_keeps (last_candidates plan.races) name) (made (with_cand plan name) (behind_candidate left)) (new_name-keeps (last_candidates plan.races) few)
+    = passes (name_keeps (last_candidates plan.races) name) (made (with_cand plan name) (behind_candidate left)) (new_name-keeps (last_candidates plan.races) few)
     ∙ ap (λ (stage : Head). Some (made (with_cand plan name) stage)) is in
     head-ends plan (head.Candidates left) (Cand name) (with_cand plan name) on (is_name_word-true name (new_name-word (last_candidates plan.races) few)) taken
     (ends (with_cand plan name) (omega (arith, candidates-race plan left kept, length-with_candidate plan.races name))

@@ -6,8 +6,7 @@ use Rattle.std.proofs.lemmas.List.{append_assoc, length-append}
 use Rattle.std.proofs.lemmas.Slice.Eq.{bytes_eq-Decides}
 use Rattle.std.specs.List.{list_all}
 use Rattle.sg_plan.proofs.NameTests.{true-is_within}
-use Rattle.sg_plan.specs.Limits.{candidate_keeps}
-use Rattle.sg_plan.specs.Names.{is_among, is_name_word, is_within}
+use Rattle.sg_plan.specs.Names.{is_among, is_name_word, is_within, name_keeps}
 
 -- `a`, or `b` where the byte is `a`
 abbrev other_letter : ℕ → ℕ
@@ -79,7 +78,7 @@ new_name-word names few =
     (letters-fit 0 names)
 
 -- and none of the others
-pub new_name-keeps : (names : List (List ℕ)) → length names ≤ 16 → candidate_keeps names (new_name names) ≡ true
+pub new_name-keeps : (names : List (List ℕ)) → length names ≤ 16 → name_keeps names (new_name names) ≡ true
 new_name-keeps names few =
     and_from (is_name_word (new_name names)) (not (is_among names (new_name names)))
     (new_name-word names few) (ap not (letters-new 0 [] names refl))

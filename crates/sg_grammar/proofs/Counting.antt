@@ -8,8 +8,8 @@ use Rattle.sg_plan.proofs.BallotLists.{count-push}
 use Rattle.sg_plan.proofs.LimitTests.{run_keeps-true}
 use Rattle.sg_plan.proofs.NameTests.{is_within-true}
 use Rattle.sg_plan.specs.Ballots.{ballot_has, ballots_of, candidates_of, r_rows}
-use Rattle.sg_plan.specs.Limits.{candidate_keeps, is_version, most_claims, most_instances, most_races, most_styles, race_head_keeps, races_have, run_keeps, style_keeps}
-use Rattle.sg_plan.specs.Names.{is_name_word, is_within}
+use Rattle.sg_plan.specs.Limits.{is_version, most_claims, most_instances, most_races, most_styles, race_head_keeps, races_have, run_keeps, style_keeps}
+use Rattle.sg_plan.specs.Names.{is_name_word, is_within, name_keeps}
 use Rattle.sg_plan.specs.declared.plan.Plan.{Plan}
 use Rattle.sg_plan.specs.declared.plan.Race.{Race as PlanRace}
 use Rattle.sg_forms.specs.Said.{Said}
@@ -209,7 +209,7 @@ race_line-falls plan said m e = cc
 candidate_line-falls : (left : ℕ) (plan : Plan) (said : Said) (m : Making) → 1 ≤ left → head_line plan (head.Candidates left) said ≡ Some m
     → making_left m < left_at plan (head.Candidates left) [] (part.Ballots 0)
 candidate_line-falls left plan (Cand name) m some e =
-    if_then-claim (λ x. making_left x < left_at plan (head.Candidates left) [] (part.Ballots 0)) (candidate_keeps (last_candidates plan.races) name) (made (with_cand plan name) (behind_candidate left)) m
+    if_then-claim (λ x. making_left x < left_at plan (head.Candidates left) [] (part.Ballots 0)) (name_keeps (last_candidates plan.races) name) (made (with_cand plan name) (behind_candidate left)) m
     (λ ok. elim (cases_eq left 1) [
       | inl one ↦ rw (eq-eqb left 1 one) (omega (arith, length-with_candidate plan.races name))
       | inr more ↦ rw (ne_eqb left 1 more) (omega (arith, length-with_candidate plan.races name))

@@ -15,9 +15,9 @@ use Rattle.sg_plan.proofs.LimitTests.{runs-true}
 use Rattle.sg_plan.proofs.Lists.{None-first_fault, each_keeps-push, first_fault-None}
 use Rattle.sg_plan.proofs.NameTests.{is_within-true, true-is_within}
 use Rattle.sg_plan.specs.Ballots.{all_entries, ballot_styles, ballots_of, candidates_of, entries_before, entries_of, r_rows, rows_of, style_has}
-use Rattle.sg_plan.specs.Limits.{PassesTests, candidate_keeps, each_keeps, fault_of, is_version, most_instances, most_races, most_styles, race_fits, race_head_keeps, race_keeps, races_have, run_keeps, style_fits, style_keeps}
+use Rattle.sg_plan.specs.Limits.{PassesTests, each_keeps, fault_of, is_version, most_instances, most_races, most_styles, race_fits, race_head_keeps, race_keeps, races_have, run_keeps, style_fits, style_keeps}
 use Rattle.sg_plan.specs.declared.limits.PlanFault.{PlanFault}
-use Rattle.sg_plan.specs.Names.{is_name_word, is_within}
+use Rattle.sg_plan.specs.Names.{is_name_word, is_within, name_keeps}
 use Rattle.sg_plan.specs.declared.plan.Plan.{Plan}
 use Rattle.sg_plan.specs.declared.plan.Race.{Race as PlanRace}
 use Rattle.sg_plan.specs.declared.plan.Run.{Run}
@@ -46,11 +46,11 @@ but-first left earlier race (next ∷ races) some = refl
 
 -- a race without all its candidates is added
 but-push : (left : ℕ) (earlier races : List PlanRace) (race : PlanRace) → each_keeps race_keeps earlier races ≡ true
-    → race_head_keeps (earlier ++ races) race.name (length race.candidates + left) race.votes ≡ true → each_keeps candidate_keeps [] race.candidates ≡ true
+    → race_head_keeps (earlier ++ races) race.name (length race.candidates + left) race.votes ≡ true → each_keeps name_keeps [] race.candidates ≡ true
     → races_keep_but left earlier (races ++ race ∷ []) ≡ true
 but-push left earlier [] race kept first names =
     let first_of : race_head_keeps earlier race.name (length race.candidates + left) race.votes ≡ true = rw (append-nil earlier) at first in
-    and_from (race_head_keeps earlier race.name (length race.candidates + left) race.votes) (each_keeps candidate_keeps [] race.candidates) first_of names
+    and_from (race_head_keeps earlier race.name (length race.candidates + left) race.votes) (each_keeps name_keeps [] race.candidates) first_of names
 but-push left earlier (other ∷ races) race kept first names =
     let parts = and_parts (race_keeps earlier other) (each_keeps race_keeps (earlier ++ other ∷ []) races) kept in
     let joined : (earlier ++ other ∷ []) ++ races ≡ earlier ++ (other ∷ races) = append_assoc earlier (other ∷ []) races in
@@ -60,14 +60,14 @@ but-push left earlier (other ∷ races) race kept first names =
 
 -- a candidate is added to the last race
 but-candidate : (left : ℕ) (earlier races : List PlanRace) (name : List ℕ) → races_keep_but (left + 1) earlier races ≡ true
-    → candidate_keeps (last_candidates races) name ≡ true → races_keep_but left earlier (with_candidate races name) ≡ true
+    → name_keeps (last_candidates races) name ≡ true → races_keep_but left earlier (with_candidate races name) ≡ true
 but-candidate left earlier [] name kept new = kept
 but-candidate left earlier (race ∷ []) name kept new =
-    let parts = and_parts (race_head_keeps earlier race.name (length race.candidates + (left + 1)) race.votes) (each_keeps candidate_keeps [] race.candidates) kept in
+    let parts = and_parts (race_head_keeps earlier race.name (length race.candidates + (left + 1)) race.votes) (each_keeps name_keeps [] race.candidates) kept in
     let many : length race.candidates + (left + 1) ≡ length (race.candidates ++ name ∷ []) + left = omega (arith, length-append race.candidates (name ∷ [])) in
-    and_from (race_head_keeps earlier race.name (length (race.candidates ++ name ∷ []) + left) race.votes) (each_keeps candidate_keeps [] (race.candidates ++ name ∷ []))
+    and_from (race_head_keeps earlier race.name (length (race.candidates ++ name ∷ []) + left) race.votes) (each_keeps name_keeps [] (race.candidates ++ name ∷ []))
     (subst (λ (n : ℕ). race_head_keeps earlier race.name n race.votes ≡ true) many parts.0)
-    (each_keeps-push candidate_keeps [] race.candidates name ∙ and_from (each_keeps candidate_keeps [] race.candidates) (candidate_keeps race.candidates name) parts.1 new)
+    (each_keeps-push name_keeps [] race.candidates name ∙ and_from (each_keeps name_keeps [] race.candidates) (name_keeps race.candidates name) parts.1 new)
 but-candidate left earlier (race ∷ next ∷ races) name kept new =
     let parts = and_parts (race_keeps earlier race) (races_keep_but (left + 1) (earlier ++ race ∷ []) (next ∷ races)) kept in
     let behind = but-candidate left (earlier ++ race ∷ []) (next ∷ races) name parts.1 new in
@@ -78,10 +78,10 @@ but-candidate left earlier (race ∷ next ∷ races) name kept new =
 but-none : (earlier races : List PlanRace) → races_keep_but 0 earlier races ≡ true → each_keeps race_keeps earlier races ≡ true
 but-none earlier [] kept = refl
 but-none earlier (race ∷ []) kept =
-    let parts = and_parts (race_head_keeps earlier race.name (length race.candidates + 0) race.votes) (each_keeps candidate_keeps [] race.candidates) kept in
+    let parts = and_parts (race_head_keeps earlier race.name (length race.candidates + 0) race.votes) (each_keeps name_keeps [] race.candidates) kept in
     let same : length race.candidates + 0 ≡ length race.candidates = omega arith in
     and_from (race_keeps earlier race) true
-    (and_from (race_head_keeps earlier race.name (length race.candidates) race.votes) (each_keeps candidate_keeps [] race.candidates)
+    (and_from (race_head_keeps earlier race.name (length race.candidates) race.votes) (each_keeps name_keeps [] race.candidates)
     (subst (λ (n : ℕ). race_head_keeps earlier race.name n race.votes ≡ true) same parts.0) parts.1)
     refl
 but-none earlier (race ∷ next ∷ races) kept =
@@ -180,7 +180,7 @@ race_line-made plan said m front whole none e = cc
 -- a plan with a further candidate of its last race
 candidate_line-made : (left : ℕ) (plan : Plan) (said : Said) (m : Making) → HasFront plan → HasRacesBut left plan → HasNoStyles plan → head_line plan (head.Candidates left) said ≡ Some m → Goes m
 candidate_line-made left plan (Cand name) m front but none e =
-    if_then-claim Goes (candidate_keeps (last_candidates plan.races) name) (made (with_cand plan name) (behind_candidate left)) m
+    if_then-claim Goes (name_keeps (last_candidates plan.races) name) (made (with_cand plan name) (behind_candidate left)) m
     (λ ok.
     let front_of : HasFront (with_cand plan name) = record { version = front.version; name = front.name; instances = front.instances } in
     let none_of : HasNoStyles (with_cand plan name) = record { styles = none.styles; runs = none.runs } in
@@ -264,7 +264,7 @@ races_sized : (earlier races : List PlanRace) (k : ℕ) → each_keeps race_keep
 races_sized earlier [] k kept within = absurd (omega arith)
 races_sized earlier (race ∷ races) zero kept within =
     let whole = and_parts (race_keeps earlier race) (each_keeps race_keeps (earlier ++ race ∷ []) races) kept in
-    let parts = and_parts (race_head_keeps earlier race.name (length race.candidates) race.votes) (each_keeps candidate_keeps [] race.candidates) whole.0 in
+    let parts = and_parts (race_head_keeps earlier race.name (length race.candidates) race.votes) (each_keeps name_keeps [] race.candidates) whole.0 in
     let sizes = and_parts (is_name_word race.name && not (races_have earlier race.name)) (is_within 2 16 (length race.candidates) && is_within 1 (length race.candidates) race.votes) parts.0 in
     is_within-true 2 16 (length race.candidates) (and_parts (is_within 2 16 (length race.candidates)) (is_within 1 (length race.candidates) race.votes) sizes.1).0
 races_sized earlier (race ∷ races) (suc k) kept within =

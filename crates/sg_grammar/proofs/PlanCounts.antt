@@ -8,8 +8,8 @@ use Rattle.sg_lists.proofs.Options.{cond_some-then}
 use Rattle.sg_plan.proofs.BallotLists.{count-push}
 use Rattle.sg_plan.proofs.IndexLists.{few_runs_of, numbers-push}
 use Rattle.sg_plan.specs.Ballots.{ballot_styles, candidates_of, entries_of, r_rows, style_has}
-use Rattle.sg_plan.specs.Limits.{candidate_keeps, is_version, most_instances, most_races, most_styles, race_head_keeps, run_keeps, style_keeps}
-use Rattle.sg_plan.specs.Names.{is_name_word, is_within}
+use Rattle.sg_plan.specs.Limits.{is_version, most_instances, most_races, most_styles, race_head_keeps, run_keeps, style_keeps}
+use Rattle.sg_plan.specs.Names.{is_name_word, is_within, name_keeps}
 use Rattle.sg_plan.specs.Runs.{run_numbers}
 use Rattle.sg_plan.specs.declared.plan.Plan.{Plan}
 use Rattle.sg_plan.specs.declared.plan.Run.{Run}
@@ -126,7 +126,7 @@ early_race plan said m e = cc
 
 early_candidate : (left : ℕ) (plan : Plan) (said : Said) (m : Making) → head_line plan (head.Candidates left) said ≡ Some m → IsEarly m
 early_candidate left plan (Cand name) m e =
-    if_then-claim IsEarly (candidate_keeps (last_candidates plan.races) name) (made (with_cand plan name) (behind_candidate left)) m
+    if_then-claim IsEarly (name_keeps (last_candidates plan.races) name) (made (with_cand plan name) (behind_candidate left)) m
     (λ _. elim (left == 1) as (λ b. has_runs (cond b head.Races (head.Candidates (left - 1))) ≡ false) [ true ↦ refl | false ↦ refl ]) e
 early_candidate left plan said m e = cc
 

@@ -1,8 +1,8 @@
 -- The lines of the plan: where each may stand, and what it adds to the plan (this project's rules for the record).
 use Rattle.std.specs.Prelude.{ℕ, ◌-◌, ◌==◌, nat_lt, nat_le, if◌then◌else◌, Bool, true, false, ◌&&◌, List, [], ◌∷◌, ◌++◌, length, Option, Some, None}
 use Rattle.sg_plan.specs.Ballots.{r_rows}
-use Rattle.sg_plan.specs.Limits.{candidate_keeps, is_version, most_instances, most_races, most_rows, most_styles, race_head_keeps, run_keeps, style_keeps}
-use Rattle.sg_plan.specs.Names.{is_name_word, is_within}
+use Rattle.sg_plan.specs.Limits.{is_version, most_instances, most_races, most_rows, most_styles, race_head_keeps, run_keeps, style_keeps}
+use Rattle.sg_plan.specs.Names.{is_name_word, is_within, name_keeps}
 use Rattle.sg_plan.specs.declared.plan.Plan.{Plan}
 use Rattle.sg_plan.specs.declared.plan.Race.{Race as PlanRace}
 use Rattle.sg_forms.specs.Said.{Said}
@@ -87,7 +87,7 @@ head_line plan head.Election (Election name) = if_then (is_name_word name) (made
 head_line plan head.Instances (Instances instances) = if_then (is_within 1 most_instances instances) (made (with_instances plan instances) head.Races)
 head_line plan head.Races (Race name candidates votes) = if_then (nat_lt (length plan.races) most_races && race_head_keeps plan.races name candidates votes) (made (with_race plan name votes) (head.Candidates candidates))
 head_line plan head.Races (Style name races) = (if nat_lt 0 (length plan.races) then take_style plan (Style name races) else None)
-head_line plan (head.Candidates left) (Cand name) = if_then (candidate_keeps (last_candidates plan.races) name) (made (with_cand plan name) (behind_candidate left))
+head_line plan (head.Candidates left) (Cand name) = if_then (name_keeps (last_candidates plan.races) name) (made (with_cand plan name) (behind_candidate left))
 head_line plan head.Styles (Style name races) = take_style plan (Style name races)
 head_line plan head.Styles said = take_run plan said
 head_line plan head.Runs said = take_run plan said

@@ -16,17 +16,14 @@ IsAmong lines line = (front rest : List Placed) × (lines ≡ front ++ line ∷ 
 -- the block is that of a cast ballot
 abbrev pub is_cast : Block → Bool
 is_cast block.Cast = true
-is_cast block.Audited = false
-is_cast block.Dispute = false
+is_cast other = false
 
 -- the block is that of an audited ballot
 abbrev pub is_audit : Block → Bool
-is_audit block.Cast = false
 is_audit block.Audited = true
-is_audit block.Dispute = false
+is_audit other = false
 
 -- the block is that of a dispute
 abbrev pub is_dispute : Block → Bool
-is_dispute block.Cast = false
-is_dispute block.Audited = false
 is_dispute block.Dispute = true
+is_dispute other = false

@@ -1,8 +1,8 @@
 -- What holds of a plan in the making, by which of its lines stand (this project's rules for the record).
 use Rattle.std.specs.Prelude.{◌≡◌, ℕ, ◌+◌, ◌<◌, ◌≤◌, Bool, true, false, ◌&&◌, List, [], ◌∷◌, ◌++◌, length}
 use Rattle.sg_plan.specs.Ballots.{ballots_of, candidates_of, entries_of, r_rows}
-use Rattle.sg_plan.specs.Limits.{candidate_keeps, each_keeps, is_version, most_ballots, most_candidates, most_instances, most_races, most_rows, most_styles, race_head_keeps, race_keeps, run_keeps, style_keeps}
-use Rattle.sg_plan.specs.Names.{is_name_word, is_within}
+use Rattle.sg_plan.specs.Limits.{each_keeps, is_version, most_ballots, most_candidates, most_instances, most_races, most_rows, most_styles, race_head_keeps, race_keeps, run_keeps, style_keeps}
+use Rattle.sg_plan.specs.Names.{is_name_word, is_within, name_keeps}
 use Rattle.sg_plan.specs.declared.plan.Plan.{Plan}
 use Rattle.sg_plan.specs.declared.plan.Race.{Race}
 use Rattle.sg_grammar.specs.declared.state.Head.{Head}
@@ -11,7 +11,7 @@ use Rattle.sg_grammar.specs.declared.state.Head.TheVariants as head
 -- the races keep their limits, but that so many candidates of the last one are due
 abbrev pub races_keep_but : ℕ → List Race → List Race → Bool
 races_keep_but left earlier [] = false
-races_keep_but left earlier (race ∷ []) = race_head_keeps earlier race.name (length race.candidates + left) race.votes && each_keeps candidate_keeps [] race.candidates
+races_keep_but left earlier (race ∷ []) = race_head_keeps earlier race.name (length race.candidates + left) race.votes && each_keeps name_keeps [] race.candidates
 races_keep_but left earlier (race ∷ next ∷ races) = race_keeps earlier race && races_keep_but left (earlier ++ race ∷ []) (next ∷ races)
 
 -- the version, the name and the number of instances stand

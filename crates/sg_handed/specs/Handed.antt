@@ -21,15 +21,13 @@ undrawn_line = codes "refused undrawn\n"
 
 -- the draw is made
 abbrev pub is_drawn : Stage → Bool
-is_drawn stage.Voting = false
-is_drawn stage.Closed = false
 is_drawn (stage.Drawn draw) = true
+is_drawn other = false
 
 -- what is due of an office at a stage: behind the draw the openings of all rows, and before it the line of the refusal
 abbrev pub due_at : Setup → Stage → List ℕ
-due_at setup stage.Voting = undrawn_line
-due_at setup stage.Closed = undrawn_line
 due_at setup (stage.Drawn draw) = openings_text setup.plan setup.seed.0
+due_at setup other = undrawn_line
 
 -- what is due of a history
 abbrev pub due_of : Setup → List Entry → List ℕ

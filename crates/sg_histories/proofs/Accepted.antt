@@ -13,10 +13,11 @@ use Rattle.sg_acts.specs.declared.replies.Phase.{Phase}
 use Rattle.sg_acts.specs.declared.replies.Reply.{Reply}
 use Rattle.sg_acts.specs.declared.replies.Reply.TheVariants as reply
 use Rattle.sg_keeper.specs.declared.setup.Setup.{Setup}
-use Rattle.sg_histories.specs.Answers.{accepts, early_refusal, early_reply, entry_of, first_reply, is_ballot, is_cast_word, is_unused, is_voting, knows_secret_of, next_history, refusal_of, repeat_of, unless, void_refusal}
+use Rattle.sg_histories.specs.Answers.{accepts, early_refusal, early_reply, entry_of, is_ballot, is_cast_word, is_unused, is_voting, knows_secret_of, next_history, refusal_of, repeat_of, unless, void_refusal}
+use Rattle.sg_plan.specs.Limits.{first_of}
 use Rattle.sg_histories.specs.Histories.{Entry, act_of_stamp, fate_word, is_stamped}
 
-pub first_none : (o : Option Reply) (os : List (Option Reply)) → first_reply (o ∷ os) ≡ None → (o ≡ None) × (first_reply os ≡ None)
+pub first_none : (o : Option Reply) (os : List (Option Reply)) → first_of (o ∷ os) ≡ None → (o ≡ None) × (first_of os ≡ None)
 first_none None os e = (refl, e)
 first_none (Some x) os e = cc
 
@@ -40,7 +41,7 @@ accepts_is setup history stamp asked =
     ap (λ (b : Bool). knows_secret_of setup.secrets stamp && (b && is_none (refusal_of setup history stamp.station asked))) (unstamped setup history stamp asked)
     ∙ by_parts (knows_secret_of setup.secrets stamp) (repeat_of setup history stamp asked) (refusal_of setup history stamp.station asked)
   where
-    by_parts : (secret : Bool) (again refusal : Option Reply) → (secret && (is_none again && is_none refusal)) ≡ is_none (first_reply (unless secret reply.Secret ∷ again ∷ refusal ∷ []))
+    by_parts : (secret : Bool) (again refusal : Option Reply) → (secret && (is_none again && is_none refusal)) ≡ is_none (first_of (unless secret reply.Secret ∷ again ∷ refusal ∷ []))
     by_parts true None None = refl
     by_parts true None (Some said) = refl
     by_parts true (Some said) refusal = refl

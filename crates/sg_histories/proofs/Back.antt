@@ -10,7 +10,7 @@ use Rattle.std.proofs.lemmas.Int.{ints}
 use Rattle.std.proofs.lemmas.Slice.Eq.{bytes_eq-Decides}
 use Rattle.sg_lists.proofs.Bools.{not_or_parts}
 use Rattle.sg_lists.proofs.Integers.{higher_differs, lower_differs}
-use Rattle.sg_plan.specs.Limits.{each_keeps, first_bad}
+use Rattle.sg_plan.specs.Limits.{each_keeps, first_bad, first_of}
 use Rattle.sg_plan.proofs.Lists.{first_bad-each}
 use Rattle.sg_keeper.specs.Rows.{ballot_before, ballot_is, done_before, done_is, is_new, put, void_before, void_is}
 use Rattle.sg_acts.specs.declared.asks.Act.{Act}
@@ -20,7 +20,7 @@ use Rattle.sg_acts.specs.declared.replies.Reply.TheVariants as reply
 use Rattle.sg_keeper.specs.declared.rows.DoneRow.{DoneRow}
 use Rattle.sg_keeper.specs.declared.setup.Setup.{Setup}
 use Rattle.sg_desks.specs.ActTexts.{act_text}
-use Rattle.sg_histories.specs.Answers.{first_reply, knows_secret_of, refusal_of, repeat_of, unless}
+use Rattle.sg_histories.specs.Answers.{knows_secret_of, refusal_of, repeat_of, unless}
 use Rattle.sg_histories.specs.Histories.{Entry, is_stamped}
 use Rattle.sg_histories.specs.KeptRows.{done_row, rows_of}
 use Rattle.sg_histories.specs.Lawful.{IsAccepted, IsAskable}
@@ -166,7 +166,7 @@ knows [] at h = absurd (omega (arith, h))
 knows (x ∷ xs) zero h = (bytes_eq-Decides x x).1 refl
 knows (x ∷ xs) (suc at) h = knows xs at (omega (arith, h))
 
-all_pass : (s : Bool) (o r : Option Reply) → s ≡ true → o ≡ None → r ≡ None → is_none (first_reply (unless s reply.Secret ∷ o ∷ r ∷ [])) ≡ true
+all_pass : (s : Bool) (o r : Option Reply) → s ≡ true → o ≡ None → r ≡ None → is_none (first_of (unless s reply.Secret ∷ o ∷ r ∷ [])) ≡ true
 all_pass true None None e f g = refl
 all_pass false o r e f g = cc
 all_pass true (Some x) r e f g = cc

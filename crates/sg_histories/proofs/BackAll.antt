@@ -8,7 +8,7 @@ use Rattle.std.proofs.lemmas.Slice.Eq.{bytes_eq-Decides}
 use Rattle.sg_lists.proofs.Bools.{one_if}
 use Rattle.sg_lists.proofs.Counting.{count_by-append}
 use Rattle.sg_lists.proofs.Lists.{cons_parts}
-use Rattle.sg_plan.specs.Limits.{each_keeps, first_bad}
+use Rattle.sg_plan.specs.Limits.{each_keeps, first_bad, first_of}
 use Rattle.sg_plan.specs.declared.plan.Stage.{Stage}
 use Rattle.sg_plan.specs.declared.plan.Stage.TheVariants as stage
 use Rattle.sg_keeper.specs.Rows.{ballot_before, ballot_is, done_before, done_is, put, void_before, void_is, with_row}
@@ -27,7 +27,7 @@ use Rattle.sg_histories.specs.Histories.{Entry, claims_of, phase_word}
 use Rattle.sg_histories.specs.KeptRows.{row_of_act, rows_of}
 use Rattle.sg_histories.specs.Reading.{ReadsActs}
 use Rattle.sg_histories.specs.RowLaws.{ValidRowsStand}
-use Rattle.sg_histories.specs.ValidRows.{all_done, at_table, ballot_keeps, claim_keeps, climbs, count_done, count_told, damage_of, differ, doer, done_fault, done_keeps, first_damage, fits, is_drawn_in, is_stamp, or_missing, row_fits, scan_text, stage_keeps, station_of, told_by, void_keeps, void_text}
+use Rattle.sg_histories.specs.ValidRows.{all_done, at_table, ballot_keeps, claim_keeps, climbs, count_done, count_told, damage_of, differ, doer, done_fault, done_keeps, fits, is_drawn_in, is_stamp, or_missing, row_fits, scan_text, stage_keeps, station_of, told_by, void_keeps, void_text}
 use Rattle.sg_histories.specs.declared.kept.Claim.{Claim}
 use Rattle.sg_histories.specs.inside.RowReading.{ReadsRows}
 use Rattle.sg_histories.proofs.Accepted.{early, voids}
@@ -182,7 +182,7 @@ drawn_count stage.Voting = refl
 drawn_count stage.Closed = refl
 drawn_count (stage.Drawn drawn) = refl
 
-five_none : (a b c d e : Option ℕ) → first_damage (at_table 2 a ∷ at_table 3 b ∷ at_table 4 c ∷ at_table 5 d ∷ at_table 6 e ∷ []) ≡ None → (a ≡ None) × (b ≡ None) × (c ≡ None) × (d ≡ None) × (e ≡ None)
+five_none : (a b c d e : Option ℕ) → first_of (at_table 2 a ∷ at_table 3 b ∷ at_table 4 c ∷ at_table 5 d ∷ at_table 6 e ∷ []) ≡ None → (a ≡ None) × (b ≡ None) × (c ≡ None) × (d ≡ None) × (e ≡ None)
 five_none None None None None None p = (refl, refl, refl, refl, refl)
 five_none (Some x) b c d e p = cc
 five_none None (Some x) c d e p = cc

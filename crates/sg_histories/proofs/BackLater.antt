@@ -21,7 +21,8 @@ use Rattle.sg_keeper.specs.declared.rows.DoneRow.{DoneRow}
 use Rattle.sg_keeper.specs.declared.rows.VoidRow.{VoidRow}
 use Rattle.sg_keeper.specs.declared.setup.Setup.{Setup}
 use Rattle.sg_desks.specs.ActTexts.{act_text}
-use Rattle.sg_histories.specs.Answers.{close_refusal, draw_refusal, first_reply, is_ballot, refusal_of, unless, void_refusal}
+use Rattle.sg_histories.specs.Answers.{close_refusal, draw_refusal, is_ballot, refusal_of, unless, void_refusal}
+use Rattle.sg_plan.specs.Limits.{first_of}
 use Rattle.sg_histories.specs.Histories.{Entry, claims_of, fate_of, fate_word, phase_word, scanner_of, stage_of}
 use Rattle.sg_histories.specs.KeptRows.{rows_of}
 use Rattle.sg_histories.specs.Lawful.{IsAskable, Lawful}
@@ -183,7 +184,7 @@ pub draw_back : (setup : Setup) (text : List ℕ) (ballots : List BallotRow) (vo
 draw_back setup text ballots voids drawn d dones history old is fit words stamp rise = record {
   lawful = (
     accepted setup text history d (act.Draw drawn) stamp (late_new setup text d dones history old.dones_are rise) is
-        (ap (λ (s : Stage). draw_refusal (phase_word s) drawn) old.stage_is ∙ ap (λ b. first_reply (unless b reply.Draw ∷ [])) fit),
+        (ap (λ (s : Stage). draw_refusal (phase_word s) drawn) old.stage_is ∙ ap (λ b. first_of (unless b reply.Draw ∷ [])) fit),
     old.lawful,
   );
   ballots_are = old.ballots_are;

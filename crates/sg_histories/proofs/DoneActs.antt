@@ -5,7 +5,7 @@ use Rattle.std.proofs.lemmas.Bool.{and_from, and_parts, eq-eqb, eqb-true}
 use Rattle.std.proofs.lemmas.Slice.Eq.{bytes_eq-Decides}
 use Rattle.sg_plan.specs.Ballots.{ballot_has, candidates_of, races_of_ballot}
 use Rattle.sg_plan.specs.Fates.{has_mark}
-use Rattle.sg_plan.specs.Limits.{fault_of, first_bad}
+use Rattle.sg_plan.specs.Limits.{fault_of, first_bad, first_of}
 use Rattle.sg_plan.specs.declared.plan.Plan.{Plan}
 use Rattle.sg_acts.specs.declared.asks.Act.{Act}
 use Rattle.sg_acts.specs.declared.asks.Act.TheVariants as act
@@ -20,7 +20,8 @@ use Rattle.sg_acts.specs.declared.replies.Reply.TheVariants as reply
 use Rattle.sg_keeper.specs.declared.setup.Setup.{Setup}
 use Rattle.sg_desks.specs.ActTexts.{IsAct, act_text}
 use Rattle.sg_desks.proofs.ActsRead.{texts_differ}
-use Rattle.sg_histories.specs.Answers.{accepts, answer_of, body_of, early_refusal, entry_of, first_reply, fits_draw, fits_races, is_ballot, is_cast_word, is_closed, is_done, is_drawn, is_unused, is_voting, knows_secret_of, next_history, refusal_of, repeat_of, same_act, unless}
+use Rattle.sg_histories.specs.Answers.{accepts, answer_of, body_of, early_refusal, entry_of, fits_races, is_ballot, is_cast_word, is_closed, is_done, is_drawn, is_unused, is_voting, knows_secret_of, next_history, refusal_of, repeat_of, same_act, unless}
+use Rattle.sg_record.specs.Formed.{is_draw}
 use Rattle.sg_histories.specs.Histories.{Entry, act_of_stamp, claims_of, fate_of, fate_word, is_stamped, phase_of, scanner_of}
 use Rattle.sg_histories.specs.HistoryLaws.{ActsStay, DoneActsAreKept, DoneActsStand}
 use Rattle.sg_histories.specs.KeptRows.{done_row, rows_of}
@@ -43,7 +44,7 @@ unless_refuses : (test : Bool) (said : Reply) → is_done said ≡ false → Ref
 unless_refuses true said e = tt
 unless_refuses false said e = e
 
-first_refuses : (o : Option Reply) (os : List (Option Reply)) → Refuses o → Refuses (first_reply os) → Refuses (first_reply (o ∷ os))
+first_refuses : (o : Option Reply) (os : List (Option Reply)) → Refuses o → Refuses (first_of os) → Refuses (first_of (o ∷ os))
 first_refuses None os e rest = rest
 first_refuses (Some said) os e rest = e
 
@@ -71,7 +72,7 @@ refusal_refuses setup history station act.Close =
     first_refuses (unless (is_voting (phase_of history)) (reply.Phase (phase_of history))) [] (unless_refuses (is_voting (phase_of history)) (reply.Phase (phase_of history)) refl) tt
 refusal_refuses setup history station (act.Draw drawn) =
     first_refuses (unless (is_closed (phase_of history)) (reply.Phase (phase_of history))) _ (unless_refuses (is_closed (phase_of history)) (reply.Phase (phase_of history)) refl)
-    (first_refuses (unless (fits_draw drawn) reply.Draw) [] (unless_refuses (fits_draw drawn) reply.Draw refl) tt)
+    (first_refuses (unless (is_draw drawn) reply.Draw) [] (unless_refuses (is_draw drawn) reply.Draw refl) tt)
 refusal_refuses setup history station (act.Claim ballot race code) =
     first_refuses (unless (is_drawn (phase_of history)) (reply.Phase (phase_of history))) _ (unless_refuses (is_drawn (phase_of history)) (reply.Phase (phase_of history)) refl)
     (first_refuses (unless (is_ballot setup.plan ballot) reply.Ballot) _ (unless_refuses (is_ballot setup.plan ballot) reply.Ballot refl)

@@ -18,7 +18,8 @@ use Rattle.sg_acts.specs.declared.replies.Phase.TheVariants as phase
 use Rattle.sg_acts.specs.declared.replies.Reply.TheVariants as reply
 use Rattle.sg_keeper.specs.declared.setup.Setup.{Setup}
 use Rattle.sg_desks.specs.ActTexts.{act_text, codes_word, mark_word}
-use Rattle.sg_histories.specs.Answers.{audit_refusal, claim_refusal, early_refusal, fits_draw, fits_races, is_ballot, is_closed, is_drawn, is_unused, is_voting, refusal_of, scan_refusal, unless}
+use Rattle.sg_histories.specs.Answers.{audit_refusal, claim_refusal, early_refusal, fits_races, is_ballot, is_closed, is_drawn, is_unused, is_voting, refusal_of, scan_refusal, unless}
+use Rattle.sg_record.specs.Formed.{is_draw}
 use Rattle.sg_histories.specs.Histories.{Entry, claims_of, fate_of, fate_word, phase_of, scanner_of}
 use Rattle.sg_histories.specs.Lawful.{IsAskable}
 use Rattle.sg_histories.specs.ValidRows.{ballot_text, fits}
@@ -87,7 +88,7 @@ fits_new setup history station (act.Audit ballot paper) is r =
 fits_new setup history station act.Close is r = refl
 fits_new setup history station (act.Draw drawn) is r =
     let one = first_none (unless (is_closed (phase_of history)) (reply.Phase (phase_of history))) _ r in
-    unless_none (fits_draw drawn) reply.Draw (first_none (unless (fits_draw drawn) reply.Draw) _ one.1).0
+    unless_none (is_draw drawn) reply.Draw (first_none (unless (is_draw drawn) reply.Draw) _ one.1).0
 fits_new setup history station (act.Claim ballot race code) is r =
     let c = claims setup.plan (phase_of history) (length (claims_of history)) ballot race r in
     let low : code < codes_of setup.plan.version = is.codes in

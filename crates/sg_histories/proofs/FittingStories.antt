@@ -32,7 +32,7 @@ use Rattle.sg_keeper.specs.declared.setup.Setup.{Setup}
 use Rattle.sg_post.specs.Fits.{claim_fits, fates_fit, stage_fits}
 use Rattle.sg_post.specs.declared.story.Claimed.{Claimed}
 use Rattle.sg_post.specs.declared.story.Told.{Told}
-use Rattle.sg_histories.specs.Answers.{audit_refusal, early_refusal, fits_draw, fits_races, is_ballot, scan_refusal}
+use Rattle.sg_histories.specs.Answers.{audit_refusal, early_refusal, fits_races, is_ballot, scan_refusal}
 use Rattle.sg_histories.specs.Histories.{Entry, claims_of, fate_after, fate_of, stage_of}
 use Rattle.sg_histories.specs.HistoryLaws.{StoriesFit}
 use Rattle.sg_histories.specs.Lawful.{IsAskable, Lawful}
@@ -187,21 +187,17 @@ claims_good plan seed fates (claim ∷ kept) all =
     let claim_good = and_parts (is_ballot plan claim.ballot) (ballot_has plan claim.ballot claim.race && nat_lt claim.code (codes_of plan.version)) parts.0 in
     and_from (claim_fits plan (answered plan seed fates claim)) (list_all (claim_fits plan) (map (answered plan seed fates) kept)) claim_good.1 (claims_good plan seed fates kept parts.1)
 
-draw_same : (drawn : Draw) → fits_draw drawn ≡ is_draw drawn
-draw_same draw.Full = refl
-draw_same (draw.Public bytes) = refl
-
 none_kept : (f : Claim → Claimed) (kept : List Claim) → kept ≡ [] → (length (map f kept) == 0) ≡ true
 none_kept f [] e = refl
 none_kept f (x ∷ xs) e = cc
 
-stage_good : (plan : Plan) (now : Stage) (kept : List Claim) (f : Claim → Claimed) → ClaimsFit plan now kept → ((drawn : Draw) → now ≡ stage.Drawn drawn → fits_draw drawn ≡ true) → stage_fits now (map f kept) ≡ true
+stage_good : (plan : Plan) (now : Stage) (kept : List Claim) (f : Claim → Claimed) → ClaimsFit plan now kept → ((drawn : Draw) → now ≡ stage.Drawn drawn → is_draw drawn ≡ true) → stage_fits now (map f kept) ≡ true
 stage_good plan stage.Voting kept f good drawn_good = none_kept f kept (good.early refl)
 stage_good plan stage.Closed kept f good drawn_good = none_kept f kept (good.early refl)
 stage_good plan (stage.Drawn drawn) kept f good drawn_good =
     let long = length-map kept f in
     let few = good.few in
-    and_from (is_draw drawn) (nat_le (length (map f kept)) 10000) (sym (draw_same drawn) ∙ drawn_good drawn refl) (low (length (map f kept)) (omega (arith, long, few)))
+    and_from (is_draw drawn) (nat_le (length (map f kept)) 10000) (drawn_good drawn refl) (low (length (map f kept)) (omega (arith, long, few)))
   where
     low : (n : ℕ) → n ≤ 10000 → nat_le n 10000 ≡ true
     low n h = grind (arith, nat_tests, h)

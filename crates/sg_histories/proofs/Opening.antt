@@ -5,7 +5,7 @@ use Rattle.std.specs.Prelude.{pos}
 use Rattle.std.specs.Option.{option_map_or}
 use Rattle.std.specs.Ordering.{int_eq}
 use Rattle.std.proofs.lemmas.Option.{same_Some}
-use Rattle.sg_plan.specs.Limits.{first_bad}
+use Rattle.sg_plan.specs.Limits.{first_bad, first_of}
 use Rattle.sg_keeper.specs.Rows.{ballot_before}
 use Rattle.sg_keeper.specs.SetupText.{IsSetupText, setup_text}
 use Rattle.sg_keeper.specs.declared.rows.BallotRow.{BallotRow}
@@ -20,7 +20,7 @@ use Rattle.sg_histories.specs.KeptRows.{rows_of}
 use Rattle.sg_histories.specs.Opens.{Damaged, Empty, IsOfNone, IsOfSetup, Whole}
 use Rattle.sg_histories.specs.Reading.{ReadsActs}
 use Rattle.sg_histories.specs.RowLaws.{LawfulRowsOpen, OpenRowsAreLawful, RowsOpenOnce}
-use Rattle.sg_histories.specs.ValidRows.{at_table, ballot_keeps, ballot_text, claim_keeps, climbs, damage_of, done_fault, first_damage, fits, is_drawn_in, natural, stage_keeps, stage_text, tells_fit, told_by, void_keeps}
+use Rattle.sg_histories.specs.ValidRows.{at_table, ballot_keeps, ballot_text, claim_keeps, climbs, damage_of, done_fault, fits, is_drawn_in, natural, stage_keeps, stage_text, tells_fit, told_by, void_keeps}
 use Rattle.sg_histories.proofs.Back.{same_bad}
 use Rattle.sg_histories.proofs.BackAll.{rows_stand, setup_kept}
 use Rattle.sg_histories.proofs.Out.{rows_valid}
@@ -76,7 +76,7 @@ tells_same setup read other reads others (Some text) =
 damage_same : (setup : Setup) (read other : List ℕ → Option Act) → ReadsActs setup read → ReadsActs setup other → (rows : Rows) → damage_of setup read rows ≡ damage_of setup other rows
 unfolding damage_of
 damage_same setup read other reads others rows =
-    ap₂ (λ (ballots stages : Option ℕ). first_damage (
+    ap₂ (λ (ballots stages : Option ℕ). first_of (
     at_table 2 ballots
     ∷ at_table 3 stages
     ∷ at_table 4 (first_bad (claim_keeps setup.plan (is_drawn_in rows)) [] rows.claims)

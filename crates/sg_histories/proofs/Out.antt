@@ -9,7 +9,7 @@ use Rattle.std.proofs.lemmas.Slice.Eq.{bytes_eq-Decides}
 use Rattle.sg_lists.proofs.Bools.{one_if}
 use Rattle.sg_lists.proofs.Counting.{count_by-append}
 use Rattle.sg_lists.proofs.Options.{is_none-true}
-use Rattle.sg_plan.specs.Limits.{first_bad}
+use Rattle.sg_plan.specs.Limits.{first_bad, first_of}
 use Rattle.sg_plan.specs.declared.plan.Draw.{Draw}
 use Rattle.sg_plan.specs.declared.plan.Plan.{Plan}
 use Rattle.sg_plan.specs.declared.plan.Stage.{Stage}
@@ -30,7 +30,7 @@ use Rattle.sg_histories.specs.KeptRows.{rows_of}
 use Rattle.sg_histories.specs.Lawful.{IsAskable, Lawful}
 use Rattle.sg_histories.specs.Reading.{ReadsActs}
 use Rattle.sg_histories.specs.RowLaws.{RowsAreValid}
-use Rattle.sg_histories.specs.ValidRows.{all_done, at_table, ballot_keeps, claim_keeps, climbs, count_done, count_told, damage_of, differ, doer, done_fault, done_keeps, first_damage, fits, is_drawn_in, is_stamp, or_missing, row_fits, scan_text, stage_keeps, stage_text, tells_fit, told_by, void_keeps, void_text}
+use Rattle.sg_histories.specs.ValidRows.{all_done, at_table, ballot_keeps, claim_keeps, climbs, count_done, count_told, damage_of, differ, doer, done_fault, done_keeps, fits, is_drawn_in, is_stamp, or_missing, row_fits, scan_text, stage_keeps, stage_text, tells_fit, told_by, void_keeps, void_text}
 use Rattle.sg_histories.specs.declared.kept.Claim.{Claim}
 use Rattle.sg_histories.specs.inside.RowReading.{HasRaces, SmallBallots}
 use Rattle.sg_histories.proofs.Accepted.{passed}
@@ -130,7 +130,7 @@ dones_good stations told rows good same =
 -- ALL
 
 five : (a b c d e : Option ℕ) → a ≡ None → b ≡ None → c ≡ None → d ≡ None → e ≡ None
-    → first_damage (at_table 2 a ∷ at_table 3 b ∷ at_table 4 c ∷ at_table 5 d ∷ at_table 6 e ∷ []) ≡ None
+    → first_of (at_table 2 a ∷ at_table 3 b ∷ at_table 4 c ∷ at_table 5 d ∷ at_table 6 e ∷ []) ≡ None
 five None None None None None p q r s t = refl
 five (Some x) b c d e p q r s t = cc
 five None (Some x) c d e p q r s t = cc

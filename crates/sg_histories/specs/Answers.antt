@@ -3,10 +3,9 @@
 use Rattle.std.specs.Option.{option_map, option_map_or, unwrap_or}
 use Rattle.std.specs.Prelude.{ℕ, ◌==◌, nat_lt, nat_le, if◌then◌else◌, Bool, true, false, ◌&&◌, not, List, [], ◌∷◌, length, bytes_eq, slice_get, Option, Some, None, is_none}
 use Rattle.sg_plan.specs.Ballots.{ballot_has, ballot_row, ballots_of, candidates_of, races_of_ballot}
-use Rattle.sg_plan.specs.Fates.{has_mark}
-use Rattle.sg_plan.specs.Limits.{first_bad, most_claims, most_public_bytes}
+use Rattle.sg_plan.specs.Fates.{each_fits, has_mark}
+use Rattle.sg_plan.specs.Limits.{first_bad, first_of, most_claims}
 use Rattle.sg_plan.specs.declared.plan.Draw.{Draw}
-use Rattle.sg_plan.specs.declared.plan.Draw.TheVariants as draw
 use Rattle.sg_plan.specs.declared.plan.Fate.{Fate}
 use Rattle.sg_plan.specs.declared.plan.Fate.TheVariants as fate
 use Rattle.sg_plan.specs.declared.plan.Mark.{Mark}
@@ -33,18 +32,13 @@ use Rattle.sg_keeper.specs.declared.setup.Setup.{Setup}
 use Rattle.sg_desks.specs.ActTexts.{act_text}
 use Rattle.sg_desks.specs.Papers.{same_paper}
 use Rattle.sg_desks.specs.Receipts.{posted_of}
+use Rattle.sg_record.specs.Formed.{is_draw}
 use Rattle.sg_post.specs.Marks.{total_of}
 use Rattle.sg_post.specs.Posted.{by_candidate}
 use Rattle.sg_histories.specs.Histories.{Entry, act_of_stamp, claims_of, fate_of, fate_word, is_stamped, phase_of, scanner_of}
 use Rattle.sg_histories.specs.Stories.{told_fates}
 
 -- REFUSALS
-
--- the first refusal that is there
-abbrev pub first_reply : List (Option Reply) → Option Reply
-first_reply [] = None
-first_reply (None ∷ refusals) = first_reply refusals
-first_reply (Some refusal ∷ refusals) = Some refusal
 
 -- the refusal, unless the test holds
 abbrev pub unless : Bool → Reply → Option Reply
@@ -76,19 +70,11 @@ is_ballot plan ballot = nat_le 1 ballot && nat_le ballot (ballots_of plan)
 
 -- the list has a list of K codes for each of these races
 abbrev pub fits_races : Plan → List ℕ → List (List ℕ) → Bool
-fits_races plan [] [] = true
-fits_races plan [] (list ∷ paper) = false
-fits_races plan (race ∷ races) [] = false
-fits_races plan (race ∷ races) (list ∷ paper) = length list == candidates_of plan race && fits_races plan races paper
-
--- the draw is full, or has 1 to 4,096 public bytes
-abbrev pub fits_draw : Draw → Bool
-fits_draw draw.Full = true
-fits_draw (draw.Public bytes) = nat_le 1 (length bytes) && nat_le (length bytes) most_public_bytes
+fits_races plan races paper = each_fits (λ race list. length list == candidates_of plan race) races paper
 
 -- of an act on a ballot that should have no fate yet
 abbrev pub early_refusal : Plan → Phase → FateWord → ℕ → Option Reply
-early_refusal plan now told ballot = first_reply (
+early_refusal plan now told ballot = first_of (
     unless (is_voting now) (reply.Phase now)
     ∷ unless (is_ballot plan ballot) reply.Ballot
     ∷ unless (is_unused told) (reply.Fate told)
@@ -96,7 +82,7 @@ early_refusal plan now told ballot = first_reply (
 
 -- of a scan
 abbrev pub scan_refusal : Plan → Phase → FateWord → ℕ → List Mark → Option Reply
-scan_refusal plan now told ballot marks = first_reply (
+scan_refusal plan now told ballot marks = first_of (
     early_refusal plan now told ballot
     ∷ option_map reply.Race (first_bad (λ earlier mark. ballot_has plan ballot mark.race) [] marks)
     ∷ option_map reply.Candidate (first_bad (λ earlier mark. nat_lt mark.candidate (candidates_of plan mark.race)) [] marks)
@@ -105,14 +91,14 @@ scan_refusal plan now told ballot marks = first_reply (
 
 -- of a print audit
 abbrev pub audit_refusal : Plan → Phase → FateWord → ℕ → List (List ℕ) → Option Reply
-audit_refusal plan now told ballot paper = first_reply (
+audit_refusal plan now told ballot paper = first_of (
     early_refusal plan now told ballot
     ∷ unless (fits_races plan (races_of_ballot plan ballot) paper) reply.Paper
     ∷ [])
 
 -- of a void by a station, of a ballot that another one scanned
 abbrev pub void_refusal : Plan → Phase → FateWord → ℕ → ℕ → ℕ → Option Reply
-void_refusal plan now told scanner station ballot = first_reply (
+void_refusal plan now told scanner station ballot = first_of (
     unless (is_voting now) (reply.Phase now)
     ∷ unless (is_ballot plan ballot) reply.Ballot
     ∷ unless (is_cast_word told) (reply.Fate told)
@@ -121,18 +107,18 @@ void_refusal plan now told scanner station ballot = first_reply (
 
 -- of the close
 abbrev pub close_refusal : Phase → Option Reply
-close_refusal now = first_reply (unless (is_voting now) (reply.Phase now) ∷ [])
+close_refusal now = first_of (unless (is_voting now) (reply.Phase now) ∷ [])
 
 -- of the draw
 abbrev pub draw_refusal : Phase → Draw → Option Reply
-draw_refusal now drawn = first_reply (
+draw_refusal now drawn = first_of (
     unless (is_closed now) (reply.Phase now)
-    ∷ unless (fits_draw drawn) reply.Draw
+    ∷ unless (is_draw drawn) reply.Draw
     ∷ [])
 
 -- of a claim, where so many are kept
 abbrev pub claim_refusal : Plan → Phase → ℕ → ℕ → ℕ → Option Reply
-claim_refusal plan now kept ballot race = first_reply (
+claim_refusal plan now kept ballot race = first_of (
     unless (is_drawn now) (reply.Phase now)
     ∷ unless (is_ballot plan ballot) reply.Ballot
     ∷ unless (ballot_has plan ballot race) (reply.Race 0)
@@ -190,7 +176,7 @@ repeat_of setup (entry ∷ history) stamp asked =
 
 -- the reply to an act, and nothing where it is new and accepted
 abbrev pub early_reply : Setup → List Entry → Stamp → Act → Option Reply
-early_reply setup history stamp asked = first_reply (
+early_reply setup history stamp asked = first_of (
     unless (knows_secret_of setup.secrets stamp) reply.Secret
     ∷ repeat_of setup history stamp asked
     ∷ refusal_of setup history stamp.station asked

@@ -27,9 +27,7 @@ fate_after ballot (act.Scan b marks) before = (if b == ballot then fate.Cast mar
 fate_after ballot (act.Spoil b) before = (if b == ballot then fate.Spoiled else before)
 fate_after ballot (act.Audit b paper) before = (if b == ballot then fate.Audited paper else before)
 fate_after ballot (act.Void b) before = (if b == ballot then fate.Voided else before)
-fate_after ballot act.Close before = before
-fate_after ballot (act.Draw drawn) before = before
-fate_after ballot (act.Claim b race code) before = before
+fate_after ballot other before = before
 
 -- the fate of a ballot: what the newest scan, spoil, audit or void of it says
 abbrev pub fate_of : List Entry → ℕ → Fate
@@ -39,12 +37,7 @@ fate_of (entry ∷ history) ballot = fate_after ballot entry.act (fate_of histor
 -- the station of a ballot's scan after an entry
 abbrev pub scanner_after : ℕ → ℕ → Act → ℕ → ℕ
 scanner_after ballot station (act.Scan b marks) before = (if b == ballot then station else before)
-scanner_after ballot station (act.Spoil b) before = before
-scanner_after ballot station (act.Audit b paper) before = before
-scanner_after ballot station (act.Void b) before = before
-scanner_after ballot station act.Close before = before
-scanner_after ballot station (act.Draw drawn) before = before
-scanner_after ballot station (act.Claim b race code) before = before
+scanner_after ballot station other before = before
 
 -- the scanning station of a ballot: that of the scan that names it, and 0 where none does
 abbrev pub scanner_of : List Entry → ℕ → ℕ
@@ -63,13 +56,9 @@ fate_word fate.Voided = word.Voided
 
 -- how far the election is after an act
 abbrev pub stage_after : Act → Stage → Stage
-stage_after (act.Scan b marks) before = before
-stage_after (act.Spoil b) before = before
-stage_after (act.Audit b paper) before = before
-stage_after (act.Void b) before = before
 stage_after act.Close before = stage.Closed
 stage_after (act.Draw drawn) before = stage.Drawn drawn
-stage_after (act.Claim b race code) before = before
+stage_after other before = before
 
 -- how far the election is: voting, closed after a close, drawn after a draw
 abbrev pub stage_of : List Entry → Stage
@@ -89,13 +78,8 @@ phase_of history = phase_word (stage_of history)
 
 -- the claims after an act
 abbrev pub claims_after : Act → List Claim → List Claim
-claims_after (act.Scan b marks) before = before
-claims_after (act.Spoil b) before = before
-claims_after (act.Audit b paper) before = before
-claims_after (act.Void b) before = before
-claims_after act.Close before = before
-claims_after (act.Draw drawn) before = before
 claims_after (act.Claim b race code) before = before ++ record { ballot = b; race = race; code = code } ∷ []
+claims_after other before = before
 
 -- the claims, the oldest first
 abbrev pub claims_of : List Entry → List Claim

@@ -17,13 +17,8 @@ use Rattle.sg_histories.specs.Histories.{Entry}
 -- the bytes of a draw are bytes, and the marks of a scan can be counted by a u32
 abbrev pub IsCounted : Act → Type 0
 IsCounted (act.Scan ballot marks) = length marks < 2 ^ 32
-IsCounted (act.Spoil ballot) = Unit {0}
-IsCounted (act.Audit ballot paper) = Unit {0}
-IsCounted act.Close = Unit {0}
-IsCounted (act.Draw draw.Full) = Unit {0}
 IsCounted (act.Draw (draw.Public bytes)) = IsBytes bytes
-IsCounted (act.Claim ballot race code) = Unit {0}
-IsCounted (act.Void ballot) = Unit {0}
+IsCounted other = Unit {0}
 
 -- an act that can be asked for under a setup: its codes are codes of the plan's version
 pub record IsAskable (setup : Setup) (asked : Act) : Type 0 where

@@ -7,7 +7,7 @@ use Rattle.std.specs.Ordering.{int_eq}
 use Rattle.std.specs.Prelude.{ℕ, ◌+◌, ◌==◌, ◌^◌, nat_lt, nat_le, ℤ, pos, negsuc, if◌then◌else◌, Bool, true, false, ◌&&◌, not, List, [], ◌∷◌, ◌++◌, length, map, count_by, bytes_eq, codes, Option, Some, None, is_none}
 use Rattle.sg_plan.specs.Ballots.{ballot_has}
 use Rattle.sg_plan.specs.Codes.{codes_of}
-use Rattle.sg_plan.specs.Limits.{first_bad, most_claims}
+use Rattle.sg_plan.specs.Limits.{first_bad, first_of, most_claims}
 use Rattle.sg_plan.specs.declared.plan.Plan.{Plan}
 use Rattle.sg_lines.specs.Words.{decimal}
 use Rattle.sg_keeper.specs.Rows.{ballot_before, done_before, void_before}
@@ -23,7 +23,8 @@ use Rattle.sg_keeper.specs.declared.rows.StageRow.{StageRow}
 use Rattle.sg_keeper.specs.declared.rows.VoidRow.{VoidRow}
 use Rattle.sg_keeper.specs.declared.setup.Setup.{Setup}
 use Rattle.sg_desks.specs.ActTexts.{act_text}
-use Rattle.sg_histories.specs.Answers.{audit_refusal, early_refusal, fits_draw, is_ballot, scan_refusal}
+use Rattle.sg_histories.specs.Answers.{audit_refusal, early_refusal, is_ballot, scan_refusal}
+use Rattle.sg_record.specs.Formed.{is_draw}
 
 -- a number from 0 on
 abbrev pub natural : ℤ → Option ℕ
@@ -78,7 +79,7 @@ fits plan (act.Scan ballot marks) = is_none (scan_refusal plan phase.Voting word
 fits plan (act.Spoil ballot) = is_none (early_refusal plan phase.Voting word.Unused ballot)
 fits plan (act.Audit ballot paper) = is_none (audit_refusal plan phase.Voting word.Unused ballot paper)
 fits plan act.Close = true
-fits plan (act.Draw drawn) = fits_draw drawn
+fits plan (act.Draw drawn) = is_draw drawn
 fits plan (act.Claim ballot race code) = is_ballot plan ballot && (ballot_has plan ballot race && nat_lt code (codes_of plan.version))
 fits plan (act.Void ballot) = is_ballot plan ballot
 
@@ -173,19 +174,13 @@ void_keeps version rows earlier row =
 abbrev pub at_table : ℕ → Option ℕ → Option (ℕ × ℕ)
 at_table table place = option_map (λ p. (table, p + 1)) place
 
--- the first that is there
-abbrev pub first_damage : List (Option (ℕ × ℕ)) → Option (ℕ × ℕ)
-first_damage [] = None
-first_damage (None ∷ others) = first_damage others
-first_damage (Some damage ∷ others) = Some damage
-
 -- the draw is kept
 abbrev pub is_drawn_in : Rows → Bool
 is_drawn_in rows = nat_le 2 (length rows.stages)
 
 -- the first bad table and row behind a setup
 unfoldable pub damage_of : Setup → (List ℕ → Option Act) → Rows → Option (ℕ × ℕ)
-damage_of setup read rows = first_damage (
+damage_of setup read rows = first_of (
     at_table 2 (first_bad (ballot_keeps setup.plan read) [] rows.ballots)
     ∷ at_table 3 (first_bad (stage_keeps setup.plan read) [] rows.stages)
     ∷ at_table 4 (first_bad (claim_keeps setup.plan (is_drawn_in rows)) [] rows.claims)

@@ -72,8 +72,7 @@ IsSent due answer = (due ≡ Some answer) ⊎ (answer ≡ memory_due)
 abbrev pub SendsOne : Served → Option Due → List ℕ → Type 0
 SendsOne (served.Answered status) due sent = (answer : Due) × IsSent due answer × (status ≡ answer.status) × (sent ≡ text_of answer)
 SendsOne served.WriteFailed due sent = (answer : Due) × (rest : List ℕ) × IsSent due answer × (text_of answer ≡ sent ++ rest)
-SendsOne served.ReadFailed due sent = ⊥
-SendsOne served.Gone due sent = ⊥
+SendsOne other due sent = ⊥
 
 -- A CONNECTION
 

@@ -8,7 +8,7 @@ use sg_app::run;
 use sg_file::FileKeeper;
 use sg_plan::{Items, Word};
 use sg_system::{Descriptors, StdSource, TcpLinks, WordFault, ending, output, words_of};
-use sg_words::command_of;
+use sg_words::{Command, command_of};
 use std::process::ExitCode;
 
 /// The status for words that are no command's.
@@ -18,17 +18,14 @@ const BAD_WORDS: u8 = 2;
 const WANT_OF_MEMORY: u8 = 9;
 
 /// Whether the words are a command's whose output may be held.
-fn may_hold(rt: &HostRuntime, words: &Items<Word>) -> bool {
-    match command_of(rt.alloc(), words) {
-        Ok(Some(command)) => command.may_hold_output(),
-        _ => false,
-    }
+fn may_hold(words: &Items<Word>) -> bool {
+    command_of(words).is_some_and(Command::may_hold_output)
 }
 
 fn main(rt: HostRuntime) -> ExitCode {
     let _descriptors = Descriptors::hold(&rt);
     let words = words_of(&rt);
-    let is_held = words.as_ref().is_ok_and(|words| may_hold(&rt, words));
+    let is_held = words.as_ref().is_ok_and(may_hold);
     let mut input = StdSource::new(rt.stdin());
     let mut keeper = FileKeeper::new(&rt);
     let mut links = TcpLinks::new(&rt);

@@ -13,7 +13,8 @@ use Rattle.sg_record.proofs.SaidWalk.{Goes, goes-one}
 use Rattle.sg_record.specs.Formed.{is_formed}
 use Rattle.sg_record.specs.Laws.{HasWords}
 use Rattle.sg_record.specs.Lines.{plan_lines}
-use Rattle.sg_record.specs.Places.{commit_places, places_in, result_places}
+use Rattle.sg_record.specs.Places.{places_in}
+use Rattle.sg_record.specs.Tree.{as_place, commit_tree, result_tree}
 use Rattle.sg_record.specs.declared.record.Record.{Record}
 use Rattle.sg_lists.proofs.Each.{EachOf}
 use Rattle.sg_facts.proofs.Rising.{IsPart, blocks, blocks_are, commits_are, results_are}
@@ -42,9 +43,9 @@ part_behind part (line ∷ xs) ys later all is = tt
 
 head_behind : (posted : Record) → IsBehind (behind_head posted)
 head_behind posted =
-    part_behind 2 (commit_places posted) (blocks posted ++ result_places posted) (omega arith) (commits_are posted)
-    (part_behind 3 (blocks posted) (result_places posted) (omega arith) (blocks_are posted)
-    (subst IsBehind (append-nil (result_places posted)) (part_behind 4 (result_places posted) [] (omega arith) (results_are posted) tt)))
+    part_behind 2 (commit_tree as_place posted) (blocks posted ++ result_tree as_place posted) (omega arith) (commits_are posted)
+    (part_behind 3 (blocks posted) (result_tree as_place posted) (omega arith) (blocks_are posted)
+    (subst IsBehind (append-nil (result_tree as_place posted)) (part_behind 4 (result_tree as_place posted) [] (omega arith) (results_are posted) tt)))
 
 said_is : (s d : Said) (xs ys : List Placed) → OfPlan s ∷ xs ≡ OfPlan d ∷ ys → s ≡ d
 said_is s d xs ys e = cc

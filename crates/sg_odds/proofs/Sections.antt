@@ -8,7 +8,8 @@ use Rattle.sg_plan.specs.declared.plan.Draw.TheVariants as drawn
 use Rattle.sg_plan.specs.declared.plan.Plan.{Plan}
 use Rattle.sg_grammar.specs.Placed.{Placed}
 use Rattle.sg_grammar.specs.Placed.Placed.{CodeAt, DrawnFull, DrawnPublic, FlagsAt, PlacesAt, RowAt, TotalAt}
-use Rattle.sg_record.specs.Places.{commit_places, draw_place, places_in, result_places}
+use Rattle.sg_record.specs.Places.{places_in}
+use Rattle.sg_record.specs.Tree.{as_place, commit_tree, draw_leaf, result_tree}
 use Rattle.sg_record.specs.declared.record.Record.{Record}
 use Rattle.sg_check.proofs.Rows.{none_behind_row}
 use Rattle.sg_check.specs.Facts.{flags_row, is_marked, marks_entry, sets_place}
@@ -123,14 +124,14 @@ no_draw line other = tt
 of_part : (part : ℕ) (lines : List Placed) → part ≢ 5 → EachOf (IsPart part) lines → EachOf IsNoDraw lines
 of_part part lines other all = of-into (IsPart part) IsNoDraw lines (λ line is. no_draw line (λ e. other (let same : part ≡ 5 = omega (arith, is, e) in same))) all
 
-drawn_first : (draw : Draw) (rest : List Placed) → before_draw (draw_place draw ∷ rest) ≡ []
+drawn_first : (draw : Draw) (rest : List Placed) → before_draw (draw_leaf as_place draw ∷ rest) ≡ []
 drawn_first drawn.Full rest = refl
 drawn_first (drawn.Public bytes) rest = refl
 
 module _ (posted : Record) where
   -- behind the plan: the commitments, the ballots and the results
   abbrev pub behind_head : List Placed
-  behind_head = commit_places posted ++ (blocks posted ++ result_places posted)
+  behind_head = commit_tree as_place posted ++ (blocks posted ++ result_tree as_place posted)
 
   abbrev pub sections : List Placed
   sections = head posted ++ behind_head
@@ -138,15 +139,15 @@ module _ (posted : Record) where
   pub sections_are : before_draw (places_in posted) ≡ sections
   unfolding places_in
   sections_are =
-      before_behind (head posted) (commit_places posted ++ behind_commits posted) (of_part 0 (head posted) (λ e. omega (arith, e)) (head_is posted))
-      ∙ ap (λ (l : List Placed). head posted ++ l) (before_behind (commit_places posted) (behind_commits posted) (of_part 2 (commit_places posted) (λ e. omega (arith, e)) (commits_are posted))
-      ∙ ap (λ (l : List Placed). commit_places posted ++ l) (before_behind (blocks posted) (behind_ballots posted) (of_part 3 (blocks posted) (λ e. omega (arith, e)) (blocks_are posted))
-      ∙ ap (λ (l : List Placed). blocks posted ++ l) (before_behind (result_places posted) (behind_results posted) (of_part 4 (result_places posted) (λ e. omega (arith, e)) (results_are posted))
-      ∙ (ap (λ (l : List Placed). result_places posted ++ l) (drawn_first posted.draw _) ∙ append-nil (result_places posted)))))
+      before_behind (head posted) (commit_tree as_place posted ++ behind_commits posted) (of_part 0 (head posted) (λ e. omega (arith, e)) (head_is posted))
+      ∙ ap (λ (l : List Placed). head posted ++ l) (before_behind (commit_tree as_place posted) (behind_commits posted) (of_part 2 (commit_tree as_place posted) (λ e. omega (arith, e)) (commits_are posted))
+      ∙ ap (λ (l : List Placed). commit_tree as_place posted ++ l) (before_behind (blocks posted) (behind_ballots posted) (of_part 3 (blocks posted) (λ e. omega (arith, e)) (blocks_are posted))
+      ∙ ap (λ (l : List Placed). blocks posted ++ l) (before_behind (result_tree as_place posted) (behind_results posted) (of_part 4 (result_tree as_place posted) (λ e. omega (arith, e)) (results_are posted))
+      ∙ (ap (λ (l : List Placed). result_tree as_place posted ++ l) (drawn_first posted.draw _) ∙ append-nil (result_tree as_place posted)))))
 
   pub all_are : places_in posted ≡ sections ++ behind_results posted
   unfolding places_in
   all_are =
       sym (append_assoc (head posted) behind_head (behind_results posted)
-      ∙ ap (λ (l : List Placed). head posted ++ l) (append_assoc (commit_places posted) (blocks posted ++ result_places posted) (behind_results posted)
-      ∙ ap (λ (l : List Placed). commit_places posted ++ l) (append_assoc (blocks posted) (result_places posted) (behind_results posted))))
+      ∙ ap (λ (l : List Placed). head posted ++ l) (append_assoc (commit_tree as_place posted) (blocks posted ++ result_tree as_place posted) (behind_results posted)
+      ∙ ap (λ (l : List Placed). commit_tree as_place posted ++ l) (append_assoc (blocks posted) (result_tree as_place posted) (behind_results posted))))

@@ -3,7 +3,7 @@ use Rattle.std.proofs.Common.{◌≡◌, ℕ, ◌==◌, nat_lt, Bool, true, fals
 use Rattle.std.specs.Option.{option_map}
 use Rattle.sg_plan.specs.Ballots.{ballot_has, candidates_of}
 use Rattle.sg_plan.specs.Fates.{has_mark}
-use Rattle.sg_plan.specs.Limits.{first_bad}
+use Rattle.sg_plan.specs.Limits.{first_bad, first_of}
 use Rattle.sg_plan.specs.declared.plan.Plan.{Plan}
 use Rattle.sg_desks.specs.ActTexts.{act_text}
 use Rattle.sg_plan.specs.Ballots.{races_of_ballot}
@@ -15,7 +15,8 @@ use Rattle.sg_acts.specs.declared.replies.Phase.{Phase}
 use Rattle.sg_acts.specs.declared.replies.Reply.{Reply}
 use Rattle.sg_acts.specs.declared.replies.Reply.TheVariants as reply
 use Rattle.sg_keeper.specs.declared.setup.Setup.{Setup}
-use Rattle.sg_histories.specs.Answers.{body_of, early_refusal, early_reply, first_reply, fits_draw, fits_races, is_ballot, is_cast_word, is_closed, is_drawn, is_unused, is_voting, knows_secret_of, refusal_of, repeat_of, same_act, unless}
+use Rattle.sg_histories.specs.Answers.{body_of, early_refusal, early_reply, fits_races, is_ballot, is_cast_word, is_closed, is_drawn, is_unused, is_voting, knows_secret_of, refusal_of, repeat_of, same_act, unless}
+use Rattle.sg_record.specs.Formed.{is_draw}
 use Rattle.sg_histories.specs.Histories.{Entry, claims_of, fate_of, fate_word, is_stamped, phase_of, scanner_of}
 
 -- one of the replies of the orders before the keeper
@@ -28,7 +29,7 @@ abbrev pub is_clean : Option Reply → Bool
 is_clean None = true
 is_clean (Some r) = is_early r
 
-clean_first : (o : Option Reply) (os : List (Option Reply)) → is_clean o ≡ true → is_clean (first_reply os) ≡ true → is_clean (first_reply (o ∷ os)) ≡ true
+clean_first : (o : Option Reply) (os : List (Option Reply)) → is_clean o ≡ true → is_clean (first_of os) ≡ true → is_clean (first_of (o ∷ os)) ≡ true
 clean_first None os c cs = cs
 clean_first (Some r) os c cs = c
 
@@ -59,7 +60,7 @@ clean_refusal setup history station (act.Audit ballot paper) =
 clean_refusal setup history station act.Close = clean_first (unless (is_voting (phase_of history)) (reply.Phase (phase_of history))) [] (clean_unless _ (reply.Phase (phase_of history)) refl) refl
 clean_refusal setup history station (act.Draw drawn) =
     clean_first (unless (is_closed (phase_of history)) (reply.Phase (phase_of history))) _ (clean_unless _ (reply.Phase (phase_of history)) refl)
-    (clean_first (unless (fits_draw drawn) reply.Draw) [] (clean_unless _ reply.Draw refl) refl)
+    (clean_first (unless (is_draw drawn) reply.Draw) [] (clean_unless _ reply.Draw refl) refl)
 clean_refusal setup history station (act.Claim ballot race code) =
     clean_first (unless (is_drawn (phase_of history)) (reply.Phase (phase_of history))) _ (clean_unless _ (reply.Phase (phase_of history)) refl)
     (clean_first (unless (is_ballot setup.plan ballot) reply.Ballot) _ (clean_unless _ reply.Ballot refl)

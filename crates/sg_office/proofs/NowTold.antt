@@ -5,7 +5,7 @@ use Rattle.std.specs.Option.{option_map, option_map_or}
 use Rattle.std.proofs.lemmas.Bool.Decides.{nat_tests}
 use Rattle.sg_plan.specs.Ballots.{ballot_has, ballot_row, ballots_of, candidates_of, races_of_ballot}
 use Rattle.sg_plan.specs.Fates.{has_mark}
-use Rattle.sg_plan.specs.Limits.{first_bad}
+use Rattle.sg_plan.specs.Limits.{first_bad, first_of}
 use Rattle.sg_plan.specs.declared.plan.Fate.{Fate}
 use Rattle.sg_plan.specs.declared.plan.Fate.TheVariants as fate
 use Rattle.sg_plan.specs.declared.plan.Plan.{Plan}
@@ -22,7 +22,7 @@ use Rattle.sg_acts.specs.declared.replies.Phase.{Phase}
 use Rattle.sg_acts.specs.declared.replies.Reply.TheVariants as reply
 use Rattle.sg_keeper.specs.declared.setup.Setup.{Setup}
 use Rattle.sg_histories.specs.declared.kept.Slot.{Slot}
-use Rattle.sg_histories.specs.Answers.{body_of, body_with, close_refusal, draw_refusal, early_refusal, fits_races, first_reply, is_ballot, is_cast_word, is_unused, is_voting, look_reply, receipt_of, refusal_of, unless, void_refusal}
+use Rattle.sg_histories.specs.Answers.{body_of, body_with, close_refusal, draw_refusal, early_refusal, fits_races, is_ballot, is_cast_word, is_unused, is_voting, look_reply, receipt_of, refusal_of, unless, void_refusal}
 use Rattle.sg_histories.specs.Stories.{is_unused_fate, told_fates, told_of}
 use Rattle.sg_post.specs.Marks.{total_of}
 use Rattle.sg_post.specs.Posted.{by_candidate}
@@ -47,7 +47,7 @@ early_same : (plan : Plan) (now : Phase) (a b : FateWord) (ballot : ℕ) (t : Bo
 early_same plan now a b ballot true e same = ap (λ w. early_refusal plan now w ballot) (same refl)
 early_same plan now a b ballot false e same = rw (e) (by_vote (is_voting now))
   where
-    by_vote : (v : Bool) → first_reply (unless v (reply.Phase now) ∷ Some reply.Ballot ∷ unless (is_unused a) (reply.Fate a) ∷ []) ≡ first_reply (unless v (reply.Phase now) ∷ Some reply.Ballot ∷ unless (is_unused b) (reply.Fate b) ∷ [])
+    by_vote : (v : Bool) → first_of (unless v (reply.Phase now) ∷ Some reply.Ballot ∷ unless (is_unused a) (reply.Fate a) ∷ []) ≡ first_of (unless v (reply.Phase now) ∷ Some reply.Ballot ∷ unless (is_unused b) (reply.Fate b) ∷ [])
     by_vote true = refl
     by_vote false = refl
 
@@ -56,8 +56,8 @@ void_same : (plan : Plan) (now : Phase) (a b : FateWord) (s s' station ballot : 
 void_same plan now a b s s' station ballot true e same = rw ((same refl).0, (same refl).1) refl
 void_same plan now a b s s' station ballot false e same = rw (e) (by_vote (is_voting now))
   where
-    by_vote : (v : Bool) → first_reply (unless v (reply.Phase now) ∷ Some reply.Ballot ∷ unless (is_cast_word a) (reply.Fate a) ∷ unless (not (station == s)) (reply.Station s) ∷ [])
-        ≡ first_reply (unless v (reply.Phase now) ∷ Some reply.Ballot ∷ unless (is_cast_word b) (reply.Fate b) ∷ unless (not (station == s')) (reply.Station s') ∷ [])
+    by_vote : (v : Bool) → first_of (unless v (reply.Phase now) ∷ Some reply.Ballot ∷ unless (is_cast_word a) (reply.Fate a) ∷ unless (not (station == s)) (reply.Station s) ∷ [])
+        ≡ first_of (unless v (reply.Phase now) ∷ Some reply.Ballot ∷ unless (is_cast_word b) (reply.Fate b) ∷ unless (not (station == s')) (reply.Station s') ∷ [])
     by_vote true = refl
     by_vote false = refl
 
@@ -78,13 +78,13 @@ refusal_told kept history station done stands = by_act done
     early_told ballot = rw now (early_same kept.setup.plan (phase_of history) (word_at kept.slots ballot) (fate_word (fate_of history ballot)) ballot (is_ballot kept.setup.plan ballot) refl (word ballot))
 
     by_act : (a : Act) → refusal_now kept station a ≡ refusal_of kept.setup history station a
-    by_act (act.Scan ballot marks) = ap (λ o. first_reply (o
+    by_act (act.Scan ballot marks) = ap (λ o. first_of (o
         ∷ option_map reply.Race (first_bad (λ earlier mark. ballot_has kept.setup.plan ballot mark.race) [] marks)
         ∷ option_map reply.Candidate (first_bad (λ earlier mark. nat_lt mark.candidate (candidates_of kept.setup.plan mark.race)) [] marks)
         ∷ option_map reply.Twice (first_bad (λ earlier mark. not (has_mark earlier mark.race mark.candidate)) [] marks)
         ∷ [])) (early_told ballot)
     by_act (act.Spoil ballot) = early_told ballot
-    by_act (act.Audit ballot paper) = ap (λ o. first_reply (o ∷ unless (fits_races kept.setup.plan (races_of_ballot kept.setup.plan ballot) paper) reply.Paper ∷ [])) (early_told ballot)
+    by_act (act.Audit ballot paper) = ap (λ o. first_of (o ∷ unless (fits_races kept.setup.plan (races_of_ballot kept.setup.plan ballot) paper) reply.Paper ∷ [])) (early_told ballot)
     by_act act.Close = ap close_refusal now
     by_act (act.Draw drawn) = ap (λ n. draw_refusal n drawn) now
     by_act (act.Claim ballot race code) = rw (now, stands.claims) refl

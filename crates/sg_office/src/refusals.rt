@@ -1,12 +1,13 @@
 //! Why an act is refused, in the order in which the reasons are tried.
 ghost use Rattle.std.specs.Prelude.{◌≡◌, ◌<◌, ◌≤◌, ◌^◌, None, length};
-ghost use Rattle.sg_histories.specs.Answers.{audit_refusal, claim_refusal, close_refusal, draw_refusal, early_refusal, scan_refusal, void_refusal, fits_draw, is_ballot};
+ghost use Rattle.sg_histories.specs.Answers.{audit_refusal, claim_refusal, close_refusal, draw_refusal, early_refusal, scan_refusal, void_refusal, is_ballot};
 
 use crate::marks::{first_in_no_race, first_of_no_candidate, first_twice};
 use crate::papers::fits_paper;
 use sg_acts::{FateWord, Phase, Reply};
-use sg_plan::limits::{MOST_CLAIMS, MOST_PUBLIC_BYTES};
+use sg_plan::limits::MOST_CLAIMS;
 use sg_plan::{BallotIndex, Draw, Items, Mark, Paper};
+use sg_record::is_draw;
 
 /// The ballot is in the plan.
 pub fn is_ballot(index: &BallotIndex, ballot: u32) -> bool
@@ -156,16 +157,6 @@ pub fn close_refusal(phase: Phase) -> Option<Reply>
     }
 }
 
-/// The draw is full, or has 1 to 4,096 public bytes.
-fn fits_draw(draw: &Draw) -> bool
-    ensures { result ≡ fits_draw draw.now }
-{
-    match draw {
-        Draw::Full => true,
-        Draw::Public(bytes) => (1..=MOST_PUBLIC_BYTES).contains(&bytes.len()),
-    }
-}
-
 /// Why the draw is refused.
 pub fn draw_refusal(phase: Phase, draw: &Draw) -> Option<Reply>
     ensures { result ≡ draw_refusal phase draw.now }
@@ -175,7 +166,7 @@ pub fn draw_refusal(phase: Phase, draw: &Draw) -> Option<Reply>
         Phase::Voting => return Some(Reply::Phase(Phase::Voting)),
         Phase::Drawn => return Some(Reply::Phase(Phase::Drawn)),
     }
-    if !fits_draw(draw) {
+    if !is_draw(draw) {
         return Some(Reply::Draw);
     }
     None

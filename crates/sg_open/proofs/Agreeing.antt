@@ -9,7 +9,7 @@ use Rattle.std.proofs.Math.Bool.{and-true}
 use Rattle.sg_plan.specs.Ballots.{ballot_has, candidates_of, races_of_ballot}
 use Rattle.sg_plan.specs.Codes.{codes_of, is_code}
 use Rattle.sg_plan.specs.Fates.{fate_fits, has_mark, is_in, marks_differ, paper_fits}
-use Rattle.sg_plan.specs.Limits.{each_keeps, first_bad}
+use Rattle.sg_plan.specs.Limits.{each_keeps, first_bad, first_of}
 use Rattle.sg_plan.specs.declared.plan.Fate.TheVariants as fate
 use Rattle.sg_plan.specs.declared.plan.Mark.{Mark}
 use Rattle.sg_plan.specs.declared.plan.Plan.{Plan}
@@ -21,7 +21,7 @@ use Rattle.sg_acts.specs.declared.replies.Reply.{Reply}
 use Rattle.sg_acts.specs.declared.replies.Reply.TheVariants as reply
 use Rattle.sg_acts.specs.declared.replies.FateWord.TheVariants as word
 use Rattle.sg_acts.specs.declared.replies.Phase.TheVariants as phase
-use Rattle.sg_histories.specs.Answers.{early_refusal, first_reply, fits_races, is_ballot}
+use Rattle.sg_histories.specs.Answers.{early_refusal, fits_races, is_ballot}
 use Rattle.sg_histories.specs.ValidRows.{fits}
 
 -- TESTS
@@ -30,19 +30,19 @@ map_none : {A B : Type 0} (f : A → B) (o : Option A) → is_none (option_map f
 map_none f None = refl
 map_none f (Some x) = refl
 
-four : (e a b c : Option Reply) → is_none (first_reply (e ∷ a ∷ b ∷ c ∷ [])) ≡ (is_none e && (is_none a && (is_none b && is_none c)))
+four : (e a b c : Option Reply) → is_none (first_of (e ∷ a ∷ b ∷ c ∷ [])) ≡ (is_none e && (is_none a && (is_none b && is_none c)))
 four (Some x) a b c = refl
 four None (Some x) b c = refl
 four None None (Some x) c = refl
 four None None None (Some x) = refl
 four None None None None = refl
 
-two : (e a : Option Reply) → is_none (first_reply (e ∷ a ∷ [])) ≡ (is_none e && is_none a)
+two : (e a : Option Reply) → is_none (first_of (e ∷ a ∷ [])) ≡ (is_none e && is_none a)
 two (Some x) a = refl
 two None (Some x) = refl
 two None None = refl
 
-early_is : (test : Bool) → is_none (first_reply (None ∷ cond test None (Some reply.Ballot) ∷ None ∷ [])) ≡ test
+early_is : (test : Bool) → is_none (first_of (None ∷ cond test None (Some reply.Ballot) ∷ None ∷ [])) ≡ test
 early_is true = refl
 early_is false = refl
 

@@ -3,11 +3,11 @@ use Rattle.std.proofs.Common.{◌≡◌, ℕ, true, List, [], ◌∷◌, ◌++�
 use Rattle.std.specs.Prelude.{ℤ}
 use Rattle.std.specs.List.{filter_map}
 use Rattle.std.specs.Str.{is_utf8}
-use Rattle.sg_plan.specs.Limits.{first_bad}
+use Rattle.sg_plan.specs.Limits.{first_bad, first_of}
 use Rattle.sg_desks.specs.ActReading.{act_in}
 use Rattle.sg_keeper.specs.declared.rows.Rows.{Rows}
 use Rattle.sg_keeper.specs.declared.setup.Setup.{Setup}
-use Rattle.sg_histories.specs.ValidRows.{at_table, ballot_keeps, ballot_text, claim_keeps, claim_text, damage_of, done_fault, first_damage, is_drawn_in, stage_keeps, stage_text, station_of, told_by, void_keeps, void_text}
+use Rattle.sg_histories.specs.ValidRows.{at_table, ballot_keeps, ballot_text, claim_keeps, claim_text, damage_of, done_fault, is_drawn_in, stage_keeps, stage_text, station_of, told_by, void_keeps, void_text}
 use Rattle.sg_open.specs.declared.fault.OpenFault.{OpenFault}
 use Rattle.sg_open.specs.inside.Finding.{IsDamage, found_after, nothing_found, void_passes}
 use Rattle.sg_open.proofs.Steps.{damage_first}
@@ -15,7 +15,7 @@ use Rattle.sg_open.proofs.Tables.{all_fit, found_told, same_fault, told_in_order
 use Rattle.sg_open.proofs.VoidTests.{found_scanners, void_bad}
 
 abbrev pub five : Option ℕ → Option ℕ → Option ℕ → Option ℕ → Option ℕ → Option (ℕ × ℕ)
-five a b c d e = first_damage (at_table 2 a ∷ at_table 3 b ∷ at_table 4 c ∷ at_table 5 d ∷ at_table 6 e ∷ [])
+five a b c d e = first_of (at_table 2 a ∷ at_table 3 b ∷ at_table 4 c ∷ at_table 5 d ∷ at_table 6 e ∷ [])
 
 second : (told : OpenFault) (a b c d e : Option ℕ) → a ≡ None → IsDamage told (at_table 3 b) → IsDamage told (five a b c d e)
 second told None b c d e p is = damage_first told (at_table 3 b) (at_table 4 c ∷ at_table 5 d ∷ at_table 6 e ∷ []) is

@@ -1,8 +1,8 @@
 -- Loops that look for the first bad row.
 use Rattle.std.proofs.Common.{◌≡◌, ℕ, ◌+◌, ◌<◌, Bool, true, false, cond, List, [], ◌∷◌, ◌++◌, length, take, drop, Option, Some, refl, ap, sym, ◌∙◌, arith}
 use Rattle.std.proofs.lemmas.Grind.{common_steps}
-use Rattle.sg_plan.specs.Limits.{first_bad}
-use Rattle.sg_histories.specs.ValidRows.{at_table, first_damage}
+use Rattle.sg_plan.specs.Limits.{first_bad, first_of}
+use Rattle.sg_histories.specs.ValidRows.{at_table}
 use Rattle.sg_open.specs.declared.fault.OpenFault.{OpenFault}
 use Rattle.sg_open.specs.declared.fault.OpenFault.TheVariants as fault
 use Rattle.sg_open.specs.inside.Finding.{IsDamage}
@@ -33,7 +33,7 @@ pub damage_here : (table at : ℕ) (found : Option ℕ) (told : OpenFault) → f
 damage_here table at found told f t = rw (f, t) refl
 
 -- the refusal of the first table that has a bad row
-pub damage_first : (told : OpenFault) (damage : Option (ℕ × ℕ)) (others : List (Option (ℕ × ℕ))) → IsDamage told damage → IsDamage told (first_damage (damage ∷ others))
+pub damage_first : (told : OpenFault) (damage : Option (ℕ × ℕ)) (others : List (Option (ℕ × ℕ))) → IsDamage told damage → IsDamage told (first_of (damage ∷ others))
 damage_first fault.Empty damage others d = absurd d
-damage_first (fault.Damaged table row) damage others d = ap (λ o. first_damage (o ∷ others)) d
+damage_first (fault.Damaged table row) damage others d = ap (λ o. first_of (o ∷ others)) d
 damage_first fault.NoMemory damage others d = tt

@@ -17,12 +17,8 @@ status_of NoMemory = 9
 
 -- nothing outside failed: the work was done, something is refused, the rows are no office's, or memory was wanted
 abbrev pub TellsNoFailure : Outcome → Type 0
-TellsNoFailure Done = Unit {0}
-TellsNoFailure No = Unit {0}
 TellsNoFailure ReadFailed = ⊥
 TellsNoFailure WriteFailed = ⊥
 TellsNoFailure KeeperFailed = ⊥
 TellsNoFailure LinksFailed = ⊥
-TellsNoFailure Refused = Unit {0}
-TellsNoFailure Damaged = Unit {0}
-TellsNoFailure NoMemory = Unit {0}
+TellsNoFailure other = Unit {0}

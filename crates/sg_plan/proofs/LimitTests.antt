@@ -8,8 +8,8 @@ use Rattle.sg_plan.proofs.BallotLists.{count-push, counts_within}
 use Rattle.sg_plan.proofs.Lists.{each_keeps-at, each_keeps-from, few_places, names_differ, names_new}
 use Rattle.sg_plan.proofs.NameTests.{is_name_word-true, is_within-true, true-is_name_word, true-is_within}
 use Rattle.sg_plan.specs.Ballots.{ballot_styles}
-use Rattle.sg_plan.specs.Limits.{KeepsRace, KeepsRun, KeepsStyle, candidate_keeps, each_keeps, is_version, race_fits, race_head_keeps, race_keeps, races_have, rises, run_keeps, style_fits, style_keeps, styles_have}
-use Rattle.sg_plan.specs.Names.{is_among, is_name_word, is_within}
+use Rattle.sg_plan.specs.Limits.{KeepsRace, KeepsRun, KeepsStyle, each_keeps, is_version, race_fits, race_head_keeps, race_keeps, races_have, rises, run_keeps, style_fits, style_keeps, styles_have}
+use Rattle.sg_plan.specs.Names.{is_among, is_name_word, is_within, name_keeps}
 use Rattle.sg_plan.specs.declared.plan.Race.{Race}
 use Rattle.sg_plan.specs.declared.plan.Run.{Run}
 use Rattle.sg_plan.specs.declared.plan.Style.{Style}
@@ -31,11 +31,11 @@ pub record RaceTests (earlier : List Race) (race : Race) : Type 0 where
   pub fresh : races_have earlier race.name ≡ false
   pub candidates : is_within 2 16 (length race.candidates) ≡ true
   pub votes : is_within 1 (length race.candidates) race.votes ≡ true
-  pub each : each_keeps candidate_keeps [] race.candidates ≡ true
+  pub each : each_keeps name_keeps [] race.candidates ≡ true
 
 pub race_keeps-true : (earlier : List Race) (race : Race) → race_keeps earlier race ≡ true → RaceTests earlier race
 race_keeps-true earlier race e =
-    let whole = and_parts (race_head_keeps earlier race.name (length race.candidates) race.votes) (each_keeps candidate_keeps [] race.candidates) e in
+    let whole = and_parts (race_head_keeps earlier race.name (length race.candidates) race.votes) (each_keeps name_keeps [] race.candidates) e in
     let head = and_parts (is_name_word race.name && not (races_have earlier race.name)) (is_within 2 16 (length race.candidates) && is_within 1 (length race.candidates) race.votes) whole.0 in
     let named = and_parts (is_name_word race.name) (not (races_have earlier race.name)) head.0 in
     let sizes = and_parts (is_within 2 16 (length race.candidates)) (is_within 1 (length race.candidates) race.votes) head.1 in
@@ -43,7 +43,7 @@ race_keeps-true earlier race e =
 
 pub true-race_keeps : (earlier : List Race) (race : Race) → RaceTests earlier race → race_keeps earlier race ≡ true
 true-race_keeps earlier race t =
-    and_from (race_head_keeps earlier race.name (length race.candidates) race.votes) (each_keeps candidate_keeps [] race.candidates)
+    and_from (race_head_keeps earlier race.name (length race.candidates) race.votes) (each_keeps name_keeps [] race.candidates)
     (and_from (is_name_word race.name && not (races_have earlier race.name)) (is_within 2 16 (length race.candidates) && is_within 1 (length race.candidates) race.votes)
     (and_from (is_name_word race.name) (not (races_have earlier race.name)) t.name (not_from_false (races_have earlier race.name) t.fresh))
     (and_from (is_within 2 16 (length race.candidates)) (is_within 1 (length race.candidates) race.votes) t.candidates t.votes))
@@ -54,14 +54,14 @@ pub record KeepsNames (names : List (List ℕ)) : Type 0 where
   pub each : (k : ℕ) (d : List ℕ) → k < length names → is_name_word (get_or names k d) ≡ true
   pub different : (i j : ℕ) (d : List ℕ) → i < j → j < length names → get_or names i d ≢ get_or names j d
 
-pub candidates-true : (names : List (List ℕ)) → each_keeps candidate_keeps [] names ≡ true → KeepsNames names
+pub candidates-true : (names : List (List ℕ)) → each_keeps name_keeps [] names ≡ true → KeepsNames names
 candidates-true names e = record { each = λ k d within. (parts k d within).0; different = λ i j d before within. names_differ (λ w. w) names i j d before within (not-true (is_among (take j names) (get_or names j d)) (parts j d within).1) }
   where
     parts : (k : ℕ) (d : List ℕ) → k < length names → (is_name_word (get_or names k d) ≡ true) × (not (is_among (take k names) (get_or names k d)) ≡ true)
-    parts k d within = and_parts (is_name_word (get_or names k d)) (not (is_among (take k names) (get_or names k d))) (each_keeps-at candidate_keeps [] names e k d within)
+    parts k d within = and_parts (is_name_word (get_or names k d)) (not (is_among (take k names) (get_or names k d))) (each_keeps-at name_keeps [] names e k d within)
 
-pub true-candidates : (names : List (List ℕ)) → KeepsNames names → each_keeps candidate_keeps [] names ≡ true
-true-candidates names kept = each_keeps-from candidate_keeps [] names (λ k d within.
+pub true-candidates : (names : List (List ℕ)) → KeepsNames names → each_keeps name_keeps [] names ≡ true
+true-candidates names kept = each_keeps-from name_keeps [] names (λ k d within.
     and_from (is_name_word (get_or names k d)) (not (is_among (take k names) (get_or names k d))) (kept.each k d within)
     (not_from_false (is_among (take k names) (get_or names k d)) (names_new (λ w. w) names k d within (λ i before. kept.different i k d before within))))
 

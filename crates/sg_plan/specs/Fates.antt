@@ -30,20 +30,21 @@ marks_differ (mark ∷ marks) = not (has_mark marks mark.race mark.candidate) &&
 abbrev pub are_codes : Plan → ℕ → List ℕ → Bool
 are_codes plan race codes = length codes == candidates_of plan race && list_all (is_code plan) codes
 
--- such a list for each of the races
+-- a list for each of the races, which passes the test beside its race
+abbrev pub each_fits : (ℕ → List ℕ → Bool) → List ℕ → List (List ℕ) → Bool
+each_fits test [] [] = true
+each_fits test (race ∷ races) (list ∷ lists) = test race list && each_fits test races lists
+each_fits test races lists = false
+
+-- a paper for each of the races
 abbrev pub paper_fits : Plan → List ℕ → List (List ℕ) → Bool
-paper_fits plan [] [] = true
-paper_fits plan [] (codes ∷ paper) = false
-paper_fits plan (race ∷ races) [] = false
-paper_fits plan (race ∷ races) (codes ∷ paper) = are_codes plan race codes && paper_fits plan races paper
+paper_fits plan races paper = each_fits (are_codes plan) races paper
 
 -- the marks and the paper of a fate fit a ballot of these races
 abbrev pub detail_fits : Plan → List ℕ → Fate → Bool
 detail_fits plan races (fate.Cast marks) = list_all (mark_fits plan races) marks && marks_differ marks
 detail_fits plan races (fate.Audited paper) = paper_fits plan races paper
-detail_fits plan races fate.Unused = true
-detail_fits plan races fate.Spoiled = true
-detail_fits plan races fate.Voided = true
+detail_fits plan races other = true
 
 -- the fate fits the ballot, which is in the plan
 abbrev pub fate_fits : Plan → ℕ → Fate → Bool

@@ -109,10 +109,6 @@ styles_have earlier name = list_any (λ style. bytes_eq style.name name) earlier
 abbrev pub race_head_keeps : List Race → List ℕ → ℕ → ℕ → Bool
 race_head_keeps earlier name candidates votes = (is_name_word name && not (races_have earlier name)) && (is_within least_candidates most_candidates candidates && is_within 1 candidates votes)
 
--- a candidate of a race: a name that no earlier candidate of the race has
-abbrev pub candidate_keeps : List (List ℕ) → List ℕ → Bool
-candidate_keeps earlier name = name_keeps earlier name
-
 -- strictly rising numbers, from the least on and below the end
 abbrev pub rises : ℕ → ℕ → List ℕ → Bool
 rises least end [] = true
@@ -147,7 +143,7 @@ first_fault keeps (x ∷ xs) = first_bad keeps [] (x ∷ xs)
 
 -- a race with the names of its candidates
 abbrev pub race_keeps : List Race → Race → Bool
-race_keeps earlier race = race_head_keeps earlier race.name (length race.candidates) race.votes && each_keeps candidate_keeps [] race.candidates
+race_keeps earlier race = race_head_keeps earlier race.name (length race.candidates) race.votes && each_keeps name_keeps [] race.candidates
 
 -- one of the first 32 races, with its limits
 abbrev pub race_fits : List Race → Race → Bool
@@ -175,11 +171,11 @@ run_fault styles runs = first_fault (run_keeps styles) runs
 abbrev pub fault_unless : Bool → PlanFault → Option PlanFault
 fault_unless test at_fault = (if test then None else Some at_fault)
 
--- the first fault that is there
-abbrev pub first_of : List (Option PlanFault) → Option PlanFault
+-- the first that is there
+abbrev pub first_of : {A : Type 0} → List (Option A) → Option A
 first_of [] = None
-first_of (None ∷ faults) = first_of faults
-first_of (Some at_fault ∷ faults) = Some at_fault
+first_of (None ∷ others) = first_of others
+first_of (Some one ∷ others) = Some one
 
 -- what is at fault in a plan: the first of these, and nothing where it keeps its limits
 unfoldable pub fault_of : Plan → Option PlanFault

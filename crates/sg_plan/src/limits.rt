@@ -1,7 +1,8 @@
 //! The limits of an election, and the first fault of a plan.
 ghost use Rattle.std.specs.Prelude.{◌≡◌, ℕ, ◌<◌, ◌+◌, ◌^◌, ◌≤◌, [], None, Some, MatchResult, length, nat_lt, nat_le, ◌&&◌};
 ghost use Rattle.sg_plan.specs.Ballots.{ballot_styles, candidates_of, r_rows};
-ghost use Rattle.sg_plan.specs.Limits.{candidate_keeps, each_keeps, fault_of, first_bad, most_ballots, most_candidates, most_instances, most_races, race_fault, race_fits, race_head_keeps, race_keeps, races_have, rises, run_fault, run_keeps, style_fault, style_fits, style_keeps, styles_have};
+ghost use Rattle.sg_plan.specs.Limits.{each_keeps, fault_of, first_bad, most_ballots, most_candidates, most_instances, most_races, race_fault, race_fits, race_head_keeps, race_keeps, races_have, rises, run_fault, run_keeps, style_fault, style_fits, style_keeps, styles_have};
+ghost use Rattle.sg_plan.specs.Names.{name_keeps};
 
 use crate::ballots::count_all_entries;
 use crate::items::Items;
@@ -84,7 +85,7 @@ pub const MOST_FIELDS: usize = 64;
 
 /// All candidates' names are names, and no two are the same.
 fn are_candidates(names: &Items<Word>) -> bool
-    ensures { result ≡ each_keeps candidate_keeps [] names.now }
+    ensures { result ≡ each_keeps name_keeps [] names.now }
 {
     for at in 0..names.len() {
         if !is_new_name(&names.as_slice()[..at], names.get(at).bytes()) {

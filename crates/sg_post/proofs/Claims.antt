@@ -11,8 +11,7 @@ use Rattle.std.specs.Option.{option_map_or}
 use Rattle.sg_lists.proofs.Bools.{one_if}
 use Rattle.sg_lists.proofs.Tests.{All-list_any}
 use Rattle.sg_plan.specs.Ballots.{ballot_has, ballots_of, candidates_of, is_over, marks_in, races_of_ballot, style_of_ballot, votes_of}
-use Rattle.sg_plan.specs.Codes.{is_code}
-use Rattle.sg_plan.specs.Fates.{detail_fits, fate_fits, has_mark, is_in, mark_fits, marks_differ, paper_fits}
+use Rattle.sg_plan.specs.Fates.{detail_fits, fate_fits, has_mark, mark_fits, marks_differ}
 use Rattle.sg_plan.specs.Limits.{fault_of}
 use Rattle.sg_plan.specs.Names.{is_within}
 use Rattle.sg_plan.specs.declared.plan.Fate.{Fate}
@@ -23,9 +22,9 @@ use Rattle.sg_plan.specs.declared.plan.Race.{Race}
 use Rattle.sg_tables.specs.Posts.{fate_marks, is_void}
 use Rattle.sg_record.proofs.BlockTests.{has_among}
 use Rattle.sg_record.proofs.Limits.{ballot_two}
-use Rattle.sg_record.specs.Formed.{are_papers}
 use Rattle.sg_post.specs.Fits.{claim_fits}
 use Rattle.sg_post.specs.declared.story.Claimed.{Claimed}
+use Rattle.sg_post.proofs.StoryFits.{mark-fits}
 
 -- CLAIMS
 
@@ -41,25 +40,18 @@ each-claim plan (claimed ∷ claims) fit =
 pub detail-of : (plan : Plan) (ballot : ℕ) (what : Fate) → fate_fits plan ballot what ≡ true → detail_fits plan (races_of_ballot plan ballot) what ≡ true
 detail-of plan ballot what fit = (and_parts (is_within 1 (ballots_of plan) ballot) (detail_fits plan (races_of_ballot plan ballot) what) fit).1
 
--- a paper that fits is one that a record may have
-pub paper-same : (plan : Plan) (races : List ℕ) (paper : List (List ℕ)) → paper_fits plan races paper ≡ are_papers plan races paper
-paper-same plan [] [] = refl
-paper-same plan [] (codes ∷ paper) = refl
-paper-same plan (race ∷ races) [] = refl
-paper-same plan (race ∷ races) (codes ∷ paper) = ap (λ (b : Bool). (length codes == candidates_of plan race && list_all (is_code plan) codes) && b) (paper-same plan races paper)
-
--- no mark is of a race that is not among those that they are of
+-- no mark is of the race
 abbrev pub IsUnnamed : ℕ → List Mark → Type 0
 IsUnnamed race marks = ((candidate : ℕ) → has_mark marks race candidate ≡ false) × (marks_in race marks ≡ 0)
 
-unnamed : (plan : Plan) (races : List ℕ) (race : ℕ) (marks : List Mark) → list_all (mark_fits plan races) marks ≡ true → is_in races race ≡ false → IsUnnamed race marks
-unnamed plan races race [] fit out = (λ candidate. refl, refl)
-unnamed plan races race (mark ∷ marks) fit out =
-    let parts = and_parts (mark_fits plan races mark) (list_all (mark_fits plan races) marks) fit in
-    let rest = unnamed plan races race marks parts.1 out in
-    let named : is_in races mark.race ≡ true = (and_parts (is_in races mark.race) (nat_lt mark.candidate (candidates_of plan mark.race)) parts.0).0 in
+-- none is of a race that the ballot does not have
+pub unnamed : (plan : Plan) (ballot race : ℕ) (marks : List Mark) → list_all (mark_fits plan (races_of_ballot plan ballot)) marks ≡ true → ballot_has plan ballot race ≡ false → IsUnnamed race marks
+unnamed plan ballot race [] fit lacks = (λ candidate. refl, refl)
+unnamed plan ballot race (mark ∷ marks) fit lacks =
+    let parts = and_parts (mark_fits plan (races_of_ballot plan ballot) mark) (list_all (mark_fits plan (races_of_ballot plan ballot)) marks) fit in
+    let rest = unnamed plan ballot race marks parts.1 lacks in
     elim (cases_Bool (mark.race == race)) [
-      | inl here ↦ absurd (true≢false (sym named ∙ (ap (is_in races) (eqb-true mark.race race here) ∙ out)))
+      | inl here ↦ absurd (true≢false (sym (mark-fits plan ballot mark parts.0).0 ∙ (ap (ballot_has plan ballot) (eqb-true mark.race race here) ∙ lacks)))
       | inr other ↦ (
         λ candidate. ap (λ (b : Bool). (b && mark.candidate == candidate) || has_mark marks race candidate) other ∙ rest.0 candidate,
         omega (arith, sum_by-cons (λ (m : Mark). one_if (m.race == race)) mark marks, ap one_if other, rest.1),
@@ -71,7 +63,8 @@ pub record PostsNothing (plan : Plan) (race : ℕ) (what : Fate) : Type 0 where
   pub marks : (candidate : ℕ) → fate_marks plan race candidate what ≡ false
   pub void : is_void plan what race ≡ false
 
-none_over : (votes count : ℕ) → count ≡ 0 → nat_lt votes count ≡ false
+-- a race of no mark is not over
+pub none_over : (votes count : ℕ) → count ≡ 0 → nat_lt votes count ≡ false
 none_over votes count none = ap (nat_lt votes) none ∙ never votes
   where
     never : (n : ℕ) → nat_lt n 0 ≡ false
@@ -79,9 +72,8 @@ none_over votes count none = ap (nat_lt votes) none ∙ never votes
 
 pub posts-nothing : (plan : Plan) (ballot race : ℕ) (what : Fate) → fate_fits plan ballot what ≡ true → ballot_has plan ballot race ≡ false → PostsNothing plan race what
 posts-nothing plan ballot race (fate.Cast marks) fit lacks =
-    let races = races_of_ballot plan ballot in
-    let tests = and_parts (list_all (mark_fits plan races) marks) (marks_differ marks) (detail-of plan ballot (fate.Cast marks) fit) in
-    let none = unnamed plan races race marks tests.0 (sym (has_among plan ballot race) ∙ lacks) in
+    let tests = and_parts (list_all (mark_fits plan (races_of_ballot plan ballot)) marks) (marks_differ marks) (detail-of plan ballot (fate.Cast marks) fit) in
+    let none = unnamed plan ballot race marks tests.0 lacks in
     let over : is_over plan marks race ≡ false = none_over (votes_of plan race) (marks_in race marks) none.1 in
     record { marks = λ candidate. ap (λ (b : Bool). b && not (is_over plan marks race)) (none.0 candidate); void = over }
 posts-nothing plan ballot race fate.Unused fit lacks = record { marks = λ candidate. refl; void = refl }

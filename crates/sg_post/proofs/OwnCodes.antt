@@ -1,31 +1,32 @@
--- A property of each code that an office posts of a ballot.
-use Rattle.std.proofs.Common.{◌≡◌, ℕ, ◌<◌, ◌==◌, Bool, true, false, ◌&&◌, ◌||◌, cond, inl, inr, List, [], ◌∷◌, length, map, filter, None, refl, sym, subst, ap, ◌∙◌, arith}
-use Rattle.std.proofs.lemmas.Bool.{and_parts, cases_Bool, eqb-true}
+-- A property of each line that an office posts of a ballot.
+use Rattle.std.proofs.Common.{◌≡◌, ℕ, ◌<◌, Bool, true, false, not, cond, List, [], ◌∷◌, length, map, None, refl, sym, ◌∙◌, arith}
+use Rattle.std.proofs.lemmas.Bool.{and_parts, true_from_ne_false, true≢false}
 use Rattle.std.specs.List.{list_all}
-use Rattle.sg_lists.proofs.Each.{EachOf, of-flat, of-map, of-passing, of-range}
-use Rattle.sg_plan.specs.Ballots.{ballot_has, candidates_of, is_over, races_of_ballot}
+use Rattle.sg_lists.proofs.Each.{EachOf, of-append, of-flat, of-map, of-passing, of-range}
+use Rattle.sg_plan.specs.Ballots.{ballot_has, ballot_row, candidates_of, is_over, marks_in, races_of_ballot, votes_of}
+use Rattle.sg_plan.specs.Fates.{has_mark, mark_fits}
 use Rattle.sg_plan.specs.Limits.{fault_of}
+use Rattle.sg_plan.specs.declared.plan.Fate.TheVariants as fate
 use Rattle.sg_plan.specs.declared.plan.Mark.{Mark}
 use Rattle.sg_plan.specs.declared.plan.Plan.{Plan}
 use Rattle.sg_streams.specs.Numbers.{numbers_below}
+use Rattle.sg_tables.specs.Posts.{column_marked, marked_columns}
 use Rattle.sg_forms.specs.declared.line.CodeLine.{CodeLine}
-use Rattle.sg_post.specs.Posted.{audited_codes, audited_race_codes, code_line_of, race_codes_of}
-use Rattle.sg_post.proofs.Claims.{has-within}
-use Rattle.sg_post.proofs.MarkedCodes.{cast-counted, cast_codes_of, counted_codes, shows_mark}
-use Rattle.sg_plan.specs.Fates.{has_mark, mark_fits}
-use Rattle.sg_post.proofs.StoryFits.{mark-fits}
+use Rattle.sg_record.specs.declared.record.CastLine.{CastLine}
+use Rattle.sg_record.specs.declared.record.CastLine.TheVariants as cast
+use Rattle.sg_post.specs.Posted.{audited_codes, audited_race_codes, cast_lines, code_line_of, marked_codes, race_cast_lines, race_codes_of}
+use Rattle.sg_post.proofs.Claims.{has-within, none_over, unnamed}
+use Rattle.sg_post.proofs.MarkedCodes.{shows_mark}
 
 -- a ballot has the race of each of its marks
 pub marks-have : (plan : Plan) (ballot race candidate : ℕ) (marks : List Mark) → list_all (mark_fits plan (races_of_ballot plan ballot)) marks ≡ true → has_mark marks race candidate ≡ true → ballot_has plan ballot race ≡ true
-marks-have plan ballot race candidate [] fit found = cc
-marks-have plan ballot race candidate (mark ∷ marks) fit found =
-    let parts = and_parts (mark_fits plan (races_of_ballot plan ballot) mark) (list_all (mark_fits plan (races_of_ballot plan ballot)) marks) fit in
-    elim (cases_Bool (mark.race == race && mark.candidate == candidate)) [
-      | inl here ↦
-          let same : mark.race ≡ race = eqb-true mark.race race (and_parts (mark.race == race) (mark.candidate == candidate) here).0 in
-          subst (λ (r : ℕ). ballot_has plan ballot r ≡ true) same (mark-fits plan ballot mark parts.0).0
-      | inr none ↦ marks-have plan ballot race candidate marks parts.1 (sym (ap (λ (b : Bool). b || has_mark marks race candidate) none) ∙ found)
-    ]
+marks-have plan ballot race candidate marks fit found =
+    true_from_ne_false (ballot_has plan ballot race) (λ lacks. true≢false (sym found ∙ (unnamed plan ballot race marks fit lacks).0 candidate))
+
+-- and each that is over on it
+pub over-has : (plan : Plan) (ballot race : ℕ) (marks : List Mark) → list_all (mark_fits plan (races_of_ballot plan ballot)) marks ≡ true → is_over plan marks race ≡ true → ballot_has plan ballot race ≡ true
+over-has plan ballot race marks fit over =
+    true_from_ne_false (ballot_has plan ballot race) (λ lacks. true≢false (sym over ∙ none_over (votes_of plan race) (marks_in race marks) (unnamed plan ballot race marks fit lacks).1))
 
 -- what holds of the code of each column of each race that the ballot has
 abbrev pub HoldsOfOwn : (CodeLine → Type 0) → Plan → List ℕ → ℕ → Type 0
@@ -40,21 +41,27 @@ race_codes-of Q plan seed ballot race fine holds has =
     (of-range (λ column. Q (code_line_of plan seed ballot race column)) 0 (candidates_of plan race)
     (λ column below. holds race column has (has-within plan ballot race fine has) (omega (arith, below))))
 
-pub cast_codes-of : (Q : CodeLine → Type 0) (plan : Plan) (seed : List ℕ) (marks : List Mark) (ballot : ℕ) → HoldsOfOwn Q plan seed ballot → list_all (mark_fits plan (races_of_ballot plan ballot)) marks ≡ true
-    → EachOf Q (cast_codes_of plan seed marks ballot)
-unfolding numbers_below
-cast_codes-of Q plan seed marks ballot holds fit =
-    rw (cast-counted plan seed marks ballot)
-    (of-flat Q (λ race. race < length plan.races) (counted_codes plan seed marks ballot) (numbers_below (length plan.races))
-    (λ race within. at_over race (is_over plan marks race) within) (of-range (λ race. race < length plan.races) 0 (length plan.races) (λ race within. omega (arith, within))))
+pub cast_lines-of : (Q : CastLine → Type 0) (plan : Plan) (seed : List ℕ) (marks : List Mark) (ballot : ℕ) → HoldsOfOwn (λ (code : CodeLine). Q (cast.Code code)) plan seed ballot
+    → ((race : ℕ) → race < length plan.races → is_over plan marks race ≡ true → Q (cast.Over race)) → list_all (mark_fits plan (races_of_ballot plan ballot)) marks ≡ true
+    → EachOf Q (cast_lines plan seed ballot (fate.Cast marks))
+unfolding cast_lines numbers_below
+cast_lines-of Q plan seed marks ballot holds over fit =
+    of-flat Q (λ race. race < length plan.races) (race_cast_lines plan seed ballot (fate.Cast marks)) (numbers_below (length plan.races))
+    (λ race within. of-append Q (map cast.Code (marked_codes plan seed ballot (fate.Cast marks) race)) (cond (is_over plan marks race) (cast.Over race ∷ []) []) (of_codes race within)
+    (at_over race (is_over plan marks race) refl within)) (of-range (λ race. race < length plan.races) 0 (length plan.races) (λ race within. omega (arith, within)))
   where
-    at_over : (race : ℕ) (b : Bool) → race < length plan.races
-        → EachOf Q (cond b [] (map (code_line_of plan seed ballot race) (filter (shows_mark plan seed marks ballot race) (numbers_below (candidates_of plan race)))))
-    at_over race true within = tt
-    at_over race false within =
-        of-map Q (code_line_of plan seed ballot race) (filter (shows_mark plan seed marks ballot race) (numbers_below (candidates_of plan race)))
-        (of-passing (λ column. Q (code_line_of plan seed ballot race column)) (shows_mark plan seed marks ballot race) 0 (candidates_of plan race)
-        (λ column below shows. holds race column (marks-have plan ballot race _ marks fit shows) within (omega (arith, below))))
+    of_codes : (race : ℕ) → race < length plan.races → EachOf Q (map cast.Code (marked_codes plan seed ballot (fate.Cast marks) race))
+    of_codes race within =
+        let row = ballot_row plan race ballot in
+        of-map Q cast.Code (marked_codes plan seed ballot (fate.Cast marks) race)
+        (of-map (λ (code : CodeLine). Q (cast.Code code)) (code_line_of plan seed ballot race) (marked_columns plan seed race row (fate.Cast marks))
+        (of-passing (λ column. Q (cast.Code (code_line_of plan seed ballot race column))) (column_marked plan seed race row (fate.Cast marks)) 0 (candidates_of plan race)
+        (λ column below counts. holds race column (marks-have plan ballot race _ marks fit (and_parts (shows_mark plan seed marks ballot race column) (not (is_over plan marks race)) counts).0) within
+        (omega (arith, below)))))
+
+    at_over : (race : ℕ) (b : Bool) → is_over plan marks race ≡ b → race < length plan.races → EachOf Q (cond b (cast.Over race ∷ []) [])
+    at_over race true is within = (over race within is, tt)
+    at_over race false is within = tt
 
 pub audited_codes-of : (Q : CodeLine → Type 0) (plan : Plan) (seed : List ℕ) (ballot : ℕ) → fault_of plan ≡ None → HoldsOfOwn Q plan seed ballot → EachOf Q (audited_codes plan seed ballot)
 unfolding audited_codes numbers_below

@@ -26,7 +26,7 @@ use Rattle.sg_tables.specs.Tables.{left_of, left_opening_of, q_opening_of, right
 use Rattle.sg_forms.specs.Spelling.{AreBytes, IsNumber, IsOpening, IsRow}
 use Rattle.sg_record.proofs.RecordWords.{typed_have_words}
 use Rattle.sg_record.specs.Laws.{HasWords}
-use Rattle.sg_record.specs.Typed.{AreDigests, AreDrawn, BlockHasKeys, DisputeHasKeys, HasKey, IsDigest, IsTyped}
+use Rattle.sg_record.specs.Typed.{AreDigests, AreDrawn, BlockHasKeys, DisputeHasKeys, HasCastKey, HasKey, IsDigest, IsTyped}
 use Rattle.sg_record.specs.declared.record.BallotBlock.{BallotBlock}
 use Rattle.sg_record.specs.declared.record.BlockFate.{BlockFate}
 use Rattle.sg_record.specs.declared.record.BlockFate.TheVariants as blocked
@@ -36,7 +36,7 @@ use Rattle.sg_post.specs.Posted.{both_sides, code_commit_of, code_in_row, disput
 use Rattle.sg_post.specs.declared.story.Claimed.{Claimed}
 use Rattle.sg_post.specs.declared.story.Told.{Told}
 use Rattle.sg_post.proofs.Bytes.{digest-bytes, key-bytes}
-use Rattle.sg_post.proofs.OwnCodes.{HoldsOfOwn, audited_codes-of, cast_codes-of, race_codes-of}
+use Rattle.sg_post.proofs.OwnCodes.{HoldsOfOwn, audited_codes-of, cast_lines-of, race_codes-of}
 use Rattle.sg_post.proofs.PostedFormed.{posted-formed}
 use Rattle.sg_plan.specs.Fates.{fate_fits, mark_fits, marks_differ}
 use Rattle.sg_post.proofs.StoryFits.{fits-later, fits_ballot}
@@ -63,7 +63,7 @@ fate-keys : (plan : Plan) (seed : List ℕ) (ballot : ℕ) (what : Fate) → fau
 fate-keys plan seed ballot fate.Unused fine fit = All-nil BlockHasKeys
 fate-keys plan seed ballot (fate.Cast marks) fine fit =
     let tests = and_parts (list_all (mark_fits plan (races_of_ballot plan ballot)) marks) (marks_differ marks) fit in
-    All-cons BlockHasKeys _ [] (each-all HasKey _ (cast_codes-of HasKey plan seed marks ballot (own-key plan seed ballot) tests.0)) (All-nil BlockHasKeys)
+    All-cons BlockHasKeys _ [] (each-all HasCastKey _ (cast_lines-of HasCastKey plan seed marks ballot (own-key plan seed ballot) (λ race within over. tt) tests.0)) (All-nil BlockHasKeys)
 fate-keys plan seed ballot fate.Spoiled fine fit = All-cons BlockHasKeys _ [] tt (All-nil BlockHasKeys)
 fate-keys plan seed ballot (fate.Audited paper) fine fit =
     All-cons BlockHasKeys _ [] (each-all HasKey _ (audited_codes-of HasKey plan seed ballot fine (own-key plan seed ballot))) (All-nil BlockHasKeys)

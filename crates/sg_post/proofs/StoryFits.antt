@@ -1,14 +1,13 @@
 -- What it says of a ballot that its fate fits the plan.
-use Rattle.std.proofs.Common.{◌≡◌, ℕ, nat_le, nat_lt, true, ◌&&◌, List, [], ◌∷◌, refl, ◌∙◌}
+use Rattle.std.proofs.Common.{◌≡◌, ℕ, nat_le, nat_lt, true, ◌&&◌, ◌∙◌}
 use Rattle.std.proofs.lemmas.Bool.{and_from, and_parts}
 use Rattle.sg_plan.proofs.FateLists.{has_among}
 use Rattle.sg_plan.specs.Ballots.{ballot_has, ballots_of, candidates_of, races_of_ballot}
-use Rattle.sg_plan.specs.Fates.{detail_fits, fate_fits, is_in, mark_fits, paper_fits}
+use Rattle.sg_plan.specs.Fates.{detail_fits, fate_fits, is_in, mark_fits}
 use Rattle.sg_plan.specs.declared.plan.Fate.{Fate}
 use Rattle.sg_plan.specs.declared.plan.Mark.{Mark}
 use Rattle.sg_plan.specs.declared.plan.Plan.{Plan}
 use Rattle.sg_grammar.specs.Walk.{is_later}
-use Rattle.sg_record.specs.Formed.{are_papers}
 
 -- the marks and the paper fit the ballot
 abbrev pub fits_ballot : Plan → ℕ → Fate → Type 0
@@ -26,10 +25,3 @@ pub mark-fits : (plan : Plan) (ballot : ℕ) (mark : Mark) → mark_fits plan (r
 mark-fits plan ballot mark fit =
     let parts = and_parts (is_in (races_of_ballot plan ballot) mark.race) (nat_lt mark.candidate (candidates_of plan mark.race)) fit in
     (has_among plan ballot mark.race ∙ parts.0, parts.1)
-
--- a paper that fits is one of a record
-pub paper-same : (plan : Plan) (races : List ℕ) (paper : List (List ℕ)) → paper_fits plan races paper ≡ are_papers plan races paper
-paper-same plan [] [] = refl
-paper-same plan [] (codes ∷ paper) = refl
-paper-same plan (race ∷ races) [] = refl
-paper-same plan (race ∷ races) (codes ∷ paper) = rw (paper-same plan races paper) refl

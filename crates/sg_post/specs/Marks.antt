@@ -20,10 +20,7 @@ is_entry_of plan race entry ballot = ballot_has plan ballot race && ballot_row p
 -- the ballot was audited
 abbrev pub is_audit_fate : Fate → Bool
 is_audit_fate (fate.Audited paper) = true
-is_audit_fate fate.Unused = false
-is_audit_fate (fate.Cast marks) = false
-is_audit_fate fate.Spoiled = false
-is_audit_fate fate.Voided = false
+is_audit_fate other = false
 
 -- MARKED ENTRIES
 

@@ -1,5 +1,5 @@
 -- The record that an office posts, and how much of its text at each stage (this project's rules for the record).
-use Rattle.std.specs.Prelude.{ℕ, ◌==◌, if◌then◌else◌, List, [], ◌∷◌, length, map}
+use Rattle.std.specs.Prelude.{ℕ, ◌==◌, if◌then◌else◌, List, [], ◌∷◌, ◌++◌, length, map}
 use Rattle.std.specs.List.{flat_map}
 use Rattle.sha2.specs.Sha256.{sha256}
 use Rattle.sg_plan.specs.Ballots.{ballot_has, ballot_row, candidates_of, entries_of}
@@ -19,7 +19,7 @@ use Rattle.sg_commit.specs.declared.Digest.{Digest}
 use Rattle.sg_commit.specs.declared.Opening.{Opening}
 use Rattle.sg_streams.specs.CoinSides.{coin_of, coin_seed}
 use Rattle.sg_streams.specs.Numbers.{numbers_below}
-use Rattle.sg_tables.specs.Posts.{marked_columns, row_entry, void_races}
+use Rattle.sg_tables.specs.Posts.{is_void, marked_columns, row_entry}
 use Rattle.sg_tables.specs.Tables.{left_of, left_opening_of, q_opening_of, right_opening_of}
 use Rattle.sg_forms.specs.Said.{Said}
 use Rattle.sg_forms.specs.declared.line.CodeLine.{CodeLine}
@@ -30,6 +30,8 @@ use Rattle.sg_record.specs.Writing.{text_in}
 use Rattle.sg_record.specs.declared.record.BallotBlock.{BallotBlock}
 use Rattle.sg_record.specs.declared.record.BlockFate.{BlockFate}
 use Rattle.sg_record.specs.declared.record.BlockFate.TheVariants as block
+use Rattle.sg_record.specs.declared.record.CastLine.{CastLine}
+use Rattle.sg_record.specs.declared.record.CastLine.TheVariants as cast
 use Rattle.sg_record.specs.declared.record.DisputeBlock.{DisputeBlock}
 use Rattle.sg_record.specs.declared.record.Record.{Record}
 use Rattle.sg_record.specs.declared.record.RowCommit.{RowCommit}
@@ -74,9 +76,13 @@ race_codes_of plan seed ballot race = map (code_line_of plan seed ballot race) (
 abbrev pub marked_codes : Plan → List ℕ → ℕ → Fate → ℕ → List CodeLine
 marked_codes plan seed ballot what race = map (code_line_of plan seed ballot race) (marked_columns plan seed race (ballot_row plan race ballot) what)
 
--- the codes that it marks, race by race
-unfoldable pub cast_codes : Plan → List ℕ → ℕ → Fate → List CodeLine
-cast_codes plan seed ballot what = flat_map (marked_codes plan seed ballot what) (numbers_below (length plan.races))
+-- the lines of its block, if it is cast, in a race: the codes that it marks, and that the race is over
+abbrev pub race_cast_lines : Plan → List ℕ → ℕ → Fate → ℕ → List CastLine
+race_cast_lines plan seed ballot what race = map cast.Code (marked_codes plan seed ballot what race) ++ (if is_void plan what race then cast.Over race ∷ [] else [])
+
+-- race by race
+unfoldable pub cast_lines : Plan → List ℕ → ℕ → Fate → List CastLine
+cast_lines plan seed ballot what = flat_map (race_cast_lines plan seed ballot what) (numbers_below (length plan.races))
 
 -- the codes of an audited ballot, in each race that it has
 abbrev pub audited_race_codes : Plan → List ℕ → ℕ → ℕ → List CodeLine
@@ -92,7 +98,7 @@ voided_block plan = (if plan.version == 2 then block.Voided else block.Spoiled)
 -- the block of a ballot with this fate: none, where it is unused
 abbrev pub fate_blocks : Plan → List ℕ → ℕ → Fate → List BlockFate
 fate_blocks plan seed ballot fate.Unused = []
-fate_blocks plan seed ballot (fate.Cast marks) = block.Cast (cast_codes plan seed ballot (fate.Cast marks)) (void_races plan (fate.Cast marks)) ∷ []
+fate_blocks plan seed ballot (fate.Cast marks) = block.Cast (cast_lines plan seed ballot (fate.Cast marks)) ∷ []
 fate_blocks plan seed ballot fate.Spoiled = block.Spoiled ∷ []
 fate_blocks plan seed ballot (fate.Audited paper) = block.Audited paper (audited_codes plan seed ballot) ∷ []
 fate_blocks plan seed ballot fate.Voided = voided_block plan ∷ []

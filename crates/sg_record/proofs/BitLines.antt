@@ -9,7 +9,7 @@ use Rattle.sg_grammar.specs.Placed.{Placed}
 use Rattle.sg_grammar.specs.declared.state.Slot.{Slot}
 use Rattle.sg_record.proofs.Filling.{Each, Spells, spells-change, spells-each, spells-lines}
 use Rattle.sg_record.proofs.SlotLines.{Counts}
-use Rattle.sg_record.specs.Lines.{bit_sign, indexed, signs_on}
+use Rattle.sg_record.specs.Tree.{bit_sign, indexed, signs_on}
 
 -- so many pieces of 64, the last one with what is left
 unfoldable pub cut : {A : Type 0} → ℕ → List A → List (List A)

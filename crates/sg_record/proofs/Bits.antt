@@ -6,7 +6,7 @@ use Rattle.std.proofs.lemmas.List.Elements.{All-map}
 use Rattle.sg_forms.specs.Spelling.{AreFewBits}
 use Rattle.sg_grammar.specs.Due.{lines_for}
 use Rattle.sg_lines.specs.Words.{IsBit}
-use Rattle.sg_record.specs.Lines.{bit_sign}
+use Rattle.sg_record.specs.Tree.{bit_sign}
 
 -- a line of the bits has a first one
 pub on_line : (line bits : ℕ) → line < lines_for bits → 64 * line < bits

@@ -25,8 +25,8 @@ use Rattle.sg_record.proofs.BallotRaces.{ballot-each}
 use Rattle.sg_record.proofs.EachItem.{Each-from_test, Each-length, test-from_Each}
 use Rattle.sg_record.proofs.Filling.{AreIn, Each, Fills, FillsAs, Found, Spells, fits, passed, spells-change, spells-each, spells-line, spells-lines, spells-pair}
 use Rattle.sg_record.specs.Formed.{are_columns, are_papers, has_columns}
-use Rattle.sg_record.specs.Lines.{indexed, paper_lines}
-use Rattle.sg_record.specs.Places.{code_place, paper_places}
+use Rattle.sg_record.specs.Tree.{as_place, code_leaf, indexed, paper_tree}
+use Rattle.sg_record.specs.inside.Parts.{paper_lines}
 
 -- THE CODES OF A RACE
 
@@ -44,9 +44,9 @@ numbered-all test f at (suc count) all =
 abbrev IsAt : Plan → ℕ → ℕ → CodeLine → Type 0
 IsAt plan race column code = ((code.race == race && code.column == column) && is_code plan code.code) ≡ true
 
-column-spells : (plan : Plan) (kind : Block) (ballot race column : ℕ) → Spells plan.version (IsAt plan race column) (λ (code : CodeLine). Code code ∷ []) (λ (code : CodeLine). code_place kind ballot code ∷ []) (code_line kind ballot race column)
+column-spells : (plan : Plan) (kind : Block) (ballot race column : ℕ) → Spells plan.version (IsAt plan race column) (λ (code : CodeLine). Code code ∷ []) (λ (code : CodeLine). code_leaf as_place kind ballot code ∷ []) (code_line kind ballot race column)
 column-spells plan kind ballot race column =
-    spells-line plan.version (IsAt plan race column) Code (code_place kind ballot) (slot.Code kind ballot race column)
+    spells-line plan.version (IsAt plan race column) Code (code_leaf as_place kind ballot) (slot.Code kind ballot race column)
     (λ code is.
     let test = (and_parts (code.race == race && code.column == column) (is_code plan code.code) is).0 in
     let names = and_parts (code.race == race) (code.column == column) test in
@@ -89,13 +89,13 @@ abbrev pub HasColumns : Plan → ℕ → List CodeLine → Type 0
 HasColumns plan race codes = has_columns plan race codes ≡ true
 
 pub columns-spells : (plan : Plan) (kind : Block) (ballot race : ℕ)
-    → Spells plan.version (HasColumns plan race) (map Code) (map (code_place kind ballot)) (race_codes plan kind ballot race)
+    → Spells plan.version (HasColumns plan race) (map Code) (map (code_leaf as_place kind ballot)) (race_codes plan kind ballot race)
 columns-spells plan kind ballot race =
     let line : ℕ → CodeLine → List Said = λ column code. Code code ∷ [] in
-    let spot : ℕ → CodeLine → List Placed = λ column code. code_place kind ballot code ∷ [] in
+    let spot : ℕ → CodeLine → List Placed = λ column code. code_leaf as_place kind ballot code ∷ [] in
     let count = candidates_of plan race - 0 in
-    spells-lines plan.version (HasColumns plan race) (indexed line 0) (map Code) (indexed spot 0) (map (code_place kind ballot)) (race_codes plan kind ballot race)
-    (λ codes passes. indexed-map Code 0 codes) (λ codes passes. indexed-map (code_place kind ballot) 0 codes)
+    spells-lines plan.version (HasColumns plan race) (indexed line 0) (map Code) (indexed spot 0) (map (code_leaf as_place kind ballot)) (race_codes plan kind ballot race)
+    (λ codes passes. indexed-map Code 0 codes) (λ codes passes. indexed-map (code_leaf as_place kind ballot) 0 codes)
     (spells-change plan.version (Each (IsAt plan race) 0 count) (HasColumns plan race) (indexed line 0) (indexed spot 0) (race_codes plan kind ballot race)
     (λ codes. codes) (columns-each plan race) (λ codes each. (codes, columns-from_each plan race codes each, refl)) (λ x y p q same. same)
     (spells-each plan.version (IsAt plan race) line spot (code_line kind ballot race) (column-spells plan kind ballot race) 0 count))
@@ -125,10 +125,10 @@ split-joined plan race races p passes =
       ap (λ l. (l, drop count (p.0 ++ p.1))) front ∙ ap (λ l. (p.0, l)) back,
     )
 
-pub races-spells : (plan : Plan) (kind : Block) (ballot : ℕ) (races : List ℕ) → Spells plan.version (AreColumns plan races) (map Code) (map (code_place kind ballot)) (flat_map (race_codes plan kind ballot) races)
+pub races-spells : (plan : Plan) (kind : Block) (ballot : ℕ) (races : List ℕ) → Spells plan.version (AreColumns plan races) (map Code) (map (code_leaf as_place kind ballot)) (flat_map (race_codes plan kind ballot) races)
 races-spells plan kind ballot [] = record { out = out; back = back; one = one }
   where
-    out : (codes : List CodeLine) → AreColumns plan [] codes → FillsAs [] (map Code codes) (map (code_place kind ballot) codes)
+    out : (codes : List CodeLine) → AreColumns plan [] codes → FillsAs [] (map Code codes) (map (code_leaf as_place kind ballot) codes)
     out [] none = tt
     out (code ∷ codes) none = absurd (omega (arith, eqb-true (length (code ∷ codes)) 0 none))
 
@@ -144,15 +144,15 @@ races-spells plan kind ballot (race ∷ races) =
     let count = candidates_of plan race in
     let due : List Slot = flat_map (race_codes plan kind ballot) (race ∷ races) in
     let lines : List CodeLine × List CodeLine → List Said = λ p. map Code p.0 ++ map Code p.1 in
-    let places : List CodeLine × List CodeLine → List Placed = λ p. map (code_place kind ballot) p.0 ++ map (code_place kind ballot) p.1 in
+    let places : List CodeLine × List CodeLine → List Placed = λ p. map (code_leaf as_place kind ballot) p.0 ++ map (code_leaf as_place kind ballot) p.1 in
     let split : List CodeLine → List CodeLine × List CodeLine = λ codes. (take count codes, drop count codes) in
-    spells-lines plan.version (AreColumns plan (race ∷ races)) (λ codes. lines (split codes)) (map Code) (λ codes. places (split codes)) (map (code_place kind ballot)) due
-    (λ codes passes. map-split Code count codes) (λ codes passes. map-split (code_place kind ballot) count codes)
+    spells-lines plan.version (AreColumns plan (race ∷ races)) (λ codes. lines (split codes)) (map Code) (λ codes. places (split codes)) (map (code_leaf as_place kind ballot)) due
+    (λ codes passes. map-split Code count codes) (λ codes passes. map-split (code_leaf as_place kind ballot) count codes)
     (spells-change plan.version (Split plan race races) (AreColumns plan (race ∷ races)) lines places due split
     (λ codes passes. and_parts (has_columns plan race (take count codes)) (are_columns plan races (drop count codes)) passes)
     (split-joined plan race races)
     (λ x y p q same. sym (take-append-drop count x) ∙ (ap (λ (z : List CodeLine × List CodeLine). z.0 ++ z.1) same ∙ take-append-drop count y))
-    (spells-pair plan.version (HasColumns plan race) (AreColumns plan races) (map Code) (map Code) (map (code_place kind ballot)) (map (code_place kind ballot))
+    (spells-pair plan.version (HasColumns plan race) (AreColumns plan races) (map Code) (map Code) (map (code_leaf as_place kind ballot)) (map (code_leaf as_place kind ballot))
     (race_codes plan kind ballot race) (flat_map (race_codes plan kind ballot) races) (columns-spells plan kind ballot race) (races-spells plan kind ballot races)))
 
 -- PAPERS
@@ -161,7 +161,7 @@ unfoldable pub paper_slots : Plan → ℕ → List ℕ → List Slot
 paper_slots plan ballot races = flat_map (λ race. slot.Paper ballot race (candidates_of plan race) ∷ []) races
 
 papers-as : (plan : Plan) (ballot : ℕ) (races : List ℕ) (papers : List (List ℕ)) → are_papers plan races papers ≡ true
-    → FillsAs (paper_slots plan ballot races) (paper_lines races papers) (paper_places ballot races papers)
+    → FillsAs (paper_slots plan ballot races) (paper_lines races papers) (paper_tree as_place ballot races papers)
 unfolding paper_slots
 papers-as plan ballot [] [] passes = tt
 papers-as plan ballot [] (list ∷ papers) passes = cc
@@ -213,7 +213,7 @@ papers-one plan (race ∷ races) (x ∷ xs) (y ∷ ys) p q same =
     ap (λ z. z ∷ xs) first ∙ ap (λ l. y ∷ l) (papers-one plan races xs ys some.1 more.1 others)
 
 pub papers-spells : (plan : Plan) (ballot : ℕ) (races : List ℕ)
-    → Spells plan.version (λ (papers : List (List ℕ)). are_papers plan races papers ≡ true) (paper_lines races) (paper_places ballot races) (paper_slots plan ballot races)
+    → Spells plan.version (λ (papers : List (List ℕ)). are_papers plan races papers ≡ true) (paper_lines races) (paper_tree as_place ballot races) (paper_slots plan ballot races)
 papers-spells plan ballot races = record { out = papers-as plan ballot races; back = papers-back plan ballot races; one = papers-one plan races }
 
 -- AN AUDITED BALLOT
@@ -229,7 +229,7 @@ abbrev pub audit_lines : Plan → ℕ → Audit → List Said
 audit_lines plan ballot a = paper_lines (races_of_ballot plan ballot) a.0 ++ map Code a.1
 
 abbrev pub audit_places : Plan → ℕ → Audit → List Placed
-audit_places plan ballot a = paper_places ballot (races_of_ballot plan ballot) a.0 ++ map (code_place block.Audited ballot) a.1
+audit_places plan ballot a = paper_tree as_place ballot (races_of_ballot plan ballot) a.0 ++ map (code_leaf as_place block.Audited ballot) a.1
 
 -- the codes of its races
 abbrev pub audit_codes : Plan → ℕ → List Slot
@@ -245,6 +245,6 @@ pub due_audit-spells : (plan : Plan) (ballot : ℕ) → fault_of plan ≡ None �
 due_audit-spells plan ballot fine =
     rw (audit-due plan ballot fine)
     (spells-pair plan.version (λ (papers : List (List ℕ)). are_papers plan (races_of_ballot plan ballot) papers ≡ true) (AreColumns plan (races_of_ballot plan ballot))
-    (paper_lines (races_of_ballot plan ballot)) (map Code) (paper_places ballot (races_of_ballot plan ballot)) (map (code_place block.Audited ballot))
+    (paper_lines (races_of_ballot plan ballot)) (map Code) (paper_tree as_place ballot (races_of_ballot plan ballot)) (map (code_leaf as_place block.Audited ballot))
     (paper_slots plan ballot (races_of_ballot plan ballot)) (audit_codes plan ballot)
     (papers-spells plan ballot (races_of_ballot plan ballot)) (races-spells plan block.Audited ballot (races_of_ballot plan ballot)))

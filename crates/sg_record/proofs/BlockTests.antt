@@ -1,14 +1,19 @@
 -- The races of a ballot, and its papers, item by item.
-use Rattle.std.proofs.Common.{◌≡◌, ℕ, ◌<◌, ◌≤◌, ◌==◌, false, List, [], ◌∷◌, length, drop, Option, None, Some, refl, sym, ◌∙◌, arith}
+use Rattle.std.proofs.Common.{◌≡◌, ℕ, ◌+◌, ◌<◌, ◌≤◌, ◌==◌, nat_lt, nat_le, Bool, false, ◌&&◌, List, [], ◌∷◌, length, drop, Option, None, Some, refl, sym, ap, ◌∙◌, arith}
 use Rattle.std.proofs.lemmas.Bool.{ne_eqb}
 use Rattle.std.proofs.lemmas.List.{drop_all, length-drop}
 use Rattle.std.specs.List.{list_any}
 use Rattle.std.specs.Option.{option_map_or}
 use Rattle.sg_lists.proofs.Lists.{drop_is_empty}
-use Rattle.sg_plan.specs.Ballots.{ballot_has, races_of_ballot, races_of_style, style_of_ballot}
+use Rattle.sg_plan.specs.Ballots.{ballot_has, candidates_of, races_of_ballot, races_of_style, style_of_ballot}
+use Rattle.sg_plan.specs.Codes.{is_code}
 use Rattle.sg_plan.specs.declared.plan.Plan.{Plan}
+use Rattle.sg_forms.specs.declared.line.CodeLine.{CodeLine}
+use Rattle.sg_grammar.specs.Head.{if_then}
+use Rattle.sg_grammar.specs.Walk.{follows_in_order, is_column}
 use Rattle.sg_record.proofs.Bounds.{few_candidates, few_races}
-use Rattle.sg_record.specs.Formed.{are_papers}
+use Rattle.sg_record.specs.Formed.{are_papers, behind_cast}
+use Rattle.sg_record.specs.declared.record.CastLine.TheVariants as cast
 
 -- RACES OF A BALLOT
 
@@ -23,6 +28,31 @@ pub has_among : (plan : Plan) (ballot race : ℕ) → ballot_has plan ballot rac
 has_among plan ballot race = has_in plan race (style_of_ballot plan ballot)
 
 pub ruleset marks = (has_among, few_candidates, few_races)
+
+-- A LINE OF A CAST BALLOT
+
+-- the test of a code, by the ballot's races
+code_test : (plan : Plan) (ballot race column : ℕ) (races : List ℕ) (code : CodeLine) → races ≡ races_of_ballot plan ballot
+    → (((list_any (λ carried. carried == code.race) races && nat_lt code.column (candidates_of plan code.race)) && follows_in_order race column code.race code.column) && is_code plan code.code)
+    ≡ ((is_column plan ballot code.race code.column && follows_in_order race column code.race code.column) && is_code plan code.code)
+code_test plan ballot race column races code same =
+    ap (λ (b : Bool). ((b && nat_lt code.column (candidates_of plan code.race)) && follows_in_order race column code.race code.column) && is_code plan code.code)
+    (ap (list_any (λ carried. carried == code.race)) same ∙ sym (has_among plan ballot code.race))
+
+-- what may come behind a code, by whether it may stand
+pub code_behind : (plan : Plan) (ballot race column : ℕ) (races : List ℕ) (code : CodeLine) (test : Bool) → races ≡ races_of_ballot plan ballot
+    → test ≡ (((list_any (λ carried. carried == code.race) races && nat_lt code.column (candidates_of plan code.race)) && follows_in_order race column code.race code.column) && is_code plan code.code)
+    → if_then test (code.race, code.column + 1) ≡ behind_cast plan ballot race column (cast.Code code)
+code_behind plan ballot race column races code test same is =
+    ap (λ (b : Bool). if_then b (code.race, code.column + 1)) (is ∙ code_test plan ballot race column races code same)
+
+-- and behind a race that is over
+pub over_behind : (plan : Plan) (ballot race column over : ℕ) (races : List ℕ) (test : Bool) → races ≡ races_of_ballot plan ballot
+    → test ≡ ((nat_lt over (length plan.races) && list_any (λ carried. carried == over) races) && nat_le race over)
+    → if_then test (over + 1, 0) ≡ behind_cast plan ballot race column (cast.Over over)
+over_behind plan ballot race column over races test same is =
+    ap (λ (b : Bool). if_then b (over + 1, 0))
+    (is ∙ ap (λ (b : Bool). (nat_lt over (length plan.races) && b) && nat_le race over) (ap (list_any (λ carried. carried == over)) same ∙ sym (has_among plan ballot over)))
 
 -- PAPERS
 

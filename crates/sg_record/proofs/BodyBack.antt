@@ -1,6 +1,6 @@
 -- Lines that may stand behind a plan, one after another, up to a whole record are those of lists that are formed.
-use Rattle.std.proofs.Common.{◌≡◌, ℕ, ◌+◌, ◌≤◌, ◌==◌, nat_lt, nat_le, Bool, true, ◌&&◌, cond, List, [], ◌∷◌, ◌++◌, length, map, Some, None, refl, sym, subst, ap, ◌∙◌, arith}
-use Rattle.std.proofs.lemmas.Bool.{and_from, and_parts, leb-true, lt-ltb, ltb-true}
+use Rattle.std.proofs.Common.{◌≡◌, ℕ, ◌+◌, ◌≤◌, ◌==◌, nat_lt, Bool, true, ◌&&◌, cond, List, [], ◌∷◌, ◌++◌, length, map, Some, None, refl, sym, subst, ap, ◌∙◌, arith}
+use Rattle.std.proofs.lemmas.Bool.{and_from, and_parts, lt-ltb, ltb-true}
 use Rattle.std.proofs.lemmas.List.{append_assoc}
 use Rattle.std.proofs.lemmas.Option.{cond_some}
 use Rattle.std.specs.List.{flat_map, list_all}
@@ -10,7 +10,6 @@ use Rattle.sg_plan.specs.Limits.{fault_of, most_claims}
 use Rattle.sg_plan.specs.declared.plan.Plan.{Plan}
 use Rattle.sg_forms.specs.Said.{Said}
 use Rattle.sg_forms.specs.Said.Said.{Audited, Cast, Code, Dispute, Over, Spoiled, Voided}
-use Rattle.sg_forms.specs.declared.line.CodeLine.{CodeLine}
 use Rattle.sg_grammar.specs.Due.{due_audit, race_codes, results}
 use Rattle.sg_grammar.specs.Placed.Placed.{Begun, CodeAt, Disputed, OverAt}
 use Rattle.sg_grammar.specs.Walk.{Next, Taken, after_block, after_dispute, begins, behind, first_taken, in_cast, follows_in_order, is_column, is_later, is_race_left, is_whole, is_whole_at, take_line, took}
@@ -20,14 +19,16 @@ use Rattle.sg_grammar.specs.declared.state.Part.{Part}
 use Rattle.sg_grammar.specs.declared.state.Part.TheVariants as part
 use Rattle.sg_grammar.specs.declared.state.Slot.{Slot}
 use Rattle.sg_record.proofs.BlockLines.{columns-spells, due_audit-spells}
-use Rattle.sg_record.proofs.CastLines.{cast-code, cast-none, cast-over, cast_from, marks-earlier, order-least, overs-earlier}
+use Rattle.sg_record.proofs.CastLines.{code-before, over-before}
 use Rattle.sg_record.proofs.Filling.{AreIn, AreIn-parts, Fills, behind-are}
 use Rattle.sg_record.proofs.SaidWalk.{Goes, slot-goes}
-use Rattle.sg_record.specs.Formed.{are_blocks, are_marks, are_overs, has_columns, is_dispute, is_fate}
-use Rattle.sg_record.specs.Lines.{block_lines, dispute_lines, fate_lines}
+use Rattle.sg_record.specs.Formed.{are_blocks, are_cast, has_columns, is_dispute, is_fate}
+use Rattle.sg_record.specs.Tree.{as_line, block_tree, cast_said, dispute_tree, fate_tree}
 use Rattle.sg_record.specs.declared.record.BallotBlock.{BallotBlock}
 use Rattle.sg_record.specs.declared.record.BlockFate.{BlockFate}
 use Rattle.sg_record.specs.declared.record.BlockFate.TheVariants as fate
+use Rattle.sg_record.specs.declared.record.CastLine.{CastLine}
+use Rattle.sg_record.specs.declared.record.CastLine.TheVariants as cast
 use Rattle.sg_record.specs.declared.record.DisputeBlock.{DisputeBlock}
 
 -- WHAT LINES ARE
@@ -35,7 +36,7 @@ use Rattle.sg_record.specs.declared.record.DisputeBlock.{DisputeBlock}
 -- the blocks of disputes, behind so many
 pub record DisputesOf (plan : Plan) (count : ℕ) (lines : List Said) : Type 0 where
   pub disputes : List DisputeBlock
-  pub is : lines ≡ flat_map dispute_lines disputes
+  pub is : lines ≡ flat_map (dispute_tree as_line) disputes
   pub pass : list_all (is_dispute plan) disputes ≡ true
   pub few : count + length disputes ≤ most_claims
 
@@ -51,18 +52,16 @@ pub record ResultsOf (plan : Plan) (lines : List Said) : Type 0 where
 pub record BlocksOf (plan : Plan) (last : ℕ) (lines : List Said) : Type 0 where
   pub blocks : List BallotBlock
   pub back : List Said
-  pub is : lines ≡ flat_map (block_lines plan) blocks ++ back
+  pub is : lines ≡ flat_map (block_tree as_line plan) blocks ++ back
   pub pass : are_blocks plan last blocks ≡ true
   pub results : ResultsOf plan back
 
 -- what is left of the block of a cast ballot, and then blocks of later ballots
 pub record CastOf (plan : Plan) (ballot race column : ℕ) (lines : List Said) : Type 0 where
-  pub codes : List CodeLine
-  pub overs : List ℕ
+  pub first : List CastLine
   pub back : List Said
-  pub is : lines ≡ cast_from plan codes overs race ++ back
-  pub marks : are_marks plan ballot race column codes ≡ true
-  pub all : are_overs plan ballot race overs ≡ true
+  pub is : lines ≡ map cast_said first ++ back
+  pub pass : are_cast plan ballot race column first ≡ true
   pub blocks : BlocksOf plan ballot back
 
 abbrev pub PartOf : Plan → Part → List Said → Type 0
@@ -106,11 +105,11 @@ under test t taken lines end e goes =
 
 -- one more block
 add_block : (plan : Plan) (last ballot : ℕ) (what : BlockFate) (lines rest : List Said) → is_later plan last ballot ≡ true → is_fate plan ballot what ≡ true
-    → lines ≡ fate_lines plan ballot what ++ rest → BlocksOf plan ballot rest → BlocksOf plan last lines
+    → lines ≡ fate_tree as_line plan ballot what ++ rest → BlocksOf plan ballot rest → BlocksOf plan last lines
 add_block plan last ballot what lines rest later passes is others = record {
   blocks = record { ballot = ballot; fate = what } ∷ others.blocks;
   back = others.back;
-  is = is ∙ (ap (λ l. fate_lines plan ballot what ++ l) others.is ∙ sym (append_assoc (fate_lines plan ballot what) (flat_map (block_lines plan) others.blocks) others.back));
+  is = is ∙ (ap (λ l. fate_tree as_line plan ballot what ++ l) others.is ∙ sym (append_assoc (fate_tree as_line plan ballot what) (flat_map (block_tree as_line plan) others.blocks) others.back));
   pass = and_from (is_later plan last ballot && is_fate plan ballot what) (are_blocks plan ballot others.blocks)
       (and_from (is_later plan last ballot) (is_fate plan ballot what) later passes) others.pass;
   results = others.results;
@@ -143,10 +142,9 @@ block-back : (plan : Plan) (last : ℕ) (said : Said) (lines : List Said) (end :
 block-back plan last (Cast ballot) lines end taken fine all known e goes =
     let on = under (is_later plan last ballot) (took (Begun ballot) (behind plan [] (part.Cast ballot 0 0))) taken lines end e goes in
     let rest = known [] (part.Cast ballot 0 0) tt on.1 in
-    let cast : CastOf plan ballot 0 0 rest.back = rest.others in
-    add_block plan last ballot (fate.Cast cast.codes cast.overs) (Cast ballot ∷ lines) cast.back on.0
-    (and_from (are_marks plan ballot 0 0 cast.codes) (are_overs plan ballot 0 cast.overs) cast.marks cast.all)
-    (ap (λ l. Cast ballot ∷ l) (none-due plan (part.Cast ballot 0 0) lines rest ∙ cast.is)) cast.blocks
+    let block : CastOf plan ballot 0 0 rest.back = rest.others in
+    add_block plan last ballot (fate.Cast block.first) (Cast ballot ∷ lines) block.back on.0 block.pass
+    (ap (λ l. Cast ballot ∷ l) (none-due plan (part.Cast ballot 0 0) lines rest ∙ block.is)) block.blocks
 block-back plan last (Spoiled ballot) lines end taken fine all known e goes =
     let on = under (is_later plan last ballot) (took (Begun ballot) (behind plan [] (part.Ballots ballot))) taken lines end e goes in
     let rest = known [] (part.Ballots ballot) tt on.1 in
@@ -174,57 +172,42 @@ cast-back plan ballot race column (Code code) lines end taken fine all known e g
     let on = under (is_column plan ballot code.race code.column && follows_in_order race column code.race code.column)
     (took (CodeAt block.Cast ballot code.race code.column code) (behind plan [] (part.Cast ballot code.race (code.column + 1)))) taken lines end e goes in
     let rest = known [] (part.Cast ballot code.race (code.column + 1)) tt on.1 in
-    let cast : CastOf plan ballot code.race (code.column + 1) rest.back = rest.others in
-    let low = order-least race column code.race code.column (and_parts (is_column plan ballot code.race code.column) (follows_in_order race column code.race code.column) on.0).1 in
+    let behind_it : CastOf plan ballot code.race (code.column + 1) rest.back = rest.others in
     let small : is_code plan code.code ≡ true = lt-ltb code.code (codes_of plan.version) all.0.3 in
-    let marks : are_marks plan ballot race column (code ∷ cast.codes) ≡ true
-    = and_from ((is_column plan ballot code.race code.column && follows_in_order race column code.race code.column) && is_code plan code.code)
-    (are_marks plan ballot code.race (code.column + 1) cast.codes)
-    (and_from (is_column plan ballot code.race code.column && follows_in_order race column code.race code.column) (is_code plan code.code) on.0 small) cast.marks in
     record {
-      codes = code ∷ cast.codes;
-      overs = cast.overs;
-      back = cast.back;
-      is = ap (λ l. Code code ∷ l) (none-due plan (part.Cast ballot code.race (code.column + 1)) lines rest ∙ cast.is)
-          ∙ ap (λ l. l ++ cast.back) (sym (cast-code plan ballot race column code cast.codes cast.overs marks cast.all));
-      marks = marks;
-      all = overs-earlier plan ballot code.race race cast.overs low cast.all;
-      blocks = cast.blocks;
+      first = cast.Code code ∷ behind_it.first;
+      back = behind_it.back;
+      is = ap (λ l. Code code ∷ l) (none-due plan (part.Cast ballot code.race (code.column + 1)) lines rest ∙ behind_it.is);
+      pass = code-before plan ballot race column code behind_it.first on.0 small behind_it.pass;
+      blocks = behind_it.blocks;
     }
 cast-back plan ballot race column (Over over) lines end taken fine all known e goes =
     let on = under (is_race_left plan ballot race over) (took (OverAt ballot over) (behind plan [] (part.Cast ballot (over + 1) 0))) taken lines end e goes in
     let rest = known [] (part.Cast ballot (over + 1) 0) tt on.1 in
-    let cast : CastOf plan ballot (over + 1) 0 rest.back = rest.others in
-    let low = leb-true race over (and_parts (nat_lt over (length plan.races) && ballot_has plan ballot over) (nat_le race over) on.0).1 in
-    let overs : are_overs plan ballot race (over ∷ cast.overs) ≡ true = and_from (is_race_left plan ballot race over) (are_overs plan ballot (over + 1) cast.overs) on.0 cast.all in
+    let behind_it : CastOf plan ballot (over + 1) 0 rest.back = rest.others in
     record {
-      codes = cast.codes;
-      overs = over ∷ cast.overs;
-      back = cast.back;
-      is = ap (λ l. Over over ∷ l) (none-due plan (part.Cast ballot (over + 1) 0) lines rest ∙ cast.is)
-          ∙ ap (λ l. l ++ cast.back) (sym (cast-over plan ballot race over cast.codes cast.overs overs cast.marks));
-      marks = marks-earlier plan ballot (over + 1) 0 race column cast.codes (omega (arith, low)) cast.marks;
-      all = overs;
-      blocks = cast.blocks;
+      first = cast.Over over ∷ behind_it.first;
+      back = behind_it.back;
+      is = ap (λ l. Over over ∷ l) (none-due plan (part.Cast ballot (over + 1) 0) lines rest ∙ behind_it.is);
+      pass = over-before plan ballot race column over behind_it.first on.0 behind_it.pass;
+      blocks = behind_it.blocks;
     }
 cast-back plan ballot race column said lines end taken fine all known e goes = record {
-  codes = [];
-  overs = [];
+  first = [];
   back = said ∷ lines;
-  is = ap (λ l. l ++ (said ∷ lines)) (sym (cast-none plan race));
-  marks = refl;
-  all = refl;
+  is = refl;
+  pass = refl;
   blocks = block-back plan ballot said lines end taken fine all.1 known e goes;
 }
 
 -- DISPUTES
 
 -- one more dispute
-add_dispute : (plan : Plan) (count : ℕ) (one : DisputeBlock) (lines rest : List Said) → lines ≡ dispute_lines one ++ rest → is_dispute plan one ≡ true
+add_dispute : (plan : Plan) (count : ℕ) (one : DisputeBlock) (lines rest : List Said) → lines ≡ dispute_tree as_line one ++ rest → is_dispute plan one ≡ true
     → DisputesOf plan (count + 1) rest → DisputesOf plan count lines
 add_dispute plan count one lines rest is passes others = record {
   disputes = one ∷ others.disputes;
-  is = is ∙ ap (λ l. dispute_lines one ++ l) others.is;
+  is = is ∙ ap (λ l. dispute_tree as_line one ++ l) others.is;
   pass = and_from (is_dispute plan one) (list_all (is_dispute plan) others.disputes) passes others.pass;
   few = omega (arith, others.few);
 }

@@ -4,8 +4,8 @@ use Rattle.std.proofs.lemmas.Option.{same_Some}
 use Rattle.std.proofs.lemmas.List.Elements.{All-cons, All-head, All-nil, All-tail}
 use Rattle.sg_lists.proofs.Options.{cond_some-then, option_map-some}
 use Rattle.sg_plan.specs.Ballots.{ballot_has, r_rows}
-use Rattle.sg_plan.specs.Limits.{candidate_keeps, is_version, most_claims, most_instances, most_races, most_styles, race_head_keeps, run_keeps, style_keeps}
-use Rattle.sg_plan.specs.Names.{is_name_word, is_within}
+use Rattle.sg_plan.specs.Limits.{is_version, most_claims, most_instances, most_races, most_styles, race_head_keeps, run_keeps, style_keeps}
+use Rattle.sg_plan.specs.Names.{is_name_word, is_within, name_keeps}
 use Rattle.sg_plan.specs.declared.plan.Plan.{Plan}
 use Rattle.sg_forms.proofs.LineLaws.{lines_are_read, lines_are_spelled}
 use Rattle.sg_forms.specs.Reading.{line_of}
@@ -180,7 +180,7 @@ head_line-stays plan head.Races (Race name candidates votes) m later e =
 head_line-stays plan head.Races (Style name races) m later e = take_style-stays plan name races m (cond_some-then (nat_lt 0 (length plan.races)) (take_style plan (Style name races)) m e)
 head_line-stays plan head.Races said m later e = cc
 head_line-stays plan (head.Candidates left) (Cand name) m later e =
-    if_then-claim (StaysMade plan) (candidate_keeps (last_candidates plan.races) name) (made (with_cand plan name) (behind_candidate left)) m (λ ok. (refl, at_last (left == 1))) e
+    if_then-claim (StaysMade plan) (name_keeps (last_candidates plan.races) name) (made (with_cand plan name) (behind_candidate left)) m (λ ok. (refl, at_last (left == 1))) e
   where
     at_last : (b : Bool) → is_first (cond b head.Races (head.Candidates (left - 1))) ≡ false
     at_last true = refl

@@ -15,8 +15,7 @@ use Rattle.sg_grammar.specs.Walk.{place}
 use Rattle.sg_grammar.specs.declared.state.Slot.TheVariants as slot
 use Rattle.sg_record.proofs.Filling.{Spells, fits, spells-line}
 use Rattle.sg_record.specs.Formed.{is_draw}
-use Rattle.sg_record.specs.Lines.{draw_line}
-use Rattle.sg_record.specs.Places.{draw_place}
+use Rattle.sg_record.specs.Tree.{as_line, as_place, draw_leaf}
 
 -- the digits of values below 16 differ from one another, and from what there is behind them
 digit_one : (a b : ℕ) → b < 16 → slice_index lower_digits a ≡ slice_index lower_digits b → a ≡ b
@@ -49,9 +48,9 @@ digits_one (x ∷ xs) (y ∷ ys) small same =
 
 -- a draw whose public bytes are bytes, and not too many
 abbrev pub IsDraw : ℕ → Draw → Type 0
-IsDraw version draw = (is_draw draw ≡ true) × IsInRange version (draw_line draw)
+IsDraw version draw = (is_draw draw ≡ true) × IsInRange version (draw_leaf as_line draw)
 
-draw_one : (version : ℕ) (x y : Draw) → IsDraw version x → IsDraw version y → draw_line x ≡ draw_line y → x ≡ y
+draw_one : (version : ℕ) (x y : Draw) → IsDraw version x → IsDraw version y → draw_leaf as_line x ≡ draw_leaf as_line y → x ≡ y
 draw_one version drawn.Full drawn.Full p q same = refl
 draw_one version drawn.Full (drawn.Public ys) p q same = cc
 draw_one version (drawn.Public xs) drawn.Full p q same = cc
@@ -62,14 +61,14 @@ draw_one version (drawn.Public xs) (drawn.Public ys) p q same =
     let right : ys ≡ bytes = digits_one ys bytes q.1.2 q.1.1 in
     ap drawn.Public (left ∙ sym right)
 
-pub draw-spells : (version : ℕ) → Spells version (IsDraw version) (λ (draw : Draw). draw_line draw ∷ []) (λ (draw : Draw). draw_place draw ∷ []) (slot.Draw ∷ [])
-draw-spells version = spells-line version (IsDraw version) draw_line draw_place slot.Draw into from (draw_one version)
+pub draw-spells : (version : ℕ) → Spells version (IsDraw version) (λ (draw : Draw). draw_leaf as_line draw ∷ []) (λ (draw : Draw). draw_leaf as_place draw ∷ []) (slot.Draw ∷ [])
+draw-spells version = spells-line version (IsDraw version) (draw_leaf as_line) (draw_leaf as_place) slot.Draw into from (draw_one version)
   where
-    into : (draw : Draw) → IsDraw version draw → place slot.Draw (draw_line draw) ≡ Some (draw_place draw)
+    into : (draw : Draw) → IsDraw version draw → place slot.Draw (draw_leaf as_line draw) ≡ Some (draw_leaf as_place draw)
     into drawn.Full passes = refl
     into (drawn.Public bytes) passes = refl
 
-    from : (said : Said) → fits slot.Draw said ≡ true → IsInRange version said → (x : Draw) × IsDraw version x × (said ≡ draw_line x)
+    from : (said : Said) → fits slot.Draw said ≡ true → IsInRange version said → (x : Draw) × IsDraw version x × (said ≡ draw_leaf as_line x)
     from DrawFull there fit = (drawn.Full, (refl, tt), refl)
     from (DrawPublic digits) there fit = (
       drawn.Public fit.0,

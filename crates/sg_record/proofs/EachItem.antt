@@ -6,7 +6,7 @@ use Rattle.sg_grammar.specs.Due.{numbered}
 use Rattle.sg_record.proofs.Filling.{Each}
 use Rattle.sg_record.proofs.SlotLines.{Any}
 use Rattle.sg_record.specs.Formed.{each_passes}
-use Rattle.sg_record.specs.Lines.{indexed}
+use Rattle.sg_record.specs.Tree.{indexed}
 
 pub Each-length : {A : Type 0} (P : ℕ → A → Type 0) (at count : ℕ) (xs : List A) → Each P at count xs → length xs ≡ count
 Each-length P at zero [] passes = refl

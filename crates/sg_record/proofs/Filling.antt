@@ -9,7 +9,7 @@ use Rattle.sg_grammar.specs.Head.{if_then}
 use Rattle.sg_grammar.specs.Placed.{Placed}
 use Rattle.sg_grammar.specs.Walk.{place}
 use Rattle.sg_grammar.specs.declared.state.Slot.{Slot}
-use Rattle.sg_record.specs.Lines.{indexed}
+use Rattle.sg_record.specs.Tree.{indexed}
 
 -- the line may stand in the slot
 abbrev pub fits : Slot → Said → Bool

@@ -14,7 +14,7 @@ use Rattle.sg_record.proofs.Filling.{Each}
 use Rattle.sg_record.proofs.SectionLines.{AreCommits, AreResults, Commits, HasPlaces, HasTotals, Results}
 use Rattle.sg_record.proofs.SlotLines.{Any, Counts}
 use Rattle.sg_record.specs.Formed.{are_blocks, each_passes, has_candidates, has_entries, has_rows, is_dispute, is_draw, is_formed}
-use Rattle.sg_record.specs.Lines.{draw_line}
+use Rattle.sg_record.specs.Tree.{as_line, draw_leaf}
 use Rattle.sg_forms.specs.declared.line.RowOpening.{RowOpening}
 use Rattle.sg_record.specs.declared.record.Record.{Record}
 use Rattle.sg_record.specs.declared.record.RowCommit.{RowCommit as RowDigests}
@@ -104,7 +104,7 @@ three (a ∷ b ∷ []) many = absurd (omega (arith, many))
 three (a ∷ b ∷ c ∷ []) many = (a, b, c, refl)
 three (a ∷ b ∷ c ∷ d ∷ seals) many = absurd (omega (arith, many))
 
-pub form-from : (posted : Record) → is_formed posted ≡ true → IsInRange posted.plan.version (draw_line posted.draw) → HasForm posted
+pub form-from : (posted : Record) → is_formed posted ≡ true → IsInRange posted.plan.version (draw_leaf as_line posted.draw) → HasForm posted
 unfolding is_formed
 form-from posted formed draw =
     let plan : Plan = posted.plan in

@@ -32,8 +32,9 @@ use Rattle.sg_record.proofs.WholeLaw.{whole_are_formed}
 use Rattle.sg_record.specs.Formed.{is_formed}
 use Rattle.sg_record.specs.inside.Gathering.{Gathered, added, blank, gather, gather_line, gathered_on, nothing_yet}
 use Rattle.sg_record.specs.Laws.{AreWhole, HasWords}
-use Rattle.sg_record.specs.Lines.{dispute_lines, lines_in, plan_lines, texts_in}
-use Rattle.sg_record.specs.Places.{behind_record, dispute_places}
+use Rattle.sg_record.specs.Lines.{lines_in, plan_lines, texts_in}
+use Rattle.sg_record.specs.Places.{behind_record}
+use Rattle.sg_record.specs.Tree.{as_line, as_place, dispute_tree}
 use Rattle.sg_record.specs.declared.record.Record.{Record}
 
 -- THE LINES OF THE PLAN
@@ -62,8 +63,8 @@ formed_made posted first second third is =
     let version : ℕ = posted.plan.version in
     let c : Commits = commits_of posted first in
     let r : Results = results_of posted second third in
-    let disputes : List Said = flat_map dispute_lines posted.disputes in
-    let places : List Placed = flat_map dispute_places posted.disputes in
+    let disputes : List Said = flat_map (dispute_tree as_line) posted.disputes in
+    let places : List Placed = flat_map (dispute_tree as_place) posted.disputes in
     let made : Record = record (committed plan c) { ballots = [] ++ posted.ballots } in
     made_of-due plan (commits plan) (lines_of_commits c) (later_lines posted second third) (places_of_commits c) (later_places posted second third) (bare plan) ((commits-spells version plan).out c is.commits)
     ∙ (ap (made_of plan (later_lines posted second third) (later_places posted second third)) (commits-put version plan c is.commits)

@@ -1,5 +1,5 @@
 -- The blocks of ballots and of disputes, put together line by line.
-use Rattle.std.proofs.Common.{◌≡◌, ℕ, ◌-◌, ◌==◌, nat_lt, Bool, true, false, ◌&&◌, List, [], ◌∷◌, ◌++◌, length, map, None, refl, sym, subst, ap, ◌∙◌}
+use Rattle.std.proofs.Common.{◌≡◌, ℕ, ◌-◌, ◌==◌, nat_lt, Bool, true, false, ◌&&◌, List, [], ◌∷◌, ◌++◌, length, map, None, refl, sym, ap, ◌∙◌}
 use Rattle.std.proofs.lemmas.Bool.{and_from, and_parts, eq-eqb}
 use Rattle.std.proofs.lemmas.List.{append-nil, append_assoc}
 use Rattle.std.proofs.lemmas.List.Folds.{list_all-append}
@@ -10,7 +10,7 @@ use Rattle.sg_plan.specs.declared.plan.Plan.{Plan}
 use Rattle.sg_forms.specs.Said.{Said}
 use Rattle.sg_forms.specs.Said.Said.{Code}
 use Rattle.sg_forms.specs.declared.line.CodeLine.{CodeLine}
-use Rattle.sg_grammar.specs.Due.{code_line, due_audit, each, race_codes}
+use Rattle.sg_grammar.specs.Due.{code_line, due_audit, race_codes}
 use Rattle.sg_grammar.specs.Placed.{Placed}
 use Rattle.sg_grammar.specs.Placed.Placed.{CodeAt}
 use Rattle.sg_grammar.specs.Walk.{is_later}
@@ -18,19 +18,19 @@ use Rattle.sg_grammar.specs.declared.state.Block.TheVariants as block
 use Rattle.sg_grammar.specs.declared.state.Slot.{Slot}
 use Rattle.sg_grammar.specs.declared.state.Slot.TheVariants as slot
 use Rattle.sg_record.proofs.BlockLines.{audit-due, audit_codes, audit_lines, audit_places, columns-spells, due_audit-spells, numbered-all, paper_slots, papers-spells, races-spells}
-use Rattle.sg_record.proofs.CastLines.{Steps, by_steps}
 use Rattle.sg_record.proofs.Filling.{Fills, filled, passed}
 use Rattle.sg_record.proofs.GatheredLines.{made_of, made_of-due}
 use Rattle.sg_record.proofs.GatheredLists.{put, put-append}
-use Rattle.sg_record.proofs.PlacedBlocks.{cast-mapped, cast_place}
 use Rattle.sg_plan.specs.Codes.{is_code}
-use Rattle.sg_record.specs.Formed.{are_blocks, are_columns, are_marks, are_overs, are_papers, has_columns, is_dispute, is_fate}
-use Rattle.sg_record.specs.inside.Gathering.{dispute_with, last_with, with_code, with_over, with_paper}
-use Rattle.sg_record.specs.Lines.{block_lines, cast_race_lines, dispute_lines, fate_lines, paper_lines}
-use Rattle.sg_record.specs.Places.{block_places, code_place, dispute_places, fate_places}
+use Rattle.sg_record.specs.Formed.{are_blocks, are_columns, are_papers, has_columns, is_dispute, is_fate}
+use Rattle.sg_record.specs.inside.Gathering.{added, dispute_with, last_with, with_cast, with_code, with_paper}
+use Rattle.sg_record.specs.inside.Parts.{paper_lines}
+use Rattle.sg_record.specs.Tree.{as_line, as_place, block_tree, cast_leaf, cast_place, cast_said, code_leaf, dispute_tree, fate_tree}
 use Rattle.sg_record.specs.declared.record.BallotBlock.{BallotBlock}
 use Rattle.sg_record.specs.declared.record.BlockFate.{BlockFate}
 use Rattle.sg_record.specs.declared.record.BlockFate.TheVariants as fate
+use Rattle.sg_record.specs.declared.record.CastLine.{CastLine}
+use Rattle.sg_record.specs.declared.record.CastLine.TheVariants as cast
 use Rattle.sg_record.specs.declared.record.DisputeBlock.{DisputeBlock}
 use Rattle.sg_record.specs.declared.record.Record.{Record}
 
@@ -53,21 +53,20 @@ changed made ballot what change = ap (λ (l : List BallotBlock). let it : Record
 
 -- CAST BALLOTS
 
-cast-made : (plan : Plan) (ballot : ℕ) (made : Record) (all_codes : List CodeLine) (all_overs : List ℕ) (rest : List Said) (others : List Placed)
-    → Steps plan ballot (λ (race column : ℕ) (codes : List CodeLine) (overs : List ℕ) (lines : List Said).
-    (before : List CodeLine) (overs_before : List ℕ) → before ++ codes ≡ all_codes → overs_before ++ overs ≡ all_overs
-    → made_of plan (lines ++ rest) (map (cast_place ballot) lines ++ others) (with_block made ballot (fate.Cast before overs_before)) ≡ made_of plan rest others (with_block made ballot (fate.Cast all_codes all_overs)))
-cast-made plan ballot made all_codes all_overs rest others = record {
-  none = λ race column before overs_before codes_are overs_are.
-      ap (λ (l : List CodeLine). made_of plan rest others (with_block made ballot (fate.Cast l overs_before))) (sym (append-nil before) ∙ codes_are)
-      ∙ ap (λ (l : List ℕ). made_of plan rest others (with_block made ballot (fate.Cast all_codes l))) (sym (append-nil overs_before) ∙ overs_are);
-  mark = λ race column code codes overs lines place on before overs_before codes_are overs_are.
-      ap (made_of plan (lines ++ rest) (map (cast_place ballot) lines ++ others)) (changed made ballot (fate.Cast before overs_before) (with_code code))
-      ∙ on (before ++ code ∷ []) overs_before (append_assoc before (code ∷ []) codes ∙ codes_are) overs_are;
-  over = λ race column over codes overs lines left on before overs_before codes_are overs_are.
-      ap (made_of plan (lines ++ rest) (map (cast_place ballot) lines ++ others)) (changed made ballot (fate.Cast before overs_before) (with_over over))
-      ∙ on before (overs_before ++ over ∷ []) codes_are (append_assoc overs_before (over ∷ []) overs ∙ overs_are);
-}
+-- one more line
+cast-added : (plan : Plan) (ballot : ℕ) (made : Record) (before : List CastLine) (line : CastLine)
+    → added plan (with_block made ballot (fate.Cast before)) (cast_place ballot line) (cast_said line) ≡ with_block made ballot (fate.Cast (before ++ line ∷ []))
+cast-added plan ballot made before (cast.Code code) = changed made ballot (fate.Cast before) (with_cast (cast.Code code))
+cast-added plan ballot made before (cast.Over over) = changed made ballot (fate.Cast before) (with_cast (cast.Over over))
+
+cast-made : (plan : Plan) (ballot : ℕ) (made : Record) (before lines : List CastLine) (rest : List Said) (others : List Placed)
+    → made_of plan (map (cast_leaf as_line ballot) lines ++ rest) (map (cast_leaf as_place ballot) lines ++ others) (with_block made ballot (fate.Cast before))
+    ≡ made_of plan rest others (with_block made ballot (fate.Cast (before ++ lines)))
+cast-made plan ballot made before [] rest others = ap (λ l. made_of plan rest others (with_block made ballot (fate.Cast l))) (sym (append-nil before))
+cast-made plan ballot made before (line ∷ lines) rest others =
+    ap (made_of plan (map (cast_leaf as_line ballot) lines ++ rest) (map (cast_leaf as_place ballot) lines ++ others)) (cast-added plan ballot made before line)
+    ∙ (cast-made plan ballot made (before ++ line ∷ []) lines rest others
+    ∙ ap (λ l. made_of plan rest others (with_block made ballot (fate.Cast l))) (append_assoc before (line ∷ []) lines))
 
 -- AUDITED BALLOTS
 
@@ -130,15 +129,8 @@ due_audit-put plan ballot made papers codes fine papers_are codes_are =
 -- BLOCKS
 
 fate-made : (plan : Plan) (ballot : ℕ) (what : BlockFate) (made : Record) (rest : List Said) (others : List Placed) → fault_of plan ≡ None → is_fate plan ballot what ≡ true
-    → made_of plan (fate_lines plan ballot what ++ rest) (fate_places plan ballot what ++ others) made ≡ made_of plan rest others (with_block made ballot what)
-fate-made plan ballot (fate.Cast codes overs) made rest others fine passes =
-    let parts = and_parts (are_marks plan ballot 0 0 codes) (are_overs plan ballot 0 overs) passes in
-    let all : Record = made_of plan rest others (with_block made ballot (fate.Cast codes overs)) in
-    subst (λ (ps : List Placed). made_of plan (each (cast_race_lines codes overs) 0 (length plan.races) ++ rest) (ps ++ others) (with_block made ballot (fate.Cast [] [])) ≡ all) (cast-mapped plan ballot codes overs)
-    (by_steps plan ballot (λ (race column : ℕ) (cs : List CodeLine) (os : List ℕ) (ls : List Said).
-    (before : List CodeLine) (overs_before : List ℕ) → before ++ cs ≡ codes → overs_before ++ os ≡ overs
-    → made_of plan (ls ++ rest) (map (cast_place ballot) ls ++ others) (with_block made ballot (fate.Cast before overs_before)) ≡ all)
-    (cast-made plan ballot made codes overs rest others) 0 0 codes overs parts.0 parts.1 [] [] refl refl)
+    → made_of plan (fate_tree as_line plan ballot what ++ rest) (fate_tree as_place plan ballot what ++ others) made ≡ made_of plan rest others (with_block made ballot what)
+fate-made plan ballot (fate.Cast lines) made rest others fine passes = cast-made plan ballot made [] lines rest others
 fate-made plan ballot fate.Spoiled made rest others fine passes = refl
 fate-made plan ballot (fate.Audited papers codes) made rest others fine passes =
     let parts = and_parts (are_papers plan (races_of_ballot plan ballot) papers) (are_columns plan (races_of_ballot plan ballot) codes) passes in
@@ -148,13 +140,13 @@ fate-made plan ballot (fate.Audited papers codes) made rest others fine passes =
 fate-made plan ballot fate.Voided made rest others fine passes = refl
 
 pub blocks-made : (plan : Plan) (last : ℕ) (blocks : List BallotBlock) (made : Record) (rest : List Said) (others : List Placed) → fault_of plan ≡ None → are_blocks plan last blocks ≡ true
-    → made_of plan (flat_map (block_lines plan) blocks ++ rest) (flat_map (block_places plan) blocks ++ others) made ≡ made_of plan rest others (record made { ballots = made.ballots ++ blocks })
+    → made_of plan (flat_map (block_tree as_line plan) blocks ++ rest) (flat_map (block_tree as_place plan) blocks ++ others) made ≡ made_of plan rest others (record made { ballots = made.ballots ++ blocks })
 blocks-made plan last [] made rest others fine pass = ap (λ (l : List BallotBlock). made_of plan rest others (record made { ballots = l })) (sym (append-nil made.ballots))
 blocks-made plan last (one ∷ blocks) made rest others fine pass =
     let parts = and_parts (is_later plan last one.ballot && is_fate plan one.ballot one.fate) (are_blocks plan one.ballot blocks) pass in
     let first = and_parts (is_later plan last one.ballot) (is_fate plan one.ballot one.fate) parts.0 in
-    rw (append_assoc (block_lines plan one) (flat_map (block_lines plan) blocks) rest, append_assoc (block_places plan one) (flat_map (block_places plan) blocks) others)
-    (fate-made plan one.ballot one.fate made (flat_map (block_lines plan) blocks ++ rest) (flat_map (block_places plan) blocks ++ others) fine first.1
+    rw (append_assoc (block_tree as_line plan one) (flat_map (block_tree as_line plan) blocks) rest, append_assoc (block_tree as_place plan one) (flat_map (block_tree as_place plan) blocks) others)
+    (fate-made plan one.ballot one.fate made (flat_map (block_tree as_line plan) blocks ++ rest) (flat_map (block_tree as_place plan) blocks ++ others) fine first.1
     ∙ (blocks-made plan one.ballot blocks (with_block made one.ballot one.fate) rest others fine parts.1
     ∙ ap (λ (l : List BallotBlock). made_of plan rest others (record made { ballots = l })) (append_assoc made.ballots (one ∷ []) blocks)))
 
@@ -184,7 +176,7 @@ dispute_codes-put plan made one (slot.Code block.Cast ballot race column ∷ due
 dispute_codes-put plan made one (first ∷ due) (code ∷ codes) before are fills = cc
 
 pub disputes-made : (plan : Plan) (disputes : List DisputeBlock) (made : Record) → list_all (is_dispute plan) disputes ≡ true
-    → made_of plan (flat_map dispute_lines disputes) (flat_map dispute_places disputes) made ≡ record made { disputes = made.disputes ++ disputes }
+    → made_of plan (flat_map (dispute_tree as_line) disputes) (flat_map (dispute_tree as_place) disputes) made ≡ record made { disputes = made.disputes ++ disputes }
 disputes-made plan [] made pass = ap (λ (l : List DisputeBlock). let it : Record = record made { disputes = l } in it) (sym (append-nil made.disputes))
 disputes-made plan (one ∷ disputes) made pass =
     let parts = and_parts (is_dispute plan one) (list_all (is_dispute plan) disputes) pass in
@@ -192,9 +184,9 @@ disputes-made plan (one ∷ disputes) made pass =
     (has_columns plan one.race one.codes) parts.0 in
     let due : List Slot = race_codes plan block.Dispute one.ballot one.race in
     let spells = columns-spells plan block.Dispute one.ballot one.race in
-    made_of-due plan due (map Code one.codes) (flat_map dispute_lines disputes) (map (code_place block.Dispute one.ballot) one.codes) (flat_map dispute_places disputes) (with_dispute made one [])
+    made_of-due plan due (map Code one.codes) (flat_map (dispute_tree as_line) disputes) (map (code_leaf as_place block.Dispute one.ballot) one.codes) (flat_map (dispute_tree as_place) disputes) (with_dispute made one [])
     (spells.out one.codes sides.1)
-    ∙ (ap (made_of plan (flat_map dispute_lines disputes) (flat_map dispute_places disputes))
+    ∙ (ap (made_of plan (flat_map (dispute_tree as_line) disputes) (flat_map (dispute_tree as_place) disputes))
     (dispute_codes-put plan made one due one.codes [] (numbered-all is_dispute_code (code_line block.Dispute one.ballot one.race) 0 (candidates_of plan one.race - 0) (λ column. refl)) (filled spells one.codes sides.1))
     ∙ (disputes-made plan disputes (with_dispute made one one.codes) parts.1
     ∙ ap (λ (l : List DisputeBlock). let it : Record = record made { disputes = l } in it) (append_assoc made.disputes (one ∷ []) disputes)))

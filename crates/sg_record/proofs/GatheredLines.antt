@@ -25,7 +25,7 @@ use Rattle.sg_record.proofs.Placing.{GoesAs, whole-step}
 use Rattle.sg_record.proofs.SaidWalk.{fits-no_run}
 use Rattle.sg_record.proofs.SectionLines.{AreCommits, AreResults, Commits, Results, code_commits-spells, lines_of_commits, lines_of_results, lines_of_tallies, row_commits-spells, rows-spells, tallies-spells}
 use Rattle.sg_record.specs.inside.Gathering.{added, blank, no_digest, sealed}
-use Rattle.sg_record.specs.Lines.{draw_line, indexed, race_code_commit_lines, race_row_commit_lines, race_row_lines}
+use Rattle.sg_record.specs.Tree.{as_line, draw_leaf, indexed, race_code_commit_tree, race_row_commit_tree, race_row_tree}
 use Rattle.sg_record.specs.declared.record.Record.{Record}
 
 -- the lines, taken one after another, lead from one state to another, and make one record of another
@@ -97,10 +97,10 @@ committed plan c = record (bare plan) { code_commits = c.0; row_commits = c.1.0;
 pub commits-put : (version : ℕ) (plan : Plan) (c : Commits) → AreCommits plan c → put plan (commits plan) (lines_of_commits c) (bare plan) ≡ committed plan c
 commits-put version plan c are =
     put-append plan (each (race_code_commits plan) 0 (length plan.races)) (each (race_row_commits plan) 0 (length plan.races) ++ slot.Seal 1 ∷ [])
-    (indexed race_code_commit_lines 0 c.0) (indexed race_row_commit_lines 0 c.1.0 ++ Seal 1 c.1.1 ∷ []) (bare plan) (filled (code_commits-spells version plan) c.0 are.0)
-    ∙ (ap (put plan (each (race_row_commits plan) 0 (length plan.races) ++ slot.Seal 1 ∷ []) (indexed race_row_commit_lines 0 c.1.0 ++ Seal 1 c.1.1 ∷ []))
+    (indexed (race_code_commit_tree as_line) 0 c.0) (indexed (race_row_commit_tree as_line) 0 c.1.0 ++ Seal 1 c.1.1 ∷ []) (bare plan) (filled (code_commits-spells version plan) c.0 are.0)
+    ∙ (ap (put plan (each (race_row_commits plan) 0 (length plan.races) ++ slot.Seal 1 ∷ []) (indexed (race_row_commit_tree as_line) 0 c.1.0 ++ Seal 1 c.1.1 ∷ []))
     (code_commits-put version plan (bare plan) c.0 are.0)
-    ∙ (put-append plan (each (race_row_commits plan) 0 (length plan.races)) (slot.Seal 1 ∷ []) (indexed race_row_commit_lines 0 c.1.0) (Seal 1 c.1.1 ∷ [])
+    ∙ (put-append plan (each (race_row_commits plan) 0 (length plan.races)) (slot.Seal 1 ∷ []) (indexed (race_row_commit_tree as_line) 0 c.1.0) (Seal 1 c.1.1 ∷ [])
     (with_code_commits (bare plan) c.0) (filled (row_commits-spells version plan) c.1.0 are.1.0)
     ∙ (ap (put plan (slot.Seal 1 ∷ []) (Seal 1 c.1.1 ∷ [])) (row_commits-put version plan (with_code_commits (bare plan) c.0) c.1.0 are.1.0)
     ∙ put-one plan (slot.Seal 1) (Seal 1 c.1.1) (with_row_commits (with_code_commits (bare plan) c.0) c.1.0))))
@@ -120,7 +120,7 @@ gathers-commits plan made lines rest end final fills goes = from (commits plan) 
 
 -- RESULTS
 
-draw-put : (version : ℕ) (plan : Plan) (draw : Draw) (made : Record) → IsDraw version draw → put_line plan slot.Draw (draw_line draw) made ≡ record made { draw = draw }
+draw-put : (version : ℕ) (plan : Plan) (draw : Draw) (made : Record) → IsDraw version draw → put_line plan slot.Draw (draw_leaf as_line draw) made ≡ record made { draw = draw }
 draw-put version plan drawn.Full made is = refl
 draw-put version plan (drawn.Public bytes) made is =
     let spelled : List ℕ = is.1.0 in
@@ -150,11 +150,11 @@ results-put version plan r made are =
     let closed : Record = record tallied { seals = sealed made.seals 2 r.1.0 } in
     let opened : Record = record closed { draw = r.1.1.0 } in
     put-append plan (each (race_results plan) 0 (length plan.races)) (slot.Seal 2 ∷ slot.Draw ∷ (each (race_rows plan) 0 (length plan.races) ++ slot.Seal 3 ∷ []))
-    (lines_of_tallies plan r.0) (Seal 2 r.1.0 ∷ draw_line r.1.1.0 ∷ (indexed race_row_lines 0 r.1.1.1.0 ++ Seal 3 r.1.1.1.1 ∷ [])) (unresulted plan made) (filled (tallies-spells version plan) r.0 are.0)
-    ∙ (ap (put plan (slot.Seal 2 ∷ slot.Draw ∷ (each (race_rows plan) 0 (length plan.races) ++ slot.Seal 3 ∷ [])) (Seal 2 r.1.0 ∷ draw_line r.1.1.0 ∷ (indexed race_row_lines 0 r.1.1.1.0 ++ Seal 3 r.1.1.1.1 ∷ [])))
+    (lines_of_tallies plan r.0) (Seal 2 r.1.0 ∷ draw_leaf as_line r.1.1.0 ∷ (indexed (race_row_tree as_line) 0 r.1.1.1.0 ++ Seal 3 r.1.1.1.1 ∷ [])) (unresulted plan made) (filled (tallies-spells version plan) r.0 are.0)
+    ∙ (ap (put plan (slot.Seal 2 ∷ slot.Draw ∷ (each (race_rows plan) 0 (length plan.races) ++ slot.Seal 3 ∷ [])) (Seal 2 r.1.0 ∷ draw_leaf as_line r.1.1.0 ∷ (indexed (race_row_tree as_line) 0 r.1.1.1.0 ++ Seal 3 r.1.1.1.1 ∷ [])))
     (tallies-put version plan (record made { rows = (bare plan).rows }) r.0 are.0)
-    ∙ (ap (put plan (each (race_rows plan) 0 (length plan.races) ++ slot.Seal 3 ∷ []) (indexed race_row_lines 0 r.1.1.1.0 ++ Seal 3 r.1.1.1.1 ∷ []))
+    ∙ (ap (put plan (each (race_rows plan) 0 (length plan.races) ++ slot.Seal 3 ∷ []) (indexed (race_row_tree as_line) 0 r.1.1.1.0 ++ Seal 3 r.1.1.1.1 ∷ []))
     (draw-put version plan r.1.1.0 closed are.1.1.0)
-    ∙ (put-append plan (each (race_rows plan) 0 (length plan.races)) (slot.Seal 3 ∷ []) (indexed race_row_lines 0 r.1.1.1.0) (Seal 3 r.1.1.1.1 ∷ []) opened (filled (rows-spells version plan) r.1.1.1.0 are.1.1.1.0)
+    ∙ (put-append plan (each (race_rows plan) 0 (length plan.races)) (slot.Seal 3 ∷ []) (indexed (race_row_tree as_line) 0 r.1.1.1.0) (Seal 3 r.1.1.1.1 ∷ []) opened (filled (rows-spells version plan) r.1.1.1.0 are.1.1.1.0)
     ∙ (ap (put plan (slot.Seal 3 ∷ []) (Seal 3 r.1.1.1.1 ∷ [])) (rows-put version plan opened r.1.1.1.0 are.1.1.1.0)
     ∙ put-one plan (slot.Seal 3) (Seal 3 r.1.1.1.1) (with_rows opened r.1.1.1.0)))))

@@ -21,8 +21,7 @@ use Rattle.sg_record.proofs.Filling.{Each, Fills, filled, spells-each}
 use Rattle.sg_record.proofs.SectionLines.{AreTallies, HasEntries, HasFlags, HasPlaces, HasRows, HasTotals, IsTally, Tallies, Tally, by_race, flags_all-spells, lines_of_tallies, places_all-spells, tallies-each, tallies-into, tallies-lengths, tally-spells, tally_lines}
 use Rattle.sg_record.proofs.SlotLines.{Any, Counts, code_commit-spells, flags-spells, places-spells, row-spells, row_commit-spells, signs_length, total-spells}
 use Rattle.sg_record.specs.inside.Gathering.{added, append_at, append_in, bits_of}
-use Rattle.sg_record.specs.Lines.{bit_sign, code_commit_line, flag_lines, indexed, instance_row_commit_lines, instance_row_lines, place_lines, race_code_commit_lines, race_row_commit_lines, race_row_lines, row_commit_line, row_line, signs_on, total_line as total_lines}
-use Rattle.sg_record.specs.Places.{code_commit_place, instance_row_commit_places, instance_row_places, row_commit_place, row_place}
+use Rattle.sg_record.specs.Tree.{as_line, as_place, bit_sign, code_commit_leaf, flag_tree, indexed, instance_row_commit_tree, instance_row_tree, place_tree, race_code_commit_tree, race_row_commit_tree, race_row_tree, row_commit_leaf, row_leaf, signs_on, total_leaf}
 use Rattle.sg_record.specs.declared.record.Record.{Record}
 use Rattle.sg_record.specs.declared.record.RowCommit.{RowCommit as RowDigests}
 
@@ -100,9 +99,9 @@ with_code_commits made lists = record made { code_commits = lists }
 -- the digests of a race
 race_code_commits-put : (version : ℕ) (plan : Plan) (made : Record) (race : ℕ) (items : List Digest) (done rest : List (List Digest))
     → Each (λ (entry : ℕ) (x : Digest). Any x) 0 (entries_of plan race - 0) items → length done ≡ race
-    → put plan (race_code_commits plan race) (race_code_commit_lines race items) (with_code_commits made (done ++ [] ∷ rest)) ≡ with_code_commits made (done ++ items ∷ rest)
+    → put plan (race_code_commits plan race) (race_code_commit_tree as_line race items) (with_code_commits made (done ++ [] ∷ rest)) ≡ with_code_commits made (done ++ items ∷ rest)
 race_code_commits-put version plan made race items done rest all many =
-    put-items plan (λ (entry : ℕ) (x : Digest). Any x) (code_commit_line race) (code_commit race) (λ entry. filled (code_commit-spells version race entry))
+    put-items plan (λ (entry : ℕ) (x : Digest). Any x) (code_commit_leaf as_line race) (code_commit race) (λ entry. filled (code_commit-spells version race entry))
     (λ (list : List Digest). with_code_commits made (done ++ list ∷ rest))
     (λ entry digest list any.
     put-one plan _ _ _
@@ -110,10 +109,10 @@ race_code_commits-put version plan made race items done rest all many =
     0 (entries_of plan race - 0) items [] all
 
 pub code_commits-put : (version : ℕ) (plan : Plan) (made : Record) (lists : List (List Digest)) → HasEntries plan lists
-    → put plan (each (race_code_commits plan) 0 (length plan.races)) (indexed race_code_commit_lines 0 lists) (with_code_commits made (replicate (length plan.races - 0) [])) ≡ with_code_commits made lists
+    → put plan (each (race_code_commits plan) 0 (length plan.races)) (indexed (race_code_commit_tree as_line) 0 lists) (with_code_commits made (replicate (length plan.races - 0) [])) ≡ with_code_commits made lists
 code_commits-put version plan made lists all =
-    put-lists plan (λ (race : ℕ). Each (λ (entry : ℕ) (x : Digest). Any x) 0 (entries_of plan race - 0)) race_code_commit_lines (race_code_commits plan)
-    (λ race. filled (spells-each version (λ (entry : ℕ) (x : Digest). Any x) (code_commit_line race) (code_commit_place race) (code_commit race) (code_commit-spells version race) 0 (entries_of plan race - 0)))
+    put-lists plan (λ (race : ℕ). Each (λ (entry : ℕ) (x : Digest). Any x) 0 (entries_of plan race - 0)) (race_code_commit_tree as_line) (race_code_commits plan)
+    (λ race. filled (spells-each version (λ (entry : ℕ) (x : Digest). Any x) (code_commit_leaf as_line race) (code_commit_leaf as_place race) (code_commit race) (code_commit-spells version race) 0 (entries_of plan race - 0)))
     (with_code_commits made) [] (λ race items done rest passes many. race_code_commits-put version plan made race items done rest passes many)
     0 (length plan.races - 0) lists [] all refl
 
@@ -123,10 +122,10 @@ with_row_commits made lists = record made { row_commits = lists }
 -- the digests of an instance
 instance_row_commits-put : (version : ℕ) (plan : Plan) (made : Record) (race instance : ℕ) (items : List RowDigests) (before after : List (List (List RowDigests))) (done rest : List (List RowDigests))
     → Each (λ (row : ℕ) (x : RowDigests). Any x) 0 (entries_of plan race - 0) items → length before ≡ race → length done ≡ instance
-    → put plan (instance_row_commits plan race instance) (instance_row_commit_lines race instance items) (with_row_commits made (before ++ (done ++ [] ∷ rest) ∷ after))
+    → put plan (instance_row_commits plan race instance) (instance_row_commit_tree as_line race instance items) (with_row_commits made (before ++ (done ++ [] ∷ rest) ∷ after))
     ≡ with_row_commits made (before ++ (done ++ items ∷ rest) ∷ after)
 instance_row_commits-put version plan made race instance items before after done rest all some many =
-    put-items plan (λ (row : ℕ) (x : RowDigests). Any x) (row_commit_line race instance) (row_commit race instance) (λ row. filled (row_commit-spells version race instance row))
+    put-items plan (λ (row : ℕ) (x : RowDigests). Any x) (row_commit_leaf as_line race instance) (row_commit race instance) (λ row. filled (row_commit-spells version race instance row))
     (λ (list : List RowDigests). with_row_commits made (before ++ (done ++ list ∷ rest) ∷ after))
     (λ row digests list any.
     put-one plan _ _ _
@@ -134,20 +133,20 @@ instance_row_commits-put version plan made race instance items before after done
     0 (entries_of plan race - 0) items [] all
 
 pub row_commits-put : (version : ℕ) (plan : Plan) (made : Record) (lists : List (List (List RowDigests))) → HasRows plan lists
-    → put plan (each (race_row_commits plan) 0 (length plan.races)) (indexed race_row_commit_lines 0 lists)
+    → put plan (each (race_row_commits plan) 0 (length plan.races)) (indexed (race_row_commit_tree as_line) 0 lists)
     (with_row_commits made (replicate (length plan.races - 0) (replicate (plan.instances - 0) []))) ≡ with_row_commits made lists
 row_commits-put version plan made lists all =
     put-lists plan (λ (race : ℕ). Each (λ (instance : ℕ). Each (λ (row : ℕ) (x : RowDigests). Any x) 0 (entries_of plan race - 0)) 0 (plan.instances - 0))
-    race_row_commit_lines (race_row_commits plan)
-    (λ race. filled (spells-each version (λ (instance : ℕ). Each (λ (row : ℕ) (x : RowDigests). Any x) 0 (entries_of plan race - 0)) (instance_row_commit_lines race) (instance_row_commit_places race)
+    (race_row_commit_tree as_line) (race_row_commits plan)
+    (λ race. filled (spells-each version (λ (instance : ℕ). Each (λ (row : ℕ) (x : RowDigests). Any x) 0 (entries_of plan race - 0)) (instance_row_commit_tree as_line race) (instance_row_commit_tree as_place race)
     (instance_row_commits plan race)
-    (λ instance. spells-each version (λ (row : ℕ) (x : RowDigests). Any x) (row_commit_line race instance) (row_commit_place race instance) (row_commit race instance)
+    (λ instance. spells-each version (λ (row : ℕ) (x : RowDigests). Any x) (row_commit_leaf as_line race instance) (row_commit_leaf as_place race instance) (row_commit race instance)
     (row_commit-spells version race instance) 0 (entries_of plan race - 0))
     0 (plan.instances - 0)))
     (with_row_commits made) (replicate (plan.instances - 0) [])
     (λ race instances before after passes some.
-    put-lists plan (λ (instance : ℕ). Each (λ (row : ℕ) (x : RowDigests). Any x) 0 (entries_of plan race - 0)) (instance_row_commit_lines race) (instance_row_commits plan race)
-    (λ instance. filled (spells-each version (λ (row : ℕ) (x : RowDigests). Any x) (row_commit_line race instance) (row_commit_place race instance) (row_commit race instance)
+    put-lists plan (λ (instance : ℕ). Each (λ (row : ℕ) (x : RowDigests). Any x) 0 (entries_of plan race - 0)) (instance_row_commit_tree as_line race) (instance_row_commits plan race)
+    (λ instance. filled (spells-each version (λ (row : ℕ) (x : RowDigests). Any x) (row_commit_leaf as_line race instance) (row_commit_leaf as_place race instance) (row_commit race instance)
     (row_commit-spells version race instance) 0 (entries_of plan race - 0)))
     (λ (l : List (List RowDigests)). with_row_commits made (before ++ l ∷ after)) []
     (λ instance items done rest all_items many. instance_row_commits-put version plan made race instance items before after done rest all_items some many)
@@ -161,27 +160,27 @@ with_rows made lists = record made { rows = lists }
 
 instance_rows-put : (version : ℕ) (plan : Plan) (made : Record) (race instance : ℕ) (items : List RowOpening) (before after : List (List (List RowOpening))) (done rest : List (List RowOpening))
     → Each (λ (row : ℕ) (x : RowOpening). Any x) 0 (entries_of plan race - 0) items → length before ≡ race → length done ≡ instance
-    → put plan (instance_rows plan race instance) (instance_row_lines instance items) (with_rows made (before ++ (done ++ [] ∷ rest) ∷ after))
+    → put plan (instance_rows plan race instance) (instance_row_tree as_line race instance items) (with_rows made (before ++ (done ++ [] ∷ rest) ∷ after))
     ≡ with_rows made (before ++ (done ++ items ∷ rest) ∷ after)
 instance_rows-put version plan made race instance items before after done rest all some many =
-    put-items plan (λ (row : ℕ) (x : RowOpening). Any x) row_line (row_opening race instance) (λ row. filled (row-spells version race instance row))
+    put-items plan (λ (row : ℕ) (x : RowOpening). Any x) (row_leaf as_line race instance) (row_opening race instance) (λ row. filled (row-spells version race instance row))
     (λ (list : List RowOpening). with_rows made (before ++ (done ++ list ∷ rest) ∷ after))
     (λ row opening list any. put-one plan _ _ _ ∙ ap (with_rows made) (append_in-seam before after race done rest instance list (opening ∷ []) some many))
     0 (entries_of plan race - 0) items [] all
 
 pub rows-put : (version : ℕ) (plan : Plan) (made : Record) (lists : List (List (List RowOpening))) → HasRows plan lists
-    → put plan (each (race_rows plan) 0 (length plan.races)) (indexed race_row_lines 0 lists)
+    → put plan (each (race_rows plan) 0 (length plan.races)) (indexed (race_row_tree as_line) 0 lists)
     (with_rows made (replicate (length plan.races - 0) (replicate (plan.instances - 0) []))) ≡ with_rows made lists
 rows-put version plan made lists all =
     put-lists plan (λ (race : ℕ). Each (λ (instance : ℕ). Each (λ (row : ℕ) (x : RowOpening). Any x) 0 (entries_of plan race - 0)) 0 (plan.instances - 0))
-    race_row_lines (race_rows plan)
-    (λ race. filled (spells-each version (λ (instance : ℕ). Each (λ (row : ℕ) (x : RowOpening). Any x) 0 (entries_of plan race - 0)) instance_row_lines (instance_row_places race) (instance_rows plan race)
-    (λ instance. spells-each version (λ (row : ℕ) (x : RowOpening). Any x) row_line (row_place race instance) (row_opening race instance) (row-spells version race instance) 0 (entries_of plan race - 0))
+    (race_row_tree as_line) (race_rows plan)
+    (λ race. filled (spells-each version (λ (instance : ℕ). Each (λ (row : ℕ) (x : RowOpening). Any x) 0 (entries_of plan race - 0)) (instance_row_tree as_line race) (instance_row_tree as_place race) (instance_rows plan race)
+    (λ instance. spells-each version (λ (row : ℕ) (x : RowOpening). Any x) (row_leaf as_line race instance) (row_leaf as_place race instance) (row_opening race instance) (row-spells version race instance) 0 (entries_of plan race - 0))
     0 (plan.instances - 0)))
     (with_rows made) (replicate (plan.instances - 0) [])
     (λ race instances before after passes some.
-    put-lists plan (λ (instance : ℕ). Each (λ (row : ℕ) (x : RowOpening). Any x) 0 (entries_of plan race - 0)) instance_row_lines (instance_rows plan race)
-    (λ instance. filled (spells-each version (λ (row : ℕ) (x : RowOpening). Any x) row_line (row_place race instance) (row_opening race instance) (row-spells version race instance) 0 (entries_of plan race - 0)))
+    put-lists plan (λ (instance : ℕ). Each (λ (row : ℕ) (x : RowOpening). Any x) 0 (entries_of plan race - 0)) (instance_row_tree as_line race) (instance_rows plan race)
+    (λ instance. filled (spells-each version (λ (row : ℕ) (x : RowOpening). Any x) (row_leaf as_line race instance) (row_leaf as_place race instance) (row_opening race instance) (row-spells version race instance) 0 (entries_of plan race - 0)))
     (λ (l : List (List RowOpening)). with_rows made (before ++ l ∷ after)) []
     (λ instance items done rest all_items many. instance_rows-put version plan made race instance items before after done rest all_items some many)
     0 (plan.instances - 0) instances [] passes refl)
@@ -243,11 +242,11 @@ with_tally-is made before after t =
 
 flags-put : (version : ℕ) (plan : Plan) (made : Record) (race : ℕ) (before after : List Tally) (flags : List (List Bool)) (places : List Bool) (totals : List ℕ) → length before ≡ race
     → HasFlags plan race flags
-    → put plan (each (instance_flags plan race) 0 plan.instances) (indexed (flag_lines race) 0 flags) (with_tally made before after (replicate (plan.instances - 0) [], (places, totals)))
+    → put plan (each (instance_flags plan race) 0 plan.instances) (indexed (flag_tree as_line race) 0 flags) (with_tally made before after (replicate (plan.instances - 0) [], (places, totals)))
     ≡ with_tally made before after (flags, (places, totals))
 flags-put version plan made race before after flags places totals some all =
     let here : length (map (λ (x : Tally). x.0) before) ≡ race = length-map before (λ (x : Tally). x.0) ∙ some in
-    put-lists plan (λ (instance : ℕ). Counts (entries_of plan race)) (flag_lines race) (instance_flags plan race)
+    put-lists plan (λ (instance : ℕ). Counts (entries_of plan race)) (flag_tree as_line race) (instance_flags plan race)
     (λ instance. filled (bits-spells version (entries_of plan race) (Flags race instance) (λ line. FlagsAt race instance (64 * line)) (due_flags plan race instance)
     (λ line. flags-spells version race instance line _)))
     (λ (l : List (List Bool)). with_tally made before after (l, (places, totals))) []
@@ -270,7 +269,7 @@ flags-put version plan made race before after flags places totals some all =
 
 places-put : (version : ℕ) (plan : Plan) (made : Record) (race : ℕ) (before after : List Tally) (flags : List (List Bool)) (places : List Bool) (totals : List ℕ) → length before ≡ race
     → HasPlaces plan race places
-    → put plan (race_places plan race) (place_lines race places) (with_tally made before after (flags, ([], totals))) ≡ with_tally made before after (flags, (places, totals))
+    → put plan (race_places plan race) (place_tree as_line race places) (with_tally made before after (flags, ([], totals))) ≡ with_tally made before after (flags, (places, totals))
 places-put version plan made race before after flags places totals some all =
     let here : length (map (λ (x : Tally). x.1.0) before) ≡ race = length-map before (λ (x : Tally). x.1.0) ∙ some in
     bits-put (entries_of plan race) plan (Places race) (due_places plan race) (λ line. filled (places-spells version race line _))
@@ -289,10 +288,10 @@ places-put version plan made race before after flags places totals some all =
 
 totals-put : (version : ℕ) (plan : Plan) (made : Record) (race : ℕ) (before after : List Tally) (flags : List (List Bool)) (places : List Bool) (totals : List ℕ) → length before ≡ race
     → HasTotals plan race totals
-    → put plan (race_totals plan race) (indexed (total_lines race) 0 totals) (with_tally made before after (flags, (places, []))) ≡ with_tally made before after (flags, (places, totals))
+    → put plan (race_totals plan race) (indexed (total_leaf as_line race) 0 totals) (with_tally made before after (flags, (places, []))) ≡ with_tally made before after (flags, (places, totals))
 totals-put version plan made race before after flags places totals some all =
     let here : length (map (λ (x : Tally). x.1.1) before) ≡ race = length-map before (λ (x : Tally). x.1.1) ∙ some in
-    put-items plan (λ (candidate : ℕ) (x : ℕ). Any x) (total_lines race) (due_totals race) (λ candidate. filled (total-spells version race candidate))
+    put-items plan (λ (candidate : ℕ) (x : ℕ). Any x) (total_leaf as_line race) (due_totals race) (λ candidate. filled (total-spells version race candidate))
     (λ (list : List ℕ). with_tally made before after (flags, (places, list)))
     (λ candidate count list any.
     put-one plan _ _ _
@@ -309,12 +308,12 @@ tally-put : (version : ℕ) (plan : Plan) (made : Record) (race : ℕ) (t : Tall
     → put plan (race_results plan race) (tally_lines race t) (with_tallies made (before ++ no_tally plan ∷ after)) ≡ with_tallies made (before ++ t ∷ after)
 tally-put version plan made race t before after is some =
     ap (put plan (race_results plan race) (tally_lines race t)) (with_tally-is made before after (no_tally plan))
-    ∙ (put-append plan (each (instance_flags plan race) 0 plan.instances) (race_places plan race ++ race_totals plan race) (indexed (flag_lines race) 0 t.0)
-    (place_lines race t.1.0 ++ indexed (total_lines race) 0 t.1.1) (with_tally made before after (no_tally plan)) (filled (flags_all-spells version plan race) t.0 is.0)
-    ∙ (ap (put plan (race_places plan race ++ race_totals plan race) (place_lines race t.1.0 ++ indexed (total_lines race) 0 t.1.1))
+    ∙ (put-append plan (each (instance_flags plan race) 0 plan.instances) (race_places plan race ++ race_totals plan race) (indexed (flag_tree as_line race) 0 t.0)
+    (place_tree as_line race t.1.0 ++ indexed (total_leaf as_line race) 0 t.1.1) (with_tally made before after (no_tally plan)) (filled (flags_all-spells version plan race) t.0 is.0)
+    ∙ (ap (put plan (race_places plan race ++ race_totals plan race) (place_tree as_line race t.1.0 ++ indexed (total_leaf as_line race) 0 t.1.1))
     (flags-put version plan made race before after t.0 [] [] some is.0)
-    ∙ (put-append plan (race_places plan race) (race_totals plan race) (place_lines race t.1.0) (indexed (total_lines race) 0 t.1.1) (with_tally made before after (t.0, ([], []))) (filled (places_all-spells version plan race) t.1.0 is.1.0)
-    ∙ (ap (put plan (race_totals plan race) (indexed (total_lines race) 0 t.1.1)) (places-put version plan made race before after t.0 t.1.0 [] some is.1.0)
+    ∙ (put-append plan (race_places plan race) (race_totals plan race) (place_tree as_line race t.1.0) (indexed (total_leaf as_line race) 0 t.1.1) (with_tally made before after (t.0, ([], []))) (filled (places_all-spells version plan race) t.1.0 is.1.0)
+    ∙ (ap (put plan (race_totals plan race) (indexed (total_leaf as_line race) 0 t.1.1)) (places-put version plan made race before after t.0 t.1.0 [] some is.1.0)
     ∙ (totals-put version plan made race before after t.0 t.1.0 t.1.1 some is.1.1 ∙ sym (with_tally-is made before after t))))))
 
 map-replicate : {A B : Type 0} (f : A → B) (count : ℕ) (x : A) → map f (replicate count x) ≡ replicate count (f x)

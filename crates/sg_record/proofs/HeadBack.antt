@@ -5,8 +5,8 @@ use Rattle.std.proofs.lemmas.List.{append-nil, append_assoc, length-append, map_
 use Rattle.std.specs.List.{flat_map}
 use Rattle.sg_lists.proofs.Options.{cond_some-then, option_map-some}
 use Rattle.sg_plan.specs.Ballots.{r_rows}
-use Rattle.sg_plan.specs.Limits.{candidate_keeps, is_version, most_instances, most_races, most_styles, race_head_keeps, run_keeps, style_keeps}
-use Rattle.sg_plan.specs.Names.{is_name_word, is_within}
+use Rattle.sg_plan.specs.Limits.{is_version, most_instances, most_races, most_styles, race_head_keeps, run_keeps, style_keeps}
+use Rattle.sg_plan.specs.Names.{is_name_word, is_within, name_keeps}
 use Rattle.sg_plan.specs.declared.plan.Plan.{Plan}
 use Rattle.sg_plan.specs.declared.plan.Race.{Race as PlanRace}
 use Rattle.sg_plan.specs.declared.plan.Run.{Run}
@@ -162,7 +162,7 @@ head-adds plan head.Races (Style name races) m kept e =
     style-adds plan name races m kept.stands.2.runs (cond_some-then (nat_lt 0 (length plan.races)) (take_style plan (Style name races)) m e)
 head-adds plan head.Races said m kept e = cc
 head-adds plan (head.Candidates left) (Cand name) m kept e =
-    if_then-claim (Adds (lines_with plan (races_but left plan.races)) (Cand name)) (candidate_keeps (last_candidates plan.races) name) (made (with_cand plan name) (behind_candidate left)) m
+    if_then-claim (Adds (lines_with plan (races_but left plan.races)) (Cand name)) (name_keeps (last_candidates plan.races) name) (made (with_cand plan name) (behind_candidate left)) m
     (λ ok.
     let some = candidates-race plan left kept in
     let one_more : (left - 1) + 1 ≡ left = omega (arith, kept.stands.1.some) in

@@ -10,8 +10,8 @@ use Rattle.sg_plan.proofs.LimitLaws.{passes_tests}
 use Rattle.sg_plan.proofs.Lists.{first_fault-None}
 use Rattle.sg_plan.proofs.NameTests.{is_within-true}
 use Rattle.sg_plan.specs.Ballots.{ballot_styles, candidates_of, entries_before, entries_of, r_rows, rows_of, style_has}
-use Rattle.sg_plan.specs.Limits.{candidate_keeps, each_keeps, fault_of, race_fits, race_head_keeps, race_keeps, races_have, run_keeps, style_fits}
-use Rattle.sg_plan.specs.Names.{is_name_word, is_within}
+use Rattle.sg_plan.specs.Limits.{each_keeps, fault_of, race_fits, race_head_keeps, race_keeps, races_have, run_keeps, style_fits}
+use Rattle.sg_plan.specs.Names.{is_name_word, is_within, name_keeps}
 use Rattle.sg_plan.specs.declared.plan.Plan.{Plan}
 use Rattle.sg_plan.specs.declared.plan.Race.{Race as PlanRace}
 use Rattle.sg_plan.specs.declared.plan.Run.{Run}
@@ -53,18 +53,18 @@ last-with (first ∷ second ∷ earlier) race name = ap (λ l. first ∷ l) (las
 
 -- the candidates of the last race
 candidates-out : (plan : Plan) (earlier : List PlanRace) (race : PlanRace) (before : List (List ℕ)) (name : List ℕ) (names : List (List ℕ)) (rest : List Said) (end : Next)
-    → each_keeps candidate_keeps before (name ∷ names) ≡ true
+    → each_keeps name_keeps before (name ∷ names) ≡ true
     → Goes (head_state (so_far plan (earlier ++ race_so_far race (before ++ (name ∷ names)) ∷ []) [] []) head.Races) rest end
     → Goes (head_state (so_far plan (earlier ++ race_so_far race before ∷ []) [] []) (head.Candidates (length (name ∷ names)))) (map Cand (name ∷ names) ++ rest) end
 unfolding take_line
 candidates-out plan earlier race before name [] rest end keeps goes =
-    let parts = and_parts (candidate_keeps before name) true keeps in
+    let parts = and_parts (name_keeps before name) true keeps in
     let now : Plan = so_far plan (earlier ++ race_so_far race before ∷ []) [] [] in
     let with : with_candidate (earlier ++ race_so_far race before ∷ []) name ≡ earlier ++ race_so_far race (before ++ name ∷ []) ∷ [] = last-with earlier (race_so_far race before) name in
     let next : Making = made (so_far plan (earlier ++ race_so_far race (before ++ name ∷ []) ∷ []) [] []) head.Races in
     (headed (Cand name) next, rw (last-candidates earlier (race_so_far race before), parts.0, with) refl, goes)
 candidates-out plan earlier race before name (second ∷ names) rest end keeps goes =
-    let parts = and_parts (candidate_keeps before name) (each_keeps candidate_keeps (before ++ name ∷ []) (second ∷ names)) keeps in
+    let parts = and_parts (name_keeps before name) (each_keeps name_keeps (before ++ name ∷ []) (second ∷ names)) keeps in
     let now : Plan = so_far plan (earlier ++ race_so_far race before ∷ []) [] [] in
     let with : with_candidate (earlier ++ race_so_far race before ∷ []) name ≡ earlier ++ race_so_far race (before ++ name ∷ []) ∷ [] = last-with earlier (race_so_far race before) name in
     let more : (length (name ∷ second ∷ names) == 1) ≡ false = ne_eqb (length (name ∷ second ∷ names)) 1 (λ e. omega (arith, e)) in
@@ -83,13 +83,13 @@ race-out : (plan : Plan) (earlier : List PlanRace) (race : PlanRace) (rest : Lis
 unfolding take_line
 race-out plan earlier race rest end fits goes =
     let parts = and_parts (nat_lt (length earlier) 32) (race_keeps earlier race) fits in
-    let keeps = and_parts (race_head_keeps earlier race.name (length race.candidates) race.votes) (each_keeps candidate_keeps [] race.candidates) parts.1 in
+    let keeps = and_parts (race_head_keeps earlier race.name (length race.candidates) race.votes) (each_keeps name_keeps [] race.candidates) parts.1 in
     let sizes = and_parts (is_name_word race.name && not (races_have earlier race.name)) (is_within 2 16 (length race.candidates) && is_within 1 (length race.candidates) race.votes) keeps.0 in
     let two = is_within-true 2 16 (length race.candidates) (and_parts (is_within 2 16 (length race.candidates)) (is_within 1 (length race.candidates) race.votes) sizes.1).0 in
     let next : Making = made (so_far plan (earlier ++ race_so_far race [] ∷ []) [] []) (head.Candidates (length race.candidates)) in
     (headed (Race race.name (length race.candidates) race.votes) next, rw (parts.0, keeps.0) refl, names race.candidates two.0 keeps.1 goes)
   where
-    names : (list : List (List ℕ)) → 2 ≤ length list → each_keeps candidate_keeps [] list ≡ true
+    names : (list : List (List ℕ)) → 2 ≤ length list → each_keeps name_keeps [] list ≡ true
         → Goes (head_state (so_far plan (earlier ++ race_so_far race list ∷ []) [] []) head.Races) rest end
         → Goes (head_state (so_far plan (earlier ++ race_so_far race [] ∷ []) [] []) (head.Candidates (length list))) (map Cand list ++ rest) end
     names [] two keep on = absurd (omega (arith, two))

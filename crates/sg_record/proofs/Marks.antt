@@ -1,6 +1,6 @@
--- The codes and the races that are over on a cast ballot, race by race.
-use Rattle.std.proofs.Common.{◌≡◌, ℕ, ◌+◌, ◌<◌, ◌≤◌, ◌==◌, ◌&&◌, true, false, cond, List, [], ◌∷◌, ◌++◌, length, map, nat_lt, nat_le, get_or, All, None, refl, sym, ap, ◌∙◌, inl, inr, arith}
-use Rattle.std.proofs.lemmas.Bool.{and_parts, eq-eqb, eqb-true, leb-true, ltb-true, ne_eqb, or_cases, true≢false}
+-- What the tests of a record's blocks say of their codes and papers.
+use Rattle.std.proofs.Common.{◌≡◌, ℕ, ◌+◌, ◌<◌, ◌≤◌, ◌==◌, ◌&&◌, true, false, List, [], ◌∷◌, ◌++◌, length, nat_lt, nat_le, get_or, All, None, refl, sym, arith}
+use Rattle.std.proofs.lemmas.Bool.{and_parts, eqb-true, leb-true, ltb-true, true≢false}
 use Rattle.std.proofs.lemmas.List.Sums.{AllPass-from_list_all}
 use Rattle.std.proofs.lemmas.List.Elements.{All-head, All-tail}
 use Rattle.std.specs.List.{list_all}
@@ -9,101 +9,42 @@ use Rattle.sg_plan.specs.Codes.{codes_of, is_code}
 use Rattle.sg_plan.specs.Limits.{fault_of}
 use Rattle.sg_plan.specs.declared.plan.Plan.{Plan}
 use Rattle.sg_forms.specs.declared.line.CodeLine.{CodeLine}
-use Rattle.sg_forms.specs.Said.Said.{Code, Over, Paper}
+use Rattle.sg_forms.specs.Said.Said.{Paper}
 use Rattle.sg_forms.specs.Spelling.{IsCode}
-use Rattle.sg_grammar.specs.Walk.{follows_in_order, is_column, is_later, is_race_left}
+use Rattle.sg_grammar.specs.Walk.{is_later}
 use Rattle.sg_record.proofs.Bounds.{few_candidates}
+use Rattle.sg_record.proofs.CastLines.{first_cast}
 use Rattle.sg_record.proofs.Columns.{IsOfRaces, codes-own, race_codes-own}
 use Rattle.sg_record.proofs.Limits.{ballot_two}
-use Rattle.sg_record.specs.Formed.{are_blocks, are_columns, are_marks, are_overs, are_papers, has_columns, is_dispute, is_fate}
+use Rattle.sg_record.specs.Formed.{are_blocks, are_cast, are_columns, are_papers, has_columns, is_dispute, is_fate}
 use Rattle.sg_record.specs.declared.record.BallotBlock.{BallotBlock}
 use Rattle.sg_record.specs.declared.record.BlockFate.TheVariants as fate
+use Rattle.sg_record.specs.declared.record.CastLine.{CastLine}
 use Rattle.sg_record.specs.declared.record.DisputeBlock.{DisputeBlock}
-use Rattle.sg_record.specs.Lines.{cast_race_lines, paper_lines}
 use Rattle.sg_record.specs.Writing.{HaveCodes}
-use Rattle.sg_record.specs.inside.Parts.{ArePapers, DoNotFall, DoRise, HaveClaims, HaveFates, has_race, of_race}
+use Rattle.sg_record.specs.inside.Parts.{ArePapers, HasCastCode, HaveCastCodes, HaveClaims, HaveFates, paper_lines}
 
--- THE CODES OF A RACE
+-- THE FIRST OF THEM
 
 -- the first of the codes, and the others
 pub first_code : (version : ℕ) (xs : List CodeLine) (x : CodeLine) (ys : List CodeLine) → xs ≡ x ∷ ys → HaveCodes version xs → IsCode version x.code × HaveCodes version ys
 first_code version xs x ys e have = rw e at have
 
-pub first_not_falling : (least : ℕ) (xs : List CodeLine) (x : CodeLine) (ys : List CodeLine) → xs ≡ x ∷ ys → DoNotFall least xs → (least ≤ x.race) × DoNotFall x.race ys
-first_not_falling least xs x ys e order = rw e at order
-
--- a code of the race is among its codes
-pub of_race_here : (race : ℕ) (xs : List CodeLine) (x : CodeLine) (ys : List CodeLine) → xs ≡ x ∷ ys → x.race ≡ race → of_race race xs ≡ x ∷ of_race race ys
-of_race_here race xs x ys e same = rw (e, eq-eqb x.race race same) refl
-
--- one of another race is not
-pub of_race_other : (race : ℕ) (xs : List CodeLine) (x : CodeLine) (ys : List CodeLine) → xs ≡ x ∷ ys → (x.race ≡ race → ⊥) → of_race race xs ≡ of_race race ys
-of_race_other race xs x ys e differ = rw (e, ne_eqb x.race race differ) refl
-
--- no code of later races is of the race
-pub none_of : (race least : ℕ) (codes : List CodeLine) → race < least → DoNotFall least codes → of_race race codes ≡ []
-none_of race least [] before order = refl
-none_of race least (x ∷ xs) before order =
-    of_race_other race (x ∷ xs) x xs refl (λ e. omega (arith, e, order.0)) ∙ none_of race x.race xs (omega (arith, order.0)) order.1
-
--- codes from this race on, the first of which is of a later one
-pub later_codes : (race : ℕ) (xs : List CodeLine) (x : CodeLine) (ys : List CodeLine) → xs ≡ x ∷ ys → (x.race ≡ race → ⊥) → DoNotFall race xs → DoNotFall (race + 1) xs
-later_codes race xs x ys e differ order =
-    let parts = first_not_falling race xs x ys e order in
-    rw e (omega (arith, parts.0, differ), parts.1)
-
--- THE RACES THAT ARE OVER
-
-pub first_rising : (least : ℕ) (xs : List ℕ) (x : ℕ) (ys : List ℕ) → xs ≡ x ∷ ys → DoRise least xs → (least ≤ x) × DoRise (x + 1) ys
-first_rising least xs x ys e order = rw e at order
-
--- no later race is this one
-pub has_no : (race least : ℕ) (overs : List ℕ) → race < least → DoRise least overs → has_race race overs ≡ false
-has_no race least [] before order = refl
-has_no race least (x ∷ xs) before order =
-    rw (ne_eqb x race (λ e. omega (arith, e, order.0))) (has_no race (x + 1) xs (omega (arith, order.0)) order.1)
-
-pub later_races : (race : ℕ) (xs : List ℕ) (x : ℕ) (ys : List ℕ) → xs ≡ x ∷ ys → (x ≡ race → ⊥) → DoRise race xs → DoRise (race + 1) xs
-later_races race xs x ys e differ order =
-    let parts = first_rising race xs x ys e order in
-    rw e (omega (arith, parts.0, differ), parts.1)
-
--- a race's lines, by its codes and whether it is over
-pub race_lines_same : (codes others : List CodeLine) (overs lasts : List ℕ) (race : ℕ) → of_race race codes ≡ of_race race others → has_race race overs ≡ has_race race lasts
-    → cast_race_lines codes overs race ≡ cast_race_lines others lasts race
-race_lines_same codes others overs lasts race same over =
-    ap (λ l. map Code l ++ cond (has_race race overs) (Over race ∷ []) []) same ∙ ap (λ b. map Code (of_race race others) ++ cond b (Over race ∷ []) []) over
+-- the first of the lines of a cast ballot, and the others
+pub first_line : (version : ℕ) (xs : List CastLine) (x : CastLine) (ys : List CastLine) → xs ≡ x ∷ ys → HaveCastCodes version xs → HasCastCode version x × HaveCastCodes version ys
+first_line version xs x ys e have = rw e at have
 
 -- FROM THE TESTS
 
 pub code_passes : (plan : Plan) (code : ℕ) → is_code plan code ≡ true → IsCode plan.version code
 code_passes plan code e = ltb-true code (codes_of plan.version) e
 
--- what the marks of a cast ballot are
-pub record Marks (plan : Plan) (race : ℕ) (codes : List CodeLine) : Type 0 where
-  pub have : HaveCodes plan.version codes
-  pub order : DoNotFall race codes
-
-pub marks : (plan : Plan) (ballot race column : ℕ) (codes : List CodeLine) → are_marks plan ballot race column codes ≡ true → Marks plan race codes
-marks plan ballot race column [] e = record { have = tt; order = tt }
-marks plan ballot race column (x ∷ xs) e =
-    let placed = is_column plan ballot x.race x.column && follows_in_order race column x.race x.column in
-    let whole = and_parts (placed && is_code plan x.code) (are_marks plan ballot x.race (x.column + 1) xs) e in
-    let here = and_parts placed (is_code plan x.code) whole.0 in
-    let order = and_parts (is_column plan ballot x.race x.column) (follows_in_order race column x.race x.column) here.0 in
-    let rest = marks plan ballot x.race (x.column + 1) xs whole.1 in
-    let low : race ≤ x.race = elim (or_cases (nat_lt race x.race) (race == x.race && nat_le column x.column) order.1) [
-      | inl less ↦ let before = ltb-true race x.race less in omega arith
-      | inr same ↦ let equal = eqb-true race x.race (and_parts (race == x.race) (nat_le column x.column) same).0 in omega arith
-    ] in
-    record { have = (code_passes plan x.code here.1, rest.have); order = (low, rest.order) }
-
-pub overs_rise : (plan : Plan) (ballot race : ℕ) (overs : List ℕ) → are_overs plan ballot race overs ≡ true → DoRise race overs
-overs_rise plan ballot race [] e = tt
-overs_rise plan ballot race (x ∷ xs) e =
-    let whole = and_parts (is_race_left plan ballot race x) (are_overs plan ballot (x + 1) xs) e in
-    let low = and_parts (nat_lt x (length plan.races) && ballot_has plan ballot x) (nat_le race x) whole.0 in
-    (leb-true race x low.1, overs_rise plan ballot (x + 1) xs whole.1)
+-- the lines of a cast ballot
+pub cast_have : (plan : Plan) (ballot race column : ℕ) (lines : List CastLine) → are_cast plan ballot race column lines ≡ true → HaveCastCodes plan.version lines
+cast_have plan ballot race column [] pass = tt
+cast_have plan ballot race column (line ∷ lines) pass =
+    let first = first_cast plan ballot race column line lines pass in
+    (first.code, cast_have plan ballot first.next.0 first.next.1 lines first.others)
 
 -- codes of columns are of the version
 pub own_codes : (plan : Plan) (races : List ℕ) (codes : List CodeLine) → All (IsOfRaces plan races) codes → HaveCodes plan.version codes

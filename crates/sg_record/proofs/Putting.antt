@@ -14,7 +14,8 @@ use Rattle.sg_forms.specs.Said.Said.{Seal}
 use Rattle.sg_forms.specs.Spelling.{spelling}
 use Rattle.sg_grammar.proofs.Each.{each-first, each-none}
 use Rattle.sg_grammar.specs.Due.{each}
-use Rattle.sg_record.specs.Lines.{block_lines, commit_lines, dispute_lines, indexed, lines_in, opening_lines, plan_lines, result_lines, seal_line, second_lines}
+use Rattle.sg_record.specs.Lines.{lines_in, plan_lines, second_lines}
+use Rattle.sg_record.specs.Tree.{as_line, block_tree, commit_tree, dispute_tree, indexed, opening_tree, result_tree, seal_tree}
 use Rattle.sg_commit.specs.Seals.{StandsFor}
 use Rattle.sg_commit.specs.declared.Sealer.{Sealer}
 use Rattle.sg_outside.specs.Streams.{AppendsFront}
@@ -187,7 +188,7 @@ list_end before now value f xs at left end =
 -- SEALS
 
 -- the seal of a section
-pub seal_is : (number : ℕ) (seals : List Digest) (digest : Digest) → slice_get seals (number - 1) ≡ Some digest → seal_line number seals ≡ Seal number digest ∷ []
+pub seal_is : (number : ℕ) (seals : List Digest) (digest : Digest) → slice_get seals (number - 1) ≡ Some digest → seal_tree as_line number seals ≡ Seal number digest ∷ []
 seal_is number seals digest e =
     let split = drop_from_slice_get seals (number - 1) digest e in
     rw split refl
@@ -238,8 +239,8 @@ each_end before now value f at end left over =
 -- THE WHOLE
 
 -- the lines of a record are those of the first two sections, and the others behind them
-pub whole-is : (posted : Record) → lines_in posted ≡ second_lines posted ++ (opening_lines posted ++ flat_map dispute_lines posted.disputes)
-whole-is posted = join (plan_lines posted.plan) (commit_lines posted) (flat_map (block_lines posted.plan) posted.ballots) (result_lines posted) (opening_lines posted ++ flat_map dispute_lines posted.disputes)
+pub whole-is : (posted : Record) → lines_in posted ≡ second_lines posted ++ (opening_tree as_line posted ++ flat_map (dispute_tree as_line) posted.disputes)
+whole-is posted = join (plan_lines posted.plan) (commit_tree as_line posted) (flat_map (block_tree as_line posted.plan) posted.ballots) (result_tree as_line posted) (opening_tree as_line posted ++ flat_map (dispute_tree as_line) posted.disputes)
   where
     join : (a b c d e : List Said) → a ++ (b ++ (c ++ (d ++ e))) ≡ ((a ++ b) ++ (c ++ d)) ++ e
     join a b c d e =

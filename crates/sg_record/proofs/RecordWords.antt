@@ -1,9 +1,9 @@
 -- The words of each line of a formed record are of their kinds, where its numbers are of their types.
-use Rattle.std.proofs.Common.{◌≡◌, ℕ, zero, suc, ◌+◌, ◌-◌, ◌*◌, ◌<◌, ◌≤◌, ◌==◌, nat_lt, nat_le, Bool, true, false, ◌&&◌, cond, List, [], ◌∷◌, ◌++◌, All, length, get_or, map, filter, take, drop, slice_index_or, None, refl, subst, arith}
+use Rattle.std.proofs.Common.{◌≡◌, ℕ, zero, suc, ◌+◌, ◌-◌, ◌*◌, ◌<◌, ◌≤◌, ◌==◌, nat_lt, nat_le, Bool, true, ◌&&◌, List, [], ◌∷◌, ◌++◌, All, length, get_or, map, take, drop, slice_index_or, None, refl, subst, arith}
 use Rattle.std.proofs.lemmas.Bool.{and_parts, eqb-true, leb-true, ltb-true}
 use Rattle.std.proofs.lemmas.List.{length-append, length-drop, length-replicate, length-take}
 use Rattle.std.proofs.lemmas.List.Elements.{All-cons, All-head, All-nil, All-tail}
-use Rattle.std.specs.List.{flat_map, list_all, list_any}
+use Rattle.std.specs.List.{flat_map, list_all}
 use Rattle.std.specs.Prelude.{replicate}
 use Rattle.sg_commit.specs.declared.Digest.{Digest}
 use Rattle.sg_plan.proofs.PlanLaws.{ballot_has-true, bounds}
@@ -18,7 +18,7 @@ use Rattle.sg_plan.specs.declared.plan.Race.{Race}
 use Rattle.sg_plan.specs.declared.plan.Run.{Run}
 use Rattle.sg_plan.specs.declared.plan.Style.{Style}
 use Rattle.sg_forms.specs.Said.{Said}
-use Rattle.sg_forms.specs.Said.Said.{Cand, Code, Flags, Over, Places, Seal}
+use Rattle.sg_forms.specs.Said.Said.{Cand, Code, Flags, Places, Seal}
 use Rattle.sg_forms.specs.Spelling.{AreFewBits, IsCode, IsInRange, IsNumber, IsRow}
 use Rattle.sg_forms.specs.declared.line.CodeLine.{CodeLine}
 use Rattle.sg_forms.specs.declared.line.RowOpening.{RowOpening}
@@ -27,7 +27,7 @@ use Rattle.sg_grammar.specs.Walk.{is_later}
 use Rattle.sg_record.proofs.Bits.{few_bits, on_line}
 use Rattle.sg_record.proofs.BytesWalk.{All-from_AreIn}
 use Rattle.sg_grammar.proofs.Making.{candidates_within}
-use Rattle.sg_record.proofs.CastLines.{first_mark}
+use Rattle.sg_record.proofs.CastLines.{cast-in_range, first_cast}
 use Rattle.sg_record.proofs.Columns.{IsOfRaces, codes-own, race_codes-own}
 use Rattle.sg_record.proofs.Filling.{AreIn, AreIn-append, Each}
 use Rattle.sg_record.proofs.FormedLists.{formed_parts}
@@ -36,14 +36,16 @@ use Rattle.sg_record.proofs.Limits.{ballot_two, limits_of, styles_of}
 use Rattle.sg_record.proofs.EachItem.{Each-get}
 use Rattle.sg_record.proofs.SectionLines.{HasFlags, HasTotals, HasEntries, HasRows}
 use Rattle.sg_record.proofs.SlotLines.{Any, Counts}
-use Rattle.sg_record.specs.Formed.{are_blocks, are_columns, are_marks, are_overs, are_papers, has_columns, is_dispute, is_draw, is_fate, is_formed}
+use Rattle.sg_record.specs.Formed.{are_blocks, are_cast, are_columns, are_papers, has_columns, is_dispute, is_draw, is_fate, is_formed}
 use Rattle.sg_record.specs.Laws.{TypedHaveWords}
-use Rattle.sg_record.specs.Lines.{block_lines, cast_race_lines, code_commit_line, commit_lines, dispute_lines, draw_line, fate_lines, flag_lines, indexed, instance_row_commit_lines, instance_row_lines, lines_in, opening_lines, paper_lines, place_lines, plan_lines, race_code_commit_lines, race_lines, race_result_lines, race_row_commit_lines, race_row_lines, result_lines, row_commit_line, row_line, run_line, signs_on, style_line, total_line}
-use Rattle.sg_record.specs.Typed.{AreDigests, AreDrawn, BlockHasKeys, DisputeHasKeys, HasKey, HaveKeys, IsDigest, IsTyped}
-use Rattle.sg_record.specs.inside.Parts.{StyleFits}
+use Rattle.sg_record.specs.Lines.{lines_in, plan_lines, race_lines, run_line, style_line}
+use Rattle.sg_record.specs.Tree.{as_line, block_tree, cast_said, code_commit_leaf, commit_tree, dispute_tree, draw_leaf, fate_tree, flag_tree, indexed, instance_row_commit_tree, instance_row_tree, opening_tree, place_tree, race_code_commit_tree, race_results_tree, race_row_commit_tree, race_row_tree, result_tree, row_commit_leaf, row_leaf, signs_on, total_leaf}
+use Rattle.sg_record.specs.Typed.{AreDigests, AreDrawn, BlockHasKeys, DisputeHasKeys, HasCastKey, HasKey, HaveKeys, IsDigest, IsTyped}
+use Rattle.sg_record.specs.inside.Parts.{StyleFits, paper_lines}
 use Rattle.sg_record.specs.declared.record.BallotBlock.{BallotBlock}
 use Rattle.sg_record.specs.declared.record.BlockFate.{BlockFate}
 use Rattle.sg_record.specs.declared.record.BlockFate.TheVariants as fate
+use Rattle.sg_record.specs.declared.record.CastLine.{CastLine}
 use Rattle.sg_record.specs.declared.record.DisputeBlock.{DisputeBlock}
 use Rattle.sg_record.specs.declared.record.Record.{Record}
 use Rattle.sg_record.specs.declared.record.RowCommit.{RowCommit as RowDigests}
@@ -125,20 +127,20 @@ any-all xs = λ k d within. tt
 seal-in : (version number : ℕ) (digest : Digest) → number < 4 → IsDigest digest → AreIn version (Seal number digest ∷ [])
 seal-in version number digest few is = ((omega (arith, few), is), tt)
 
-code_commits-in : (plan : Plan) (lists : List (List Digest)) → fault_of plan ≡ None → All (All IsDigest) lists → HasEntries plan lists → AreIn plan.version (indexed race_code_commit_lines 0 lists)
+code_commits-in : (plan : Plan) (lists : List (List Digest)) → fault_of plan ≡ None → All (All IsDigest) lists → HasEntries plan lists → AreIn plan.version (indexed (race_code_commit_tree as_line) 0 lists)
 code_commits-in plan lists fine all has =
-    items-in plan.version (All IsDigest) (λ (race : ℕ). Each (λ (entry : ℕ) (x : Digest). Any x) 0 (entries_of plan race - 0)) race_code_commit_lines 0 (length plan.races - 0) lists
-    (λ race digests within typed each_of. items-in plan.version IsDigest (λ (entry : ℕ) (x : Digest). Any x) (code_commit_line race) 0 (entries_of plan race - 0) digests
+    items-in plan.version (All IsDigest) (λ (race : ℕ). Each (λ (entry : ℕ) (x : Digest). Any x) 0 (entries_of plan race - 0)) (race_code_commit_tree as_line) 0 (length plan.races - 0) lists
+    (λ race digests within typed each_of. items-in plan.version IsDigest (λ (entry : ℕ) (x : Digest). Any x) (code_commit_leaf as_line race) 0 (entries_of plan race - 0) digests
     (λ entry digest below is any. ((omega (arith, within, (bounds plan fine).few_races), is), tt)) typed each_of) all has
 
 row_commits-in : (plan : Plan) (lists : List (List (List RowDigests))) → fault_of plan ≡ None → All (All (All AreDigests)) lists → HasRows plan lists
-    → AreIn plan.version (indexed race_row_commit_lines 0 lists)
+    → AreIn plan.version (indexed (race_row_commit_tree as_line) 0 lists)
 row_commits-in plan lists fine all has =
     items-in plan.version (All (All AreDigests)) (λ (race : ℕ). Each (λ (instance : ℕ). Each (λ (row : ℕ) (x : RowDigests). Any x) 0 (entries_of plan race - 0)) 0 (plan.instances - 0))
-    race_row_commit_lines 0 (length plan.races - 0) lists
+    (race_row_commit_tree as_line) 0 (length plan.races - 0) lists
     (λ race instances within typed here. items-in plan.version (All AreDigests) (λ (instance : ℕ). Each (λ (row : ℕ) (x : RowDigests). Any x) 0 (entries_of plan race - 0))
-    (instance_row_commit_lines race) 0 (plan.instances - 0) instances
-    (λ instance rows inside digests each_of. items-in plan.version AreDigests (λ (row : ℕ) (x : RowDigests). Any x) (row_commit_line race instance) 0 (entries_of plan race - 0) rows
+    (instance_row_commit_tree as_line race) 0 (plan.instances - 0) instances
+    (λ instance rows inside digests each_of. items-in plan.version AreDigests (λ (row : ℕ) (x : RowDigests). Any x) (row_commit_leaf as_line race instance) 0 (entries_of plan race - 0) rows
     (λ row commit below are any. ((omega (arith, within, (bounds plan fine).few_races), omega (arith, inside, (bounds plan fine).few_instances), are.0, are.1), tt)) digests each_of) typed here) all has
 
 -- SECTION 2: CODES
@@ -151,30 +153,12 @@ codes-in : (version : ℕ) (codes : List CodeLine) → All (IsIn version) codes 
 codes-in version [] all = tt
 codes-in version (code ∷ codes) all = (All-head (IsIn version) code codes all, codes-in version codes (All-tail (IsIn version) code codes all))
 
-filter-in : (version race : ℕ) (codes : List CodeLine) → All (IsIn version) codes → AreIn version (map Code (filter (λ code. code.race == race) codes))
-filter-in version race [] all = tt
-filter-in version race (code ∷ codes) all =
-    at_test (filter (λ c. c.race == race) codes) (code.race == race) (All-head (IsIn version) code codes all) (filter-in version race codes (All-tail (IsIn version) code codes all))
-  where
-    at_test : (rest : List CodeLine) (b : Bool) → IsIn version code → AreIn version (map Code rest) → AreIn version (map Code (cond b (code ∷ rest) rest))
-    at_test rest true first others = (first, others)
-    at_test rest false first others = others
-
 -- a code of a column of the race
 code-in : (plan : Plan) (code : CodeLine) → fault_of plan ≡ None → code.race < length plan.races → code.column < candidates_of plan code.race → is_code plan code.code ≡ true → HasKey code
     → IsIn plan.version code
 code-in plan code fine within below is key =
     let sizes = bounds plan fine in
     (omega (arith, within, sizes.few_races), omega (arith, below, sizes.few_candidates code.race), key, ltb-true code.code (codes_of plan.version) is)
-
-marks-in : (plan : Plan) (ballot race column : ℕ) (codes : List CodeLine) → fault_of plan ≡ None → are_marks plan ballot race column codes ≡ true → All HasKey codes → All (IsIn plan.version) codes
-marks-in plan ballot race column [] fine marks keys = All-nil (IsIn plan.version)
-marks-in plan ballot race column (code ∷ codes) fine marks keys =
-    let first = first_mark plan ballot race column code codes marks in
-    let sides = and_parts (ballot_has plan ballot code.race && nat_lt code.column (candidates_of plan code.race)) _ first.place in
-    let below = ltb-true code.column (candidates_of plan code.race) (and_parts (ballot_has plan ballot code.race) (nat_lt code.column (candidates_of plan code.race)) sides.0).1 in
-    All-cons (IsIn plan.version) code codes (code-in plan code fine first.within below first.is (All-head HasKey code codes keys))
-    (marks-in plan ballot code.race (code.column + 1) codes fine first.others (All-tail HasKey code codes keys))
 
 own-in : (plan : Plan) (races : List ℕ) (codes : List CodeLine) → fault_of plan ≡ None → All (IsOfRaces plan races) codes → All HasKey codes → All (IsIn plan.version) codes
 own-in plan races codes fine own keys = λ k d within.
@@ -183,15 +167,14 @@ own-in plan races codes fine own keys = λ k d within.
 
 -- SECTION 2: BLOCKS
 
-cast_race-in : (plan : Plan) (codes : List CodeLine) (overs : List ℕ) (race : ℕ) → fault_of plan ≡ None → race < length plan.races → All (IsIn plan.version) codes
-    → AreIn plan.version (cast_race_lines codes overs race)
-cast_race-in plan codes overs race fine within all =
-    AreIn-append plan.version (map Code (filter (λ code. code.race == race) codes)) (cond (list_any (λ over. over == race) overs) (Over race ∷ []) [])
-    (filter-in plan.version race codes all) (at_over (list_any (λ over. over == race) overs))
-  where
-    at_over : (b : Bool) → AreIn plan.version (cond b (Over race ∷ []) [])
-    at_over true = (omega (arith, within, (bounds plan fine).few_races), tt)
-    at_over false = tt
+cast-in : (plan : Plan) (ballot race column : ℕ) (lines : List CastLine) → fault_of plan ≡ None → are_cast plan ballot race column lines ≡ true → All HasCastKey lines
+    → AreIn plan.version (map cast_said lines)
+cast-in plan ballot race column [] fine pass keys = tt
+cast-in plan ballot race column (line ∷ lines) fine pass keys =
+    let first = first_cast plan ballot race column line lines pass in (
+      cast-in_range plan ballot race column line first.next fine first.stands (All-head HasCastKey line lines keys),
+      cast-in plan ballot first.next.0 first.next.1 lines fine first.others (All-tail HasCastKey line lines keys),
+    )
 
 papers-in : (plan : Plan) (races : List ℕ) (papers : List (List ℕ)) → fault_of plan ≡ None → All (λ race. 2 ≤ candidates_of plan race) races → are_papers plan races papers ≡ true
     → AreIn plan.version (paper_lines races papers)
@@ -214,13 +197,8 @@ papers-in plan (race ∷ races) (list ∷ papers) fine two are =
         let parts = and_parts (is_code plan code) (list_all (is_code plan) codes) e in
         All-cons (IsCode plan.version) code codes (ltb-true code (codes_of plan.version) parts.0) (all_codes codes parts.1)
 
-fate-in : (plan : Plan) (ballot : ℕ) (what : BlockFate) → fault_of plan ≡ None → ballot ≤ ballots_of plan → is_fate plan ballot what ≡ true → HaveKeys what → AreIn plan.version (fate_lines plan ballot what)
-fate-in plan ballot (fate.Cast codes overs) fine last passes keys =
-    let parts = and_parts (are_marks plan ballot 0 0 codes) (are_overs plan ballot 0 overs) passes in
-    let all = marks-in plan ballot 0 0 codes fine parts.0 keys in (
-      omega (arith, last, (bounds plan fine).few_ballots),
-      numbered-in plan.version (cast_race_lines codes overs) 0 (length plan.races - 0) (λ race a b. cast_race-in plan codes overs race fine (omega (arith, b)) all),
-    )
+fate-in : (plan : Plan) (ballot : ℕ) (what : BlockFate) → fault_of plan ≡ None → ballot ≤ ballots_of plan → is_fate plan ballot what ≡ true → HaveKeys what → AreIn plan.version (fate_tree as_line plan ballot what)
+fate-in plan ballot (fate.Cast lines) fine last passes keys = (omega (arith, last, (bounds plan fine).few_ballots), cast-in plan ballot 0 0 lines fine passes keys)
 fate-in plan ballot fate.Spoiled fine last passes keys = (omega (arith, last, (bounds plan fine).few_ballots), tt)
 fate-in plan ballot (fate.Audited papers codes) fine last passes keys =
     let parts = and_parts (are_papers plan (races_of_ballot plan ballot) papers) (are_columns plan (races_of_ballot plan ballot) codes) passes in (
@@ -231,13 +209,13 @@ fate-in plan ballot (fate.Audited papers codes) fine last passes keys =
     )
 fate-in plan ballot fate.Voided fine last passes keys = (omega (arith, last, (bounds plan fine).few_ballots), tt)
 
-blocks-in : (plan : Plan) (last : ℕ) (blocks : List BallotBlock) → fault_of plan ≡ None → are_blocks plan last blocks ≡ true → All BlockHasKeys blocks → AreIn plan.version (flat_map (block_lines plan) blocks)
+blocks-in : (plan : Plan) (last : ℕ) (blocks : List BallotBlock) → fault_of plan ≡ None → are_blocks plan last blocks ≡ true → All BlockHasKeys blocks → AreIn plan.version (flat_map (block_tree as_line plan) blocks)
 blocks-in plan last [] fine pass keys = tt
 blocks-in plan last (one ∷ blocks) fine pass keys =
     let parts = and_parts (is_later plan last one.ballot && is_fate plan one.ballot one.fate) (are_blocks plan one.ballot blocks) pass in
     let first = and_parts (is_later plan last one.ballot) (is_fate plan one.ballot one.fate) parts.0 in
     let most = leb-true one.ballot (ballots_of plan) (and_parts (nat_lt last one.ballot) (nat_le one.ballot (ballots_of plan)) first.0).1 in
-    AreIn-append plan.version (block_lines plan one) (flat_map (block_lines plan) blocks) (fate-in plan one.ballot one.fate fine most first.1 (All-head BlockHasKeys one blocks keys))
+    AreIn-append plan.version (block_tree as_line plan one) (flat_map (block_tree as_line plan) blocks) (fate-in plan one.ballot one.fate fine most first.1 (All-head BlockHasKeys one blocks keys))
     (blocks-in plan one.ballot blocks fine parts.1 (All-tail BlockHasKeys one blocks keys))
 
 -- SECTION 2: THE RESULTS
@@ -251,31 +229,31 @@ signs-in bits line within =
 
 race_results-in : (plan : Plan) (race : ℕ) (flags : List (List Bool)) (places : List Bool) (totals : List ℕ) → fault_of plan ≡ None → race < length plan.races → HasFlags plan race flags
     → HasTotals plan race totals → All IsNumber totals
-    → AreIn plan.version (indexed (flag_lines race) 0 flags ++ (place_lines race places ++ indexed (total_line race) 0 totals))
+    → AreIn plan.version (indexed (flag_tree as_line race) 0 flags ++ (place_tree as_line race places ++ indexed (total_leaf as_line race) 0 totals))
 race_results-in plan race flags places totals fine within has_flags has_totals numbers =
     let sizes = bounds plan fine in
     let small : IsNumber race = omega (arith, within, sizes.few_races) in
-    AreIn-append plan.version (indexed (flag_lines race) 0 flags) (place_lines race places ++ indexed (total_line race) 0 totals)
-    (items-in plan.version (λ (bits : List Bool). Any bits) (λ (instance : ℕ). Counts (entries_of plan race)) (flag_lines race) 0 (plan.instances - 0) flags
+    AreIn-append plan.version (indexed (flag_tree as_line race) 0 flags) (place_tree as_line race places ++ indexed (total_leaf as_line race) 0 totals)
+    (items-in plan.version (λ (bits : List Bool). Any bits) (λ (instance : ℕ). Counts (entries_of plan race)) (flag_tree as_line race) 0 (plan.instances - 0) flags
     (λ instance bits inside any many. numbered-in plan.version (λ line. Flags race instance (signs_on bits line) ∷ []) 0 (lines_for (length bits) - 0)
     (λ line a b. ((small, omega (arith, inside, sizes.few_instances), signs-in bits line (omega (arith, b))), tt))) (any-all flags) has_flags)
-    (AreIn-append plan.version (place_lines race places) (indexed (total_line race) 0 totals)
+    (AreIn-append plan.version (place_tree as_line race places) (indexed (total_leaf as_line race) 0 totals)
     (numbered-in plan.version (λ line. Places race (signs_on places line) ∷ []) 0 (lines_for (length places) - 0) (λ line a b. ((small, signs-in places line (omega (arith, b))), tt)))
-    (items-in plan.version IsNumber (λ (candidate : ℕ) (x : ℕ). Any x) (total_line race) 0 (candidates_of plan race - 0) totals
+    (items-in plan.version IsNumber (λ (candidate : ℕ) (x : ℕ). Any x) (total_leaf as_line race) 0 (candidates_of plan race - 0) totals
     (λ candidate count inside number any. ((small, omega (arith, inside, sizes.few_candidates race), number), tt)) numbers has_totals))
 
 -- SECTION 3
 
-rows-in : (plan : Plan) (lists : List (List (List RowOpening))) → All (All (All IsRow)) lists → HasRows plan lists → AreIn plan.version (indexed race_row_lines 0 lists)
+rows-in : (plan : Plan) (lists : List (List (List RowOpening))) → All (All (All IsRow)) lists → HasRows plan lists → AreIn plan.version (indexed (race_row_tree as_line) 0 lists)
 rows-in plan lists all has =
     items-in plan.version (All (All IsRow)) (λ (race : ℕ). Each (λ (instance : ℕ). Each (λ (row : ℕ) (x : RowOpening). Any x) 0 (entries_of plan race - 0)) 0 (plan.instances - 0))
-    race_row_lines 0 (length plan.races - 0) lists
+    (race_row_tree as_line) 0 (length plan.races - 0) lists
     (λ race instances within typed here. items-in plan.version (All IsRow) (λ (instance : ℕ). Each (λ (row : ℕ) (x : RowOpening). Any x) 0 (entries_of plan race - 0))
-    instance_row_lines 0 (plan.instances - 0) instances
-    (λ instance rows inside openings each_of. items-in plan.version IsRow (λ (row : ℕ) (x : RowOpening). Any x) row_line 0 (entries_of plan race - 0) rows
+    (instance_row_tree as_line race) 0 (plan.instances - 0) instances
+    (λ instance rows inside openings each_of. items-in plan.version IsRow (λ (row : ℕ) (x : RowOpening). Any x) (row_leaf as_line race instance) 0 (entries_of plan race - 0) rows
     (λ row opening below is any. (is, tt)) openings each_of) typed here) all has
 
-draw-in : (version : ℕ) (draw : Draw) → is_draw draw ≡ true → AreDrawn draw → IsInRange version (draw_line draw)
+draw-in : (version : ℕ) (draw : Draw) → is_draw draw ≡ true → AreDrawn draw → IsInRange version (draw_leaf as_line draw)
 draw-in version drawn.Full is are = tt
 draw-in version (drawn.Public bytes) is are =
     let parts = and_parts (nat_le 1 (length bytes)) (nat_le (length bytes) 4096) is in
@@ -284,7 +262,7 @@ draw-in version (drawn.Public bytes) is are =
 -- SECTION 4
 
 disputes-in : (plan : Plan) (disputes : List DisputeBlock) → fault_of plan ≡ None → list_all (is_dispute plan) disputes ≡ true → All DisputeHasKeys disputes
-    → AreIn plan.version (flat_map dispute_lines disputes)
+    → AreIn plan.version (flat_map (dispute_tree as_line) disputes)
 disputes-in plan [] fine pass keys = tt
 disputes-in plan (one ∷ disputes) fine pass keys =
     let parts = and_parts (is_dispute plan one) (list_all (is_dispute plan) disputes) pass in
@@ -295,7 +273,7 @@ disputes-in plan (one ∷ disputes) fine pass keys =
     let within = ltb-true one.race (length plan.races) names.0 in
     let last = (ballot_has-true plan one.ballot one.race names.1).last in
     let sizes = bounds plan fine in
-    AreIn-append plan.version (dispute_lines one) (flat_map dispute_lines disputes) (
+    AreIn-append plan.version (dispute_tree as_line one) (flat_map (dispute_tree as_line) disputes) (
       (omega (arith, last, sizes.few_ballots), omega (arith, within, sizes.few_races), ltb-true one.code (codes_of plan.version) tests.1),
       codes-in plan.version one.codes (own-in plan (one.race ∷ []) one.codes fine (race_codes-own plan one.race [] one.codes sides.1) (All-head DisputeHasKeys one disputes keys)),
     )
@@ -317,18 +295,18 @@ record-in posted typed formed =
     let is = form.is in
     let fine = is.fine in
     let seals = three_typed form.first form.second form.third (subst (λ (l : List Digest). All IsDigest l) is.seals typed.seals) in
-    let blocks : List Said = flat_map (block_lines posted.plan) posted.ballots in
-    let disputes : List Said = flat_map dispute_lines posted.disputes in
-    let commits : AreIn version (commit_lines posted)
+    let blocks : List Said = flat_map (block_tree as_line posted.plan) posted.ballots in
+    let disputes : List Said = flat_map (dispute_tree as_line) posted.disputes in
+    let commits : AreIn version (commit_tree as_line posted)
     = rw is.seals
-    (AreIn-append version (indexed race_code_commit_lines 0 posted.code_commits) (indexed race_row_commit_lines 0 posted.row_commits ++ Seal 1 form.first ∷ [])
+    (AreIn-append version (indexed (race_code_commit_tree as_line) 0 posted.code_commits) (indexed (race_row_commit_tree as_line) 0 posted.row_commits ++ Seal 1 form.first ∷ [])
     (code_commits-in plan posted.code_commits fine typed.code_commits is.commits.0)
-    (AreIn-append version (indexed race_row_commit_lines 0 posted.row_commits) (Seal 1 form.first ∷ []) (row_commits-in plan posted.row_commits fine typed.row_commits is.commits.1.0)
+    (AreIn-append version (indexed (race_row_commit_tree as_line) 0 posted.row_commits) (Seal 1 form.first ∷ []) (row_commits-in plan posted.row_commits fine typed.row_commits is.commits.1.0)
     (seal-in version 1 form.first (omega arith) seals.0))) in
-    let results : AreIn version (result_lines posted)
+    let results : AreIn version (result_tree as_line posted)
     = rw is.seals
-    (AreIn-append version (each (race_result_lines posted) 0 (length posted.plan.races)) (Seal 2 form.second ∷ [])
-    (numbered-in version (race_result_lines posted) 0 (length posted.plan.races - 0)
+    (AreIn-append version (each (race_results_tree as_line posted) 0 (length posted.plan.races)) (Seal 2 form.second ∷ [])
+    (numbered-in version (race_results_tree as_line posted) 0 (length posted.plan.races - 0)
     (λ race a b.
     let within : race < length posted.plan.races - 0 = omega (arith, b) in
     race_results-in plan race (slice_index_or posted.flags race []) (slice_index_or posted.places race []) (slice_index_or posted.totals race []) fine (omega (arith, b))
@@ -336,16 +314,16 @@ record-in posted typed formed =
     (Each-get (HasTotals plan) (length posted.plan.races - 0) race posted.totals [] is.results.0.1.1 within)
     (numbers_at race posted.totals typed.totals)))
     (seal-in version 2 form.second (omega arith) seals.1)) in
-    let openings : AreIn version (opening_lines posted)
+    let openings : AreIn version (opening_tree as_line posted)
     = rw is.seals (
       draw,
-      AreIn-append version (indexed race_row_lines 0 posted.rows) (Seal 3 form.third ∷ []) (rows-in plan posted.rows typed.rows is.results.1.1.1.0) (seal-in version 3 form.third (omega arith) seals.2),
+      AreIn-append version (indexed (race_row_tree as_line) 0 posted.rows) (Seal 3 form.third ∷ []) (rows-in plan posted.rows typed.rows is.results.1.1.1.0) (seal-in version 3 form.third (omega arith) seals.2),
     ) in
-    AreIn-append version (plan_lines posted.plan) (commit_lines posted ++ (blocks ++ (result_lines posted ++ (opening_lines posted ++ disputes)))) (plan-in plan fine)
-    (AreIn-append version (commit_lines posted) (blocks ++ (result_lines posted ++ (opening_lines posted ++ disputes))) commits
-    (AreIn-append version blocks (result_lines posted ++ (opening_lines posted ++ disputes)) (blocks-in plan 0 posted.ballots fine is.blocks typed.ballots)
-    (AreIn-append version (result_lines posted) (opening_lines posted ++ disputes) results
-    (AreIn-append version (opening_lines posted) disputes openings (disputes-in plan posted.disputes fine is.disputes typed.disputes)))))
+    AreIn-append version (plan_lines posted.plan) (commit_tree as_line posted ++ (blocks ++ (result_tree as_line posted ++ (opening_tree as_line posted ++ disputes)))) (plan-in plan fine)
+    (AreIn-append version (commit_tree as_line posted) (blocks ++ (result_tree as_line posted ++ (opening_tree as_line posted ++ disputes))) commits
+    (AreIn-append version blocks (result_tree as_line posted ++ (opening_tree as_line posted ++ disputes)) (blocks-in plan 0 posted.ballots fine is.blocks typed.ballots)
+    (AreIn-append version (result_tree as_line posted) (opening_tree as_line posted ++ disputes) results
+    (AreIn-append version (opening_tree as_line posted) disputes openings (disputes-in plan posted.disputes fine is.disputes typed.disputes)))))
   where
     numbers_at : (race : ℕ) (lists : List (List ℕ)) → All (All IsNumber) lists → All IsNumber (slice_index_or lists race [])
     numbers_at race [] all = All-nil IsNumber

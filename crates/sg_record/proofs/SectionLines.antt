@@ -16,8 +16,7 @@ use Rattle.sg_record.proofs.DrawLine.{IsDraw, draw-spells}
 use Rattle.sg_record.proofs.EachItem.{Each-length, Each-zipped, numbered-indexed, unzipped, zipped, zipped-get, zipped-length, zipped-one}
 use Rattle.sg_record.proofs.Filling.{Each, Spells, spells-change, spells-each, spells-lines, spells-pair}
 use Rattle.sg_record.proofs.SlotLines.{Any, Counts, code_commit-spells, flags-spells, places-spells, row-spells, row_commit-spells, seal-spells, total-spells}
-use Rattle.sg_record.specs.Lines.{code_commit_line, draw_line, flag_lines, indexed, instance_row_commit_lines, instance_row_lines, place_lines, race_code_commit_lines, race_row_commit_lines, race_row_lines, row_commit_line, row_line, total_line as total_lines}
-use Rattle.sg_record.specs.Places.{code_commit_place, draw_place, flag_places, instance_row_commit_places, instance_row_places, race_code_commit_places, race_row_commit_places, race_row_places, row_commit_place, row_place, set_places, total_place}
+use Rattle.sg_record.specs.Tree.{as_line, as_place, code_commit_leaf, draw_leaf, flag_tree, indexed, instance_row_commit_tree, instance_row_tree, place_tree, race_code_commit_tree, race_row_commit_tree, race_row_tree, row_commit_leaf, row_leaf, total_leaf}
 use Rattle.sg_record.specs.declared.record.RowCommit.{RowCommit as RowDigests}
 
 -- SECTION 1
@@ -31,19 +30,19 @@ abbrev pub HasRows : {A : Type 0} → Plan → List (List (List A)) → Type 0
 HasRows {A} plan lists =
     Each (λ (race : ℕ). Each (λ (instance : ℕ). Each (λ (row : ℕ) (x : A). Any x) 0 (entries_of plan race - 0)) 0 (plan.instances - 0)) 0 (length plan.races - 0) lists
 
-pub code_commits-spells : (version : ℕ) (plan : Plan) → Spells version (HasEntries {A = Digest} plan) (indexed race_code_commit_lines 0) (indexed race_code_commit_places 0) (each (race_code_commits plan) 0 (length plan.races))
+pub code_commits-spells : (version : ℕ) (plan : Plan) → Spells version (HasEntries {A = Digest} plan) (indexed (race_code_commit_tree as_line) 0) (indexed (race_code_commit_tree as_place) 0) (each (race_code_commits plan) 0 (length plan.races))
 code_commits-spells version plan =
-    spells-each version (λ (race : ℕ). Each (λ (entry : ℕ) (x : Digest). Any x) 0 (entries_of plan race - 0)) race_code_commit_lines race_code_commit_places (race_code_commits plan)
-    (λ race. spells-each version (λ (entry : ℕ) (x : Digest). Any x) (code_commit_line race) (code_commit_place race) (code_commit race) (code_commit-spells version race) 0 (entries_of plan race - 0))
+    spells-each version (λ (race : ℕ). Each (λ (entry : ℕ) (x : Digest). Any x) 0 (entries_of plan race - 0)) (race_code_commit_tree as_line) (race_code_commit_tree as_place) (race_code_commits plan)
+    (λ race. spells-each version (λ (entry : ℕ) (x : Digest). Any x) (code_commit_leaf as_line race) (code_commit_leaf as_place race) (code_commit race) (code_commit-spells version race) 0 (entries_of plan race - 0))
     0 (length plan.races - 0)
 
-pub row_commits-spells : (version : ℕ) (plan : Plan) → Spells version (HasRows {A = RowDigests} plan) (indexed race_row_commit_lines 0) (indexed race_row_commit_places 0) (each (race_row_commits plan) 0 (length plan.races))
+pub row_commits-spells : (version : ℕ) (plan : Plan) → Spells version (HasRows {A = RowDigests} plan) (indexed (race_row_commit_tree as_line) 0) (indexed (race_row_commit_tree as_place) 0) (each (race_row_commits plan) 0 (length plan.races))
 row_commits-spells version plan =
     spells-each version (λ (race : ℕ). Each (λ (instance : ℕ). Each (λ (row : ℕ) (x : RowDigests). Any x) 0 (entries_of plan race - 0)) 0 (plan.instances - 0))
-    race_row_commit_lines race_row_commit_places (race_row_commits plan)
-    (λ race. spells-each version (λ (instance : ℕ). Each (λ (row : ℕ) (x : RowDigests). Any x) 0 (entries_of plan race - 0)) (instance_row_commit_lines race) (instance_row_commit_places race)
+    (race_row_commit_tree as_line) (race_row_commit_tree as_place) (race_row_commits plan)
+    (λ race. spells-each version (λ (instance : ℕ). Each (λ (row : ℕ) (x : RowDigests). Any x) 0 (entries_of plan race - 0)) (instance_row_commit_tree as_line race) (instance_row_commit_tree as_place race)
     (instance_row_commits plan race)
-    (λ instance. spells-each version (λ (row : ℕ) (x : RowDigests). Any x) (row_commit_line race instance) (row_commit_place race instance) (row_commit race instance) (row_commit-spells version race instance)
+    (λ instance. spells-each version (λ (row : ℕ) (x : RowDigests). Any x) (row_commit_leaf as_line race instance) (row_commit_leaf as_place race instance) (row_commit race instance) (row_commit-spells version race instance)
     0 (entries_of plan race - 0))
     0 (plan.instances - 0))
     0 (length plan.races - 0)
@@ -56,19 +55,19 @@ abbrev pub AreCommits : Plan → Commits → Type 0
 AreCommits plan c = HasEntries plan c.0 × (HasRows plan c.1.0 × Any c.1.1)
 
 abbrev pub lines_of_commits : Commits → List Said
-lines_of_commits c = indexed race_code_commit_lines 0 c.0 ++ (indexed race_row_commit_lines 0 c.1.0 ++ Seal 1 c.1.1 ∷ [])
+lines_of_commits c = indexed (race_code_commit_tree as_line) 0 c.0 ++ (indexed (race_row_commit_tree as_line) 0 c.1.0 ++ Seal 1 c.1.1 ∷ [])
 
 abbrev pub places_of_commits : Commits → List Placed
-places_of_commits c = indexed race_code_commit_places 0 c.0 ++ (indexed race_row_commit_places 0 c.1.0 ++ SealAt 1 c.1.1 ∷ [])
+places_of_commits c = indexed (race_code_commit_tree as_place) 0 c.0 ++ (indexed (race_row_commit_tree as_place) 0 c.1.0 ++ SealAt 1 c.1.1 ∷ [])
 
 pub commits-spells : (version : ℕ) (plan : Plan) → Spells version (AreCommits plan) lines_of_commits places_of_commits (commits plan)
 commits-spells version plan =
     spells-pair version (HasEntries plan) (λ (c : List (List (List RowDigests)) × Digest). HasRows plan c.0 × Any c.1)
-    (indexed race_code_commit_lines 0) (λ (c : List (List (List RowDigests)) × Digest). indexed race_row_commit_lines 0 c.0 ++ Seal 1 c.1 ∷ [])
-    (indexed race_code_commit_places 0) (λ (c : List (List (List RowDigests)) × Digest). indexed race_row_commit_places 0 c.0 ++ SealAt 1 c.1 ∷ [])
+    (indexed (race_code_commit_tree as_line) 0) (λ (c : List (List (List RowDigests)) × Digest). indexed (race_row_commit_tree as_line) 0 c.0 ++ Seal 1 c.1 ∷ [])
+    (indexed (race_code_commit_tree as_place) 0) (λ (c : List (List (List RowDigests)) × Digest). indexed (race_row_commit_tree as_place) 0 c.0 ++ SealAt 1 c.1 ∷ [])
     (each (race_code_commits plan) 0 (length plan.races)) (each (race_row_commits plan) 0 (length plan.races) ++ slot.Seal 1 ∷ [])
     (code_commits-spells version plan)
-    (spells-pair version (HasRows plan) Any (indexed race_row_commit_lines 0) (λ (digest : Digest). Seal 1 digest ∷ []) (indexed race_row_commit_places 0) (λ (digest : Digest). SealAt 1 digest ∷ [])
+    (spells-pair version (HasRows plan) Any (indexed (race_row_commit_tree as_line) 0) (λ (digest : Digest). Seal 1 digest ∷ []) (indexed (race_row_commit_tree as_place) 0) (λ (digest : Digest). SealAt 1 digest ∷ [])
     (each (race_row_commits plan) 0 (length plan.races)) (slot.Seal 1 ∷ [])
     (row_commits-spells version plan) (seal-spells version 1))
 
@@ -91,33 +90,33 @@ abbrev pub IsTally : Plan → ℕ → Tally → Type 0
 IsTally plan race t = HasFlags plan race t.0 × (HasPlaces plan race t.1.0 × HasTotals plan race t.1.1)
 
 abbrev pub tally_lines : ℕ → Tally → List Said
-tally_lines race t = indexed (flag_lines race) 0 t.0 ++ (place_lines race t.1.0 ++ indexed (total_lines race) 0 t.1.1)
+tally_lines race t = indexed (flag_tree as_line race) 0 t.0 ++ (place_tree as_line race t.1.0 ++ indexed (total_leaf as_line race) 0 t.1.1)
 
 abbrev pub tally_places : ℕ → Tally → List Placed
-tally_places race t = indexed (flag_places race) 0 t.0 ++ (set_places race t.1.0 ++ indexed (total_place race) 0 t.1.1)
+tally_places race t = indexed (flag_tree as_place race) 0 t.0 ++ (place_tree as_place race t.1.0 ++ indexed (total_leaf as_place race) 0 t.1.1)
 
 pub flags_all-spells : (version : ℕ) (plan : Plan) (race : ℕ)
-    → Spells version (HasFlags plan race) (indexed (flag_lines race) 0) (indexed (flag_places race) 0) (each (instance_flags plan race) 0 plan.instances)
+    → Spells version (HasFlags plan race) (indexed (flag_tree as_line race) 0) (indexed (flag_tree as_place race) 0) (each (instance_flags plan race) 0 plan.instances)
 flags_all-spells version plan race =
-    spells-each version (λ (instance : ℕ). Counts (entries_of plan race)) (flag_lines race) (flag_places race) (instance_flags plan race)
+    spells-each version (λ (instance : ℕ). Counts (entries_of plan race)) (flag_tree as_line race) (flag_tree as_place race) (instance_flags plan race)
     (λ instance. bits-spells version (entries_of plan race) (Flags race instance) (λ line. FlagsAt race instance (64 * line)) (due_flags plan race instance)
     (λ line. flags-spells version race instance line _))
     0 (plan.instances - 0)
 
-pub places_all-spells : (version : ℕ) (plan : Plan) (race : ℕ) → Spells version (HasPlaces plan race) (place_lines race) (set_places race) (race_places plan race)
+pub places_all-spells : (version : ℕ) (plan : Plan) (race : ℕ) → Spells version (HasPlaces plan race) (place_tree as_line race) (place_tree as_place race) (race_places plan race)
 places_all-spells version plan race = bits-spells version (entries_of plan race) (Places race) (λ line. PlacesAt race (64 * line)) (due_places plan race) (λ line. places-spells version race line _)
 
 pub tally-spells : (version : ℕ) (plan : Plan) (race : ℕ) → Spells version (IsTally plan race) (tally_lines race) (tally_places race) (race_results plan race)
 tally-spells version plan race =
     spells-pair version (HasFlags plan race) (λ (t : List Bool × List ℕ). HasPlaces plan race t.0 × HasTotals plan race t.1)
-    (indexed (flag_lines race) 0) (λ (t : List Bool × List ℕ). place_lines race t.0 ++ indexed (total_lines race) 0 t.1)
-    (indexed (flag_places race) 0) (λ (t : List Bool × List ℕ). set_places race t.0 ++ indexed (total_place race) 0 t.1)
+    (indexed (flag_tree as_line race) 0) (λ (t : List Bool × List ℕ). place_tree as_line race t.0 ++ indexed (total_leaf as_line race) 0 t.1)
+    (indexed (flag_tree as_place race) 0) (λ (t : List Bool × List ℕ). place_tree as_place race t.0 ++ indexed (total_leaf as_place race) 0 t.1)
     (each (instance_flags plan race) 0 plan.instances) (race_places plan race ++ race_totals plan race)
     (flags_all-spells version plan race)
-    (spells-pair version (HasPlaces plan race) (HasTotals plan race) (place_lines race) (indexed (total_lines race) 0) (set_places race) (indexed (total_place race) 0)
+    (spells-pair version (HasPlaces plan race) (HasTotals plan race) (place_tree as_line race) (indexed (total_leaf as_line race) 0) (place_tree as_place race) (indexed (total_leaf as_place race) 0)
     (race_places plan race) (race_totals plan race)
     (places_all-spells version plan race)
-    (spells-each version (λ (candidate : ℕ) (x : ℕ). Any x) (total_lines race) (total_place race) (due_totals race) (total-spells version race) 0 (candidates_of plan race - 0)))
+    (spells-each version (λ (candidate : ℕ) (x : ℕ). Any x) (total_leaf as_line race) (total_leaf as_place race) (due_totals race) (total-spells version race) 0 (candidates_of plan race - 0)))
 
 -- flags, places and totals of all races
 abbrev pub Tallies : Type 0
@@ -191,12 +190,12 @@ tallies-spells version plan =
 
 -- SECTION 3
 
-pub rows-spells : (version : ℕ) (plan : Plan) → Spells version (HasRows {A = RowOpening} plan) (indexed race_row_lines 0) (indexed race_row_places 0) (each (race_rows plan) 0 (length plan.races))
+pub rows-spells : (version : ℕ) (plan : Plan) → Spells version (HasRows {A = RowOpening} plan) (indexed (race_row_tree as_line) 0) (indexed (race_row_tree as_place) 0) (each (race_rows plan) 0 (length plan.races))
 rows-spells version plan =
     spells-each version (λ (race : ℕ). Each (λ (instance : ℕ). Each (λ (row : ℕ) (x : RowOpening). Any x) 0 (entries_of plan race - 0)) 0 (plan.instances - 0))
-    race_row_lines race_row_places (race_rows plan)
-    (λ race. spells-each version (λ (instance : ℕ). Each (λ (row : ℕ) (x : RowOpening). Any x) 0 (entries_of plan race - 0)) instance_row_lines (instance_row_places race) (instance_rows plan race)
-    (λ instance. spells-each version (λ (row : ℕ) (x : RowOpening). Any x) row_line (row_place race instance) (row_opening race instance) (row-spells version race instance) 0 (entries_of plan race - 0))
+    (race_row_tree as_line) (race_row_tree as_place) (race_rows plan)
+    (λ race. spells-each version (λ (instance : ℕ). Each (λ (row : ℕ) (x : RowOpening). Any x) 0 (entries_of plan race - 0)) (instance_row_tree as_line race) (instance_row_tree as_place race) (instance_rows plan race)
+    (λ instance. spells-each version (λ (row : ℕ) (x : RowOpening). Any x) (row_leaf as_line race instance) (row_leaf as_place race instance) (row_opening race instance) (row-spells version race instance) 0 (entries_of plan race - 0))
     0 (plan.instances - 0))
     0 (length plan.races - 0)
 
@@ -213,29 +212,29 @@ AreResults version plan r = AreTallies plan r.0 × (Any r.1.0 × (IsDraw version
 
 abbrev pub lines_of_results : Plan → Results → List Said
 lines_of_results plan r =
-    lines_of_tallies plan r.0 ++ ((Seal 2 r.1.0 ∷ []) ++ ((draw_line r.1.1.0 ∷ []) ++ (indexed race_row_lines 0 r.1.1.1.0 ++ Seal 3 r.1.1.1.1 ∷ [])))
+    lines_of_tallies plan r.0 ++ ((Seal 2 r.1.0 ∷ []) ++ ((draw_leaf as_line r.1.1.0 ∷ []) ++ (indexed (race_row_tree as_line) 0 r.1.1.1.0 ++ Seal 3 r.1.1.1.1 ∷ [])))
 
 abbrev pub places_of_results : Plan → Results → List Placed
 places_of_results plan r =
-    places_of_tallies plan r.0 ++ ((SealAt 2 r.1.0 ∷ []) ++ ((draw_place r.1.1.0 ∷ []) ++ (indexed race_row_places 0 r.1.1.1.0 ++ SealAt 3 r.1.1.1.1 ∷ [])))
+    places_of_tallies plan r.0 ++ ((SealAt 2 r.1.0 ∷ []) ++ ((draw_leaf as_place r.1.1.0 ∷ []) ++ (indexed (race_row_tree as_place) 0 r.1.1.1.0 ++ SealAt 3 r.1.1.1.1 ∷ [])))
 
 pub results-spells : (version : ℕ) (plan : Plan) → Spells version (AreResults version plan) (lines_of_results plan) (places_of_results plan) (results plan)
 results-spells version plan =
     spells-pair version (AreTallies plan) (λ (r : Digest × (Draw × Openings)). Any r.0 × (IsDraw version r.1.0 × (HasRows plan r.1.1.0 × Any r.1.1.1)))
-    (lines_of_tallies plan) (λ (r : Digest × (Draw × Openings)). (Seal 2 r.0 ∷ []) ++ ((draw_line r.1.0 ∷ []) ++ (indexed race_row_lines 0 r.1.1.0 ++ Seal 3 r.1.1.1 ∷ [])))
-    (places_of_tallies plan) (λ (r : Digest × (Draw × Openings)). (SealAt 2 r.0 ∷ []) ++ ((draw_place r.1.0 ∷ []) ++ (indexed race_row_places 0 r.1.1.0 ++ SealAt 3 r.1.1.1 ∷ [])))
+    (lines_of_tallies plan) (λ (r : Digest × (Draw × Openings)). (Seal 2 r.0 ∷ []) ++ ((draw_leaf as_line r.1.0 ∷ []) ++ (indexed (race_row_tree as_line) 0 r.1.1.0 ++ Seal 3 r.1.1.1 ∷ [])))
+    (places_of_tallies plan) (λ (r : Digest × (Draw × Openings)). (SealAt 2 r.0 ∷ []) ++ ((draw_leaf as_place r.1.0 ∷ []) ++ (indexed (race_row_tree as_place) 0 r.1.1.0 ++ SealAt 3 r.1.1.1 ∷ [])))
     (each (race_results plan) 0 (length plan.races)) (slot.Seal 2 ∷ slot.Draw ∷ (each (race_rows plan) 0 (length plan.races) ++ slot.Seal 3 ∷ []))
     (tallies-spells version plan)
     (spells-pair version Any (λ (r : Draw × Openings). IsDraw version r.0 × (HasRows plan r.1.0 × Any r.1.1))
-    (λ (digest : Digest). Seal 2 digest ∷ []) (λ (r : Draw × Openings). (draw_line r.0 ∷ []) ++ (indexed race_row_lines 0 r.1.0 ++ Seal 3 r.1.1 ∷ []))
-    (λ (digest : Digest). SealAt 2 digest ∷ []) (λ (r : Draw × Openings). (draw_place r.0 ∷ []) ++ (indexed race_row_places 0 r.1.0 ++ SealAt 3 r.1.1 ∷ []))
+    (λ (digest : Digest). Seal 2 digest ∷ []) (λ (r : Draw × Openings). (draw_leaf as_line r.0 ∷ []) ++ (indexed (race_row_tree as_line) 0 r.1.0 ++ Seal 3 r.1.1 ∷ []))
+    (λ (digest : Digest). SealAt 2 digest ∷ []) (λ (r : Draw × Openings). (draw_leaf as_place r.0 ∷ []) ++ (indexed (race_row_tree as_place) 0 r.1.0 ++ SealAt 3 r.1.1 ∷ []))
     (slot.Seal 2 ∷ []) (slot.Draw ∷ (each (race_rows plan) 0 (length plan.races) ++ slot.Seal 3 ∷ []))
     (seal-spells version 2)
     (spells-pair version (IsDraw version) (λ (r : Openings). HasRows plan r.0 × Any r.1)
-    (λ (draw : Draw). draw_line draw ∷ []) (λ (r : Openings). indexed race_row_lines 0 r.0 ++ Seal 3 r.1 ∷ [])
-    (λ (draw : Draw). draw_place draw ∷ []) (λ (r : Openings). indexed race_row_places 0 r.0 ++ SealAt 3 r.1 ∷ [])
+    (λ (draw : Draw). draw_leaf as_line draw ∷ []) (λ (r : Openings). indexed (race_row_tree as_line) 0 r.0 ++ Seal 3 r.1 ∷ [])
+    (λ (draw : Draw). draw_leaf as_place draw ∷ []) (λ (r : Openings). indexed (race_row_tree as_place) 0 r.0 ++ SealAt 3 r.1 ∷ [])
     (slot.Draw ∷ []) (each (race_rows plan) 0 (length plan.races) ++ slot.Seal 3 ∷ [])
     (draw-spells version)
-    (spells-pair version (HasRows plan) Any (indexed race_row_lines 0) (λ (digest : Digest). Seal 3 digest ∷ []) (indexed race_row_places 0) (λ (digest : Digest). SealAt 3 digest ∷ [])
+    (spells-pair version (HasRows plan) Any (indexed (race_row_tree as_line) 0) (λ (digest : Digest). Seal 3 digest ∷ []) (indexed (race_row_tree as_place) 0) (λ (digest : Digest). SealAt 3 digest ∷ [])
     (each (race_rows plan) 0 (length plan.races)) (slot.Seal 3 ∷ [])
     (rows-spells version plan) (seal-spells version 3))))

@@ -11,7 +11,7 @@ use Rattle.sg_forms.specs.declared.line.RowOpening.{RowOpening}
 use Rattle.sg_grammar.specs.Placed.Placed.{CodeCommitAt, RowCommitAt, SealAt, FlagsAt, PlacesAt, RowAt, TotalAt}
 use Rattle.sg_grammar.specs.declared.state.Slot.TheVariants as slot
 use Rattle.sg_record.proofs.Filling.{Spells, fits, passed, spells-line}
-use Rattle.sg_record.specs.Lines.{bit_sign}
+use Rattle.sg_record.specs.Tree.{bit_sign}
 use Rattle.sg_record.specs.declared.record.RowCommit.{RowCommit as RowDigests}
 
 -- any value

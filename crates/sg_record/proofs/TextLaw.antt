@@ -4,6 +4,7 @@ use Rattle.std.proofs.lemmas.Bool.{and_parts, true≢false, not-true}
 use Rattle.std.proofs.lemmas.List.{append_assoc}
 use Rattle.std.proofs.lemmas.List.Elements.{All-head, All-tail}
 use Rattle.std.specs.List.{flat_map, join_with_byte, list_all}
+use Rattle.std.specs.Option.{option_map_or}
 use Rattle.sg_lists.proofs.Lists.{cons_parts}
 use Rattle.sg_commit.specs.declared.Digest.{Digest}
 use Rattle.sg_outside.proofs.LineLemmas.{HasNoFeed-append, IsLine-append, lines_of-concat}
@@ -25,7 +26,7 @@ use Rattle.sg_grammar.specs.declared.state.Block.TheVariants as block
 use Rattle.sg_grammar.specs.declared.state.Slot.{Slot}
 use Rattle.sg_record.proofs.BlockLines.{Audit, IsAudit, audit_lines, columns-spells, due_audit-spells, is_code_slot}
 use Rattle.sg_record.proofs.BytesWalk.{AreIn-from_All}
-use Rattle.sg_record.proofs.CastLines.{Steps, by_steps, cast_from}
+use Rattle.sg_record.proofs.CastLines.{cast_of, cast_of-said}
 use Rattle.sg_record.proofs.Filling.{AreIn, Fills, Fills-same, filled}
 use Rattle.sg_record.proofs.FormedLaw.{formed_goes, has_form}
 use Rattle.sg_record.proofs.FormedParts.{HasForm, commits_of, results_of}
@@ -33,13 +34,15 @@ use Rattle.sg_record.proofs.SaidWalk.{Goes, fits-block, fits-no_cast, goes-one, 
 use Rattle.sg_record.proofs.SectionLines.{AreCommits, AreResults, Commits, Results, commits-spells, lines_of_commits, lines_of_results, results-spells}
 use Rattle.sg_record.proofs.WholeLaw.{record_of, record_of-lines}
 use Rattle.sg_plan.specs.Codes.{is_code}
-use Rattle.sg_record.specs.Formed.{are_blocks, are_marks, are_overs, has_columns, is_dispute, is_fate}
+use Rattle.sg_record.specs.Formed.{are_blocks, has_columns, is_dispute, is_fate}
 use Rattle.sg_record.specs.Laws.{HasWords, TextsDiffer}
-use Rattle.sg_record.specs.Lines.{block_lines, dispute_lines, fate_lines, lines_in, plan_lines, text_of, texts_in}
+use Rattle.sg_record.specs.Lines.{lines_in, plan_lines, text_of, texts_in}
 use Rattle.sg_record.specs.Places.{behind_record}
+use Rattle.sg_record.specs.Tree.{as_line, block_tree, cast_said, dispute_tree, fate_tree}
 use Rattle.sg_record.specs.declared.record.BallotBlock.{BallotBlock}
 use Rattle.sg_record.specs.declared.record.BlockFate.{BlockFate}
 use Rattle.sg_record.specs.declared.record.BlockFate.TheVariants as fate
+use Rattle.sg_record.specs.declared.record.CastLine.{CastLine}
 use Rattle.sg_record.specs.declared.record.DisputeBlock.{DisputeBlock}
 use Rattle.sg_record.specs.declared.record.Record.{Record}
 
@@ -111,64 +114,45 @@ results-close plan lines rest fills = from (results plan) lines (results-some pl
         rw (fits-no_cast first said (not-true (is_code_slot first) tests.0) filled.0, fits-block first said filled.0) refl
 
 -- a block does not, and it opens
-block-opens : (plan : Plan) (ballot : ℕ) (what : BlockFate) (rest : List Said) → (closes (fate_lines plan ballot what ++ rest) ≡ false) × (opens (fate_lines plan ballot what ++ rest) ≡ true)
-block-opens plan ballot (fate.Cast codes overs) rest = (refl, refl)
+block-opens : (plan : Plan) (ballot : ℕ) (what : BlockFate) (rest : List Said) → (closes (fate_tree as_line plan ballot what ++ rest) ≡ false) × (opens (fate_tree as_line plan ballot what ++ rest) ≡ true)
+block-opens plan ballot (fate.Cast lines) rest = (refl, refl)
 block-opens plan ballot fate.Spoiled rest = (refl, refl)
 block-opens plan ballot (fate.Audited papers codes) rest = (refl, refl)
 block-opens plan ballot fate.Voided rest = (refl, refl)
 
-blocks-open : (plan : Plan) (blocks : List BallotBlock) (rest : List Said) → closes rest ≡ true → opens (flat_map (block_lines plan) blocks ++ rest) ≡ true
+blocks-open : (plan : Plan) (blocks : List BallotBlock) (rest : List Said) → closes rest ≡ true → opens (flat_map (block_tree as_line plan) blocks ++ rest) ≡ true
 blocks-open plan [] rest end = closes-opens rest end
 blocks-open plan (one ∷ blocks) rest end =
-    ap opens (append_assoc (block_lines plan one) (flat_map (block_lines plan) blocks) rest) ∙ (block-opens plan one.ballot one.fate (flat_map (block_lines plan) blocks ++ rest)).1
+    ap opens (append_assoc (block_tree as_line plan one) (flat_map (block_tree as_line plan) blocks) rest) ∙ (block-opens plan one.ballot one.fate (flat_map (block_tree as_line plan) blocks ++ rest)).1
 
--- the lines of a cast ballot at the front: its codes, its races that are over, and what follows
-codes_in : List Said → List CodeLine
-codes_in [] = []
-codes_in (Code code ∷ lines) = code ∷ codes_in lines
-codes_in (Over race ∷ lines) = codes_in lines
-codes_in (said ∷ lines) = []
-
-overs_in : List Said → List ℕ
-overs_in [] = []
-overs_in (Code code ∷ lines) = overs_in lines
-overs_in (Over race ∷ lines) = race ∷ overs_in lines
-overs_in (said ∷ lines) = []
+-- the lines of a cast ballot at the front, and what follows
+cast_in : List Said → List CastLine
+cast_in [] = []
+cast_in (said ∷ lines) = option_map_or (λ line. line ∷ cast_in lines) (cast_of said) []
 
 behind_in : List Said → List Said
 behind_in [] = []
-behind_in (Code code ∷ lines) = behind_in lines
-behind_in (Over race ∷ lines) = behind_in lines
-behind_in (said ∷ lines) = said ∷ lines
+behind_in (said ∷ lines) = option_map_or (λ line. behind_in lines) (cast_of said) (said ∷ lines)
 
-abbrev Reads : List CodeLine → List ℕ → List Said → List Said → Type 0
-Reads codes overs rest lines = (codes_in lines ≡ codes) × (overs_in lines ≡ overs) × (behind_in lines ≡ rest)
-
-reads-none : (rest : List Said) → opens rest ≡ true → Reads [] [] rest rest
-unfolding codes_in overs_in behind_in
+reads-none : (rest : List Said) → opens rest ≡ true → (cast_in rest ≡ []) × (behind_in rest ≡ rest)
+unfolding cast_in behind_in cast_of
 reads-none [] end = cc
 reads-none (Code code ∷ rest) end = cc
 reads-none (Over race ∷ rest) end = cc
-reads-none (said ∷ rest) end = (refl, refl, refl)
+reads-none (said ∷ rest) end = (refl, refl)
 
-reads-steps : (plan : Plan) (ballot : ℕ) (rest : List Said) → opens rest ≡ true
-    → Steps plan ballot (λ (race column : ℕ) (codes : List CodeLine) (overs : List ℕ) (lines : List Said). Reads codes overs rest (lines ++ rest))
-unfolding codes_in overs_in behind_in
-reads-steps plan ballot rest end = record {
-  none = λ race column. reads-none rest end;
-  mark = λ race column code codes overs lines place on. (ap (λ l. code ∷ l) on.0, on.1, on.2);
-  over = λ race column over codes overs lines left on. (on.0, ap (λ l. over ∷ l) on.1, on.2);
-}
+reads-cast : (lines : List CastLine) (rest : List Said) → opens rest ≡ true → (cast_in (map cast_said lines ++ rest) ≡ lines) × (behind_in (map cast_said lines ++ rest) ≡ rest)
+unfolding cast_in behind_in
+reads-cast [] rest end = reads-none rest end
+reads-cast (line ∷ lines) rest end =
+    let on = reads-cast lines rest end in
+    rw (cast_of-said line) (ap (λ l. line ∷ l) on.0, on.1)
 
-cast-one : (plan : Plan) (a b : ℕ) (xs ys : List CodeLine) (vs ws : List ℕ) (c d : List Said) → are_marks plan a 0 0 xs ≡ true → are_overs plan a 0 vs ≡ true
-    → are_marks plan b 0 0 ys ≡ true → are_overs plan b 0 ws ≡ true → opens c ≡ true → opens d ≡ true → cast_from plan xs vs 0 ++ c ≡ cast_from plan ys ws 0 ++ d
-    → (xs ≡ ys) × (vs ≡ ws) × (c ≡ d)
-cast-one plan a b xs ys vs ws c d marks overs more others one two same =
-    let here : Reads xs vs c (cast_from plan xs vs 0 ++ c)
-    = by_steps plan a (λ (race column : ℕ) (codes : List CodeLine) (os : List ℕ) (lines : List Said). Reads codes os c (lines ++ c)) (reads-steps plan a c one) 0 0 xs vs marks overs in
-    let there : Reads ys ws d (cast_from plan ys ws 0 ++ d)
-    = by_steps plan b (λ (race column : ℕ) (codes : List CodeLine) (os : List ℕ) (lines : List Said). Reads codes os d (lines ++ d)) (reads-steps plan b d two) 0 0 ys ws more others in
-    (sym here.0 ∙ (ap codes_in same ∙ there.0), sym here.1 ∙ (ap overs_in same ∙ there.1), sym here.2 ∙ (ap behind_in same ∙ there.2))
+cast-one : (xs ys : List CastLine) (c d : List Said) → opens c ≡ true → opens d ≡ true → map cast_said xs ++ c ≡ map cast_said ys ++ d → (xs ≡ ys) × (c ≡ d)
+cast-one xs ys c d one two same =
+    let here = reads-cast xs c one in
+    let there = reads-cast ys d two in
+    (sym here.0 ∙ (ap cast_in same ∙ there.0), sym here.1 ∙ (ap behind_in same ∙ there.1))
 
 -- the block of an audited ballot
 due_audit-one : (plan : Plan) (ballot : ℕ) (x y : Audit) (c d : List Said) → fault_of plan ≡ None → IsAudit plan ballot x → IsAudit plan ballot y
@@ -185,14 +169,12 @@ pub record SameBlock (a b : ℕ) (x y : BlockFate) (c d : List Said) : Type 0 wh
   pub rest : c ≡ d
 
 fates-one : (plan : Plan) (a b : ℕ) (x y : BlockFate) (c d : List Said) → fault_of plan ≡ None → is_fate plan a x ≡ true → is_fate plan b y ≡ true → opens c ≡ true → opens d ≡ true
-    → fate_lines plan a x ++ c ≡ fate_lines plan b y ++ d → SameBlock a b x y c d
-fates-one plan a b (fate.Cast xs vs) (fate.Cast ys ws) c d fine p q one two same =
+    → fate_tree as_line plan a x ++ c ≡ fate_tree as_line plan b y ++ d → SameBlock a b x y c d
+fates-one plan a b (fate.Cast xs) (fate.Cast ys) c d fine p q one two same =
     let parts = cons_parts same in
     let ballot : a ≡ b = let first = parts.0 in cc in
-    let here = and_parts (are_marks plan a 0 0 xs) (are_overs plan a 0 vs) p in
-    let there = and_parts (are_marks plan b 0 0 ys) (are_overs plan b 0 ws) q in
-    let others = cast-one plan a b xs ys vs ws c d here.0 here.1 there.0 there.1 one two parts.1 in
-    record { ballot = ballot; what = ap (λ l. fate.Cast l vs) others.0 ∙ ap (λ l. fate.Cast ys l) others.1; rest = others.2 }
+    let others = cast-one xs ys c d one two parts.1 in
+    record { ballot = ballot; what = ap fate.Cast others.0; rest = others.1 }
 fates-one plan a b fate.Spoiled fate.Spoiled c d fine p q one two same = record { ballot = cc; what = refl; rest = cc }
 fates-one plan a b (fate.Audited xs vs) (fate.Audited ys ws) c d fine p q one two same =
     let parts = cons_parts same in
@@ -207,21 +189,21 @@ fates-one plan a b fate.Voided fate.Voided c d fine p q one two same = record { 
 fates-one plan a b x y c d fine p q one two same = cc
 
 blocks-one : (plan : Plan) (last other : ℕ) (xs ys : List BallotBlock) (c d : List Said) → fault_of plan ≡ None → are_blocks plan last xs ≡ true → are_blocks plan other ys ≡ true
-    → closes c ≡ true → closes d ≡ true → flat_map (block_lines plan) xs ++ c ≡ flat_map (block_lines plan) ys ++ d → (xs ≡ ys) × (c ≡ d)
+    → closes c ≡ true → closes d ≡ true → flat_map (block_tree as_line plan) xs ++ c ≡ flat_map (block_tree as_line plan) ys ++ d → (xs ≡ ys) × (c ≡ d)
 blocks-one plan last other [] [] c d fine p q one two same = (refl, same)
 blocks-one plan last other [] (y ∷ ys) c d fine p q one two same =
-    let back = append_assoc (block_lines plan y) (flat_map (block_lines plan) ys) d in
-    absurd (true≢false (sym one ∙ (ap closes (same ∙ back) ∙ (block-opens plan y.ballot y.fate (flat_map (block_lines plan) ys ++ d)).0)))
+    let back = append_assoc (block_tree as_line plan y) (flat_map (block_tree as_line plan) ys) d in
+    absurd (true≢false (sym one ∙ (ap closes (same ∙ back) ∙ (block-opens plan y.ballot y.fate (flat_map (block_tree as_line plan) ys ++ d)).0)))
 blocks-one plan last other (x ∷ xs) [] c d fine p q one two same =
-    let back = append_assoc (block_lines plan x) (flat_map (block_lines plan) xs) c in
-    absurd (true≢false (sym two ∙ (ap closes (sym same ∙ back) ∙ (block-opens plan x.ballot x.fate (flat_map (block_lines plan) xs ++ c)).0)))
+    let back = append_assoc (block_tree as_line plan x) (flat_map (block_tree as_line plan) xs) c in
+    absurd (true≢false (sym two ∙ (ap closes (sym same ∙ back) ∙ (block-opens plan x.ballot x.fate (flat_map (block_tree as_line plan) xs ++ c)).0)))
 blocks-one plan last other (x ∷ xs) (y ∷ ys) c d fine p q one two same =
     let here = and_parts (is_later plan last x.ballot && is_fate plan x.ballot x.fate) (are_blocks plan x.ballot xs) p in
     let there = and_parts (is_later plan other y.ballot && is_fate plan y.ballot y.fate) (are_blocks plan y.ballot ys) q in
-    let first = fates-one plan x.ballot y.ballot x.fate y.fate (flat_map (block_lines plan) xs ++ c) (flat_map (block_lines plan) ys ++ d) fine
+    let first = fates-one plan x.ballot y.ballot x.fate y.fate (flat_map (block_tree as_line plan) xs ++ c) (flat_map (block_tree as_line plan) ys ++ d) fine
     (and_parts (is_later plan last x.ballot) (is_fate plan x.ballot x.fate) here.0).1 (and_parts (is_later plan other y.ballot) (is_fate plan y.ballot y.fate) there.0).1
     (blocks-open plan xs c one) (blocks-open plan ys d two)
-    (sym (append_assoc (block_lines plan x) (flat_map (block_lines plan) xs) c) ∙ (same ∙ append_assoc (block_lines plan y) (flat_map (block_lines plan) ys) d)) in
+    (sym (append_assoc (block_tree as_line plan x) (flat_map (block_tree as_line plan) xs) c) ∙ (same ∙ append_assoc (block_tree as_line plan y) (flat_map (block_tree as_line plan) ys) d)) in
     let rest = blocks-one plan x.ballot y.ballot xs ys c d fine here.1 there.1 one two first.rest in
     let ballots : x ≡ y
     = ap (λ (n : ℕ). let it : BallotBlock = record { ballot = n; fate = x.fate } in it) first.ballot
@@ -239,7 +221,7 @@ dispute-same x y ballot race code word codes =
     ∙ ap (λ (l : List CodeLine). let it : DisputeBlock = record { ballot = y.ballot; race = y.race; code = y.code; word = y.word; codes = l } in it) codes)))
 
 disputes-one : (plan : Plan) (xs ys : List DisputeBlock) → list_all (is_dispute plan) xs ≡ true → list_all (is_dispute plan) ys ≡ true
-    → flat_map dispute_lines xs ≡ flat_map dispute_lines ys → xs ≡ ys
+    → flat_map (dispute_tree as_line) xs ≡ flat_map (dispute_tree as_line) ys → xs ≡ ys
 disputes-one plan [] [] p q same = refl
 disputes-one plan [] (y ∷ ys) p q same = cc
 disputes-one plan (x ∷ xs) [] p q same = cc
@@ -252,7 +234,7 @@ disputes-one plan (x ∷ xs) (y ∷ ys) p q same =
     let codes_y = (and_parts ((nat_lt y.race (length plan.races) && ballot_has plan y.ballot y.race) && is_code plan y.code) (has_columns plan y.race y.codes) there.0).1 in
     let too = subst (λ (r : ℕ). has_columns plan r y.codes ≡ true) (sym fields.1) codes_y in
     let spells = columns-spells plan block.Dispute x.ballot x.race in
-    let others = Fills-same (race_codes plan block.Dispute x.ballot x.race) (map Code x.codes) (map Code y.codes) (flat_map dispute_lines xs) (flat_map dispute_lines ys)
+    let others = Fills-same (race_codes plan block.Dispute x.ballot x.race) (map Code x.codes) (map Code y.codes) (flat_map (dispute_tree as_line) xs) (flat_map (dispute_tree as_line) ys)
     (filled spells x.codes codes_x) (filled spells y.codes too) parts.1 in
     let first : x ≡ y = dispute-same x y fields.0 fields.1 fields.2 fields.3 (spells.one x.codes y.codes codes_x too others.0) in
     ap (λ z. z ∷ xs) first ∙ ap (λ l. y ∷ l) (disputes-one plan xs ys here.1 there.1 others.1)
@@ -306,10 +288,10 @@ parts-one plan a b p q same =
     let of_results = results-spells plan.version plan in
     let fills = filled of_results p.results p.are_results in
     let too = filled of_results q.results q.are_results in
-    let two = blocks-one plan 0 0 p.blocks q.blocks (lines_of_results plan p.results ++ flat_map dispute_lines p.disputes) (lines_of_results plan q.results ++ flat_map dispute_lines q.disputes)
-    p.fine p.are_ballots q.are_ballots (results-close plan (lines_of_results plan p.results) (flat_map dispute_lines p.disputes) fills)
-    (results-close plan (lines_of_results plan q.results) (flat_map dispute_lines q.disputes) too) one.1 in
-    let three = Fills-same (results plan) (lines_of_results plan p.results) (lines_of_results plan q.results) (flat_map dispute_lines p.disputes) (flat_map dispute_lines q.disputes) fills too two.1 in
+    let two = blocks-one plan 0 0 p.blocks q.blocks (lines_of_results plan p.results ++ flat_map (dispute_tree as_line) p.disputes) (lines_of_results plan q.results ++ flat_map (dispute_tree as_line) q.disputes)
+    p.fine p.are_ballots q.are_ballots (results-close plan (lines_of_results plan p.results) (flat_map (dispute_tree as_line) p.disputes) fills)
+    (results-close plan (lines_of_results plan q.results) (flat_map (dispute_tree as_line) q.disputes) too) one.1 in
+    let three = Fills-same (results plan) (lines_of_results plan p.results) (lines_of_results plan q.results) (flat_map (dispute_tree as_line) p.disputes) (flat_map (dispute_tree as_line) q.disputes) fills too two.1 in
     let commits_same : p.commits ≡ q.commits = of_commits.one p.commits q.commits p.are_commits q.are_commits one.0 in
     let results_same : p.results ≡ q.results = of_results.one p.results q.results p.are_results q.are_results three.0 in
     let disputes_same : p.disputes ≡ q.disputes = disputes-one plan p.disputes q.disputes p.are_disputes q.are_disputes three.1 in

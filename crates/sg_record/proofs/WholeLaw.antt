@@ -21,7 +21,8 @@ use Rattle.sg_record.proofs.SaidWalk.{Goes}
 use Rattle.sg_record.proofs.SectionLines.{AreCommits, AreResults, Commits, Results, commits-spells, lines_of_commits, lines_of_results, results-spells}
 use Rattle.sg_record.specs.Formed.{are_blocks, is_dispute, is_formed}
 use Rattle.sg_record.specs.Laws.{HasWords, WholeAreFormed}
-use Rattle.sg_record.specs.Lines.{block_lines, dispute_lines, lines_in, plan_lines, texts_in}
+use Rattle.sg_record.specs.Lines.{lines_in, plan_lines, texts_in}
+use Rattle.sg_record.specs.Tree.{as_line, block_tree, dispute_tree}
 use Rattle.sg_record.specs.declared.record.BallotBlock.{BallotBlock}
 use Rattle.sg_record.specs.declared.record.DisputeBlock.{DisputeBlock}
 use Rattle.sg_record.specs.declared.record.Record.{Record}
@@ -45,10 +46,10 @@ record_of plan c blocks r disputes = record {
 -- its lines
 pub record_of-lines : (plan : Plan) (c : Commits) (blocks : List BallotBlock) (r : Results) (disputes : List DisputeBlock)
     → lines_in (record_of plan c blocks r disputes)
-    ≡ plan_lines plan ++ (lines_of_commits c ++ (flat_map (block_lines plan) blocks ++ (lines_of_results plan r ++ flat_map dispute_lines disputes)))
+    ≡ plan_lines plan ++ (lines_of_commits c ++ (flat_map (block_tree as_line plan) blocks ++ (lines_of_results plan r ++ flat_map (dispute_tree as_line) disputes)))
 record_of-lines plan c blocks r disputes =
-    ap (λ l. plan_lines plan ++ (lines_of_commits c ++ (flat_map (block_lines plan) blocks ++ l)))
-    (result_lines-are (record_of plan c blocks r disputes) c.1.1 r.1.0 r.1.1.1.1 (flat_map dispute_lines disputes) refl)
+    ap (λ l. plan_lines plan ++ (lines_of_commits c ++ (flat_map (block_tree as_line plan) blocks ++ l)))
+    (result_lines-are (record_of plan c blocks r disputes) c.1.1 r.1.0 r.1.1.1.1 (flat_map (dispute_tree as_line) disputes) refl)
 
 -- it is formed, where its parts are
 record_of-formed : (plan : Plan) (c : Commits) (blocks : List BallotBlock) (r : Results) (disputes : List DisputeBlock) → fault_of plan ≡ None → AreCommits plan c → are_blocks plan 0 blocks ≡ true
@@ -66,12 +67,12 @@ record_of-formed plan c blocks r disputes fine are_commits are_ballots are_resul
 
 -- section by section
 sections-are : (plan : Plan) (c : Commits) (blocks : List BallotBlock) (r : Results) (disputes : List DisputeBlock) (lines body ballots tail rest : List Said)
-    → lines ≡ plan_lines plan ++ body → body ≡ lines_of_commits c ++ ballots → ballots ≡ flat_map (block_lines plan) blocks ++ tail → tail ≡ lines_of_results plan r ++ rest
-    → rest ≡ flat_map dispute_lines disputes → lines ≡ lines_in (record_of plan c blocks r disputes)
+    → lines ≡ plan_lines plan ++ body → body ≡ lines_of_commits c ++ ballots → ballots ≡ flat_map (block_tree as_line plan) blocks ++ tail → tail ≡ lines_of_results plan r ++ rest
+    → rest ≡ flat_map (dispute_tree as_line) disputes → lines ≡ lines_in (record_of plan c blocks r disputes)
 sections-are plan c blocks r disputes lines body ballots tail rest one two three four five =
     one
     ∙ (ap (λ l. plan_lines plan ++ l)
-    (two ∙ ap (λ l. lines_of_commits c ++ l) (three ∙ ap (λ l. flat_map (block_lines plan) blocks ++ l) (four ∙ ap (λ l. lines_of_results plan r ++ l) five)))
+    (two ∙ ap (λ l. lines_of_commits c ++ l) (three ∙ ap (λ l. flat_map (block_tree as_line plan) blocks ++ l) (four ∙ ap (λ l. lines_of_results plan r ++ l) five)))
     ∙ sym (record_of-lines plan c blocks r disputes))
 
 -- a formed record with these lines
@@ -96,7 +97,7 @@ lines-back version lines end all whole goes =
     let body_in = AreIn-parts plan.version body.front body.back (subst (AreIn plan.version) body.is behind_plan) in
     let c = (commits-spells plan.version plan).back body.front body.fills body_in.0 in
     let blocks : BlocksOf plan 0 body.back = body.others in
-    let blocks_in = AreIn-parts plan.version (flat_map (block_lines plan) blocks.blocks) blocks.back (subst (AreIn plan.version) blocks.is body_in.1) in
+    let blocks_in = AreIn-parts plan.version (flat_map (block_tree as_line plan) blocks.blocks) blocks.back (subst (AreIn plan.version) blocks.is body_in.1) in
     let results_of = blocks.results in
     let results_in = AreIn-parts plan.version results_of.front results_of.back (subst (AreIn plan.version) results_of.is blocks_in.1) in
     let r = (results-spells plan.version plan).back results_of.front results_of.fills results_in.0 in

@@ -1,4 +1,5 @@
 -- What a reader of records believes, and the laws.
+pub mod Tree
 pub mod Lines
 pub mod Formed
 pub mod Laws

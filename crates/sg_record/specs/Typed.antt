@@ -9,6 +9,8 @@ use Rattle.sg_forms.specs.declared.line.CodeLine.{CodeLine}
 use Rattle.sg_record.specs.declared.record.BallotBlock.{BallotBlock}
 use Rattle.sg_record.specs.declared.record.BlockFate.{BlockFate}
 use Rattle.sg_record.specs.declared.record.BlockFate.TheVariants as fate
+use Rattle.sg_record.specs.declared.record.CastLine.{CastLine}
+use Rattle.sg_record.specs.declared.record.CastLine.TheVariants as cast
 use Rattle.sg_record.specs.declared.record.DisputeBlock.{DisputeBlock}
 use Rattle.sg_record.specs.declared.record.Record.{Record}
 use Rattle.sg_record.specs.declared.record.RowCommit.{RowCommit}
@@ -25,9 +27,14 @@ AreDigests commit = IsDigest commit.left × IsDigest commit.right
 abbrev pub HasKey : CodeLine → Type 0
 HasKey code = AreBytes 16 code.key.0
 
+-- the key of a line of a cast ballot, if it has one
+abbrev pub HasCastKey : CastLine → Type 0
+HasCastKey (cast.Code code) = HasKey code
+HasCastKey other = Unit {0}
+
 -- the keys of a ballot's block
 abbrev pub HaveKeys : BlockFate → Type 0
-HaveKeys (fate.Cast codes overs) = All HasKey codes
+HaveKeys (fate.Cast lines) = All HasCastKey lines
 HaveKeys fate.Spoiled = Unit {0}
 HaveKeys (fate.Audited papers codes) = All HasKey codes
 HaveKeys fate.Voided = Unit {0}

@@ -2,7 +2,8 @@
 ghost use Rattle.std.specs.Prelude.{◌≡◌, ◌≤◌, ◌<◌, ◌∷◌, [], length, slice_index_or, true};
 ghost use Rattle.sg_forms.specs.Said.Said.{CodeCommit, RowCommit as Commits};
 ghost use Rattle.sg_record.specs.Formed.{is_formed};
-ghost use Rattle.sg_record.specs.Lines.{first_lines, indexed, race_code_commit_lines, race_row_commit_lines};
+ghost use Rattle.sg_record.specs.Lines.{first_lines};
+ghost use Rattle.sg_record.specs.Tree.{as_line, indexed, race_code_commit_tree, race_row_commit_tree};
 ghost use Rattle.sg_record.specs.Pens.{SealsWhere, Writes};
 
 use crate::head::put_plan;
@@ -49,7 +50,7 @@ pub fn put_row_commit<O: Sink>(
 fn put_code_commits<P: Posts, O: Sink>(pen: &mut Pen, posted: &P, out: &mut O) -> Result<(), Failed>
     requires ready { P.is_ready posted.now }
     requires formed { is_formed (P.posted posted.now) ≡ true }
-    ensures { Writes O.written O.faults pen.old out.old pen.new out.new result (indexed race_code_commit_lines 0 (P.posted posted.now).code_commits) }
+    ensures { Writes O.written O.faults pen.old out.old pen.new out.new result (indexed (race_code_commit_tree as_line) 0 (P.posted posted.now).code_commits) }
 {
     for race in 0..count_races(posted) {
         posted.put_race_codes(pen, race, out)?;
@@ -67,7 +68,7 @@ fn put_race_commits<P: Posts, O: Sink>(
     requires ready { P.is_ready posted.now }
     requires formed { is_formed (P.posted posted.now) ≡ true }
     requires race { race < length (P.posted posted.now).plan.races }
-    ensures { Writes O.written O.faults pen.old out.old pen.new out.new result (race_row_commit_lines race (slice_index_or (P.posted posted.now).row_commits race [])) }
+    ensures { Writes O.written O.faults pen.old out.old pen.new out.new result (race_row_commit_tree as_line race (slice_index_or (P.posted posted.now).row_commits race [])) }
 {
     for instance in 0..count_instances(posted) {
         posted.put_instance_commits(pen, race, instance, out)?;
@@ -79,7 +80,7 @@ fn put_race_commits<P: Posts, O: Sink>(
 fn put_row_commits<P: Posts, O: Sink>(pen: &mut Pen, posted: &P, out: &mut O) -> Result<(), Failed>
     requires ready { P.is_ready posted.now }
     requires formed { is_formed (P.posted posted.now) ≡ true }
-    ensures { Writes O.written O.faults pen.old out.old pen.new out.new result (indexed race_row_commit_lines 0 (P.posted posted.now).row_commits) }
+    ensures { Writes O.written O.faults pen.old out.old pen.new out.new result (indexed (race_row_commit_tree as_line) 0 (P.posted posted.now).row_commits) }
 {
     for race in 0..count_races(posted) {
         put_race_commits(pen, posted, race, out)?;

@@ -1,15 +1,15 @@
 //! Which records have a text: each list is as long as the plan says, and codes, blocks and disputes stand in order.
 //!
 //! Each list is walked over once, and only the index of the plan's ballots takes memory.
-ghost use Rattle.std.specs.Prelude.{◌≡◌, ℕ, ◌==◌, ◌<◌, ◌≤◌, IsTrue, IfOk, nat_lt, nat_le, ◌&&◌, length};
+ghost use Rattle.std.specs.Prelude.{◌≡◌, ℕ, ◌==◌, ◌<◌, IsTrue, IfOk, nat_lt, nat_le, ◌&&◌, length};
 ghost use Rattle.std.specs.List.{list_all, list_any};
 ghost use Rattle.sg_plan.specs.Ballots.{candidates_of, entries_of, races_of_ballot};
 ghost use Rattle.sg_plan.specs.Limits.{most_claims};
 ghost use Rattle.sg_grammar.specs.Walk.{follows_in_order};
 ghost use Rattle.sg_plan.specs.Codes.{is_code};
-ghost use Rattle.sg_record.specs.Formed.{are_blocks, are_columns, are_marks, are_overs, are_papers, has_candidates, has_columns, has_entries, has_rows, is_dispute, is_draw, is_fate, is_formed};
+ghost use Rattle.sg_record.specs.Formed.{are_blocks, are_cast, are_columns, are_papers, behind_cast, has_candidates, has_columns, has_entries, has_rows, is_dispute, is_draw, is_fate, is_formed};
 
-use crate::record::{BallotBlock, BlockFate, DisputeBlock, Record};
+use crate::record::{BallotBlock, BlockFate, CastLine, DisputeBlock, Record};
 use sg_forms::CodeLine;
 use sg_plan::limits::{MOST_CLAIMS, MOST_PUBLIC_BYTES};
 use sg_plan::{BallotIndex, Draw, Items, NoMemory, Paper, Plan};
@@ -130,44 +130,62 @@ fn is_mark(plan: &Plan, races: &[u32], race: u32, column: u32, code: &CodeLine) 
     plan.is_code(code.code)
 }
 
-/// The codes are marks of a cast ballot with these races: races don't fall, and in one race columns rise.
-#[tactic(auto, using(crate::proofs::BlockTests::marks))]
-fn are_marks(index: &BallotIndex, races: &[u32], codes: &Items<CodeLine>) -> bool
-    ensures { (ballot : ℕ) → races.now ≡ races_of_ballot index.now ballot → result ≡ are_marks index.now ballot 0 0 codes.now }
+/// The race is one of these, and is not one of those behind which a cast ballot's block has gone on.
+fn is_race_left(plan: &Plan, races: &[u32], least: u32, race: u32) -> bool
+    ensures test { result ≡ ((nat_lt race (length plan.now.races) && list_any (λ carried. carried == race) races.now) && nat_le least race) }
+    ensures below { IsTrue result → race < length plan.now.races }
 {
-    let plan = index.plan();
-    let mut race = 0;
-    let mut column = 0;
-    for at in 0..codes.len() {
-        let code = codes.get(at);
-        if !is_mark(plan, races, race, column, code) {
-            return false;
-        }
-        race = code.race;
-        column = code.column + 1;
+    if race as usize >= plan.races.len() {
+        return false;
     }
-    true
+    if !has_race(races, race) {
+        return false;
+    }
+    least <= race
 }
 
-/// The races that are over are among these, and rise.
+/// The race and the column from which on the next line of a cast ballot with these races is, behind one from this race and
+/// column on. `None` where the line may not stand.
 #[tactic(auto, using(crate::proofs::BlockTests::marks))]
-fn are_overs(index: &BallotIndex, races: &[u32], overs: &Items<u32>) -> bool
-    ensures { (ballot : ℕ) → races.now ≡ races_of_ballot index.now ballot → result ≡ are_overs index.now ballot 0 overs.now }
+fn behind_cast(
+    index: &BallotIndex,
+    races: &[u32],
+    race: u32,
+    column: u32,
+    line: &CastLine,
+) -> Option<(u32, u32)>
+    ensures { (ballot : ℕ) → races.now ≡ races_of_ballot index.now ballot → result ≡ behind_cast index.now ballot race column line.now }
 {
     let plan = index.plan();
-    let mut least = 0;
-    for at in 0..overs.len() {
-        let race = *overs.get(at);
-        if race as usize >= plan.races.len() {
-            return false;
+    match line {
+        CastLine::Code(code) => {
+            if !is_mark(plan, races, race, column, code) {
+                return None;
+            }
+            Some((code.race, code.column + 1))
         }
-        if !has_race(races, race) {
-            return false;
+        CastLine::Over(over) => {
+            if !is_race_left(plan, races, race, *over) {
+                return None;
+            }
+            Some((*over + 1, 0))
         }
-        if race < least {
+    }
+}
+
+/// The lines are those of a cast ballot with these races: races don't fall, in one race columns rise, and behind a race
+/// that is over no line is of it.
+fn are_cast(index: &BallotIndex, races: &[u32], lines: &Items<CastLine>) -> bool
+    ensures { (ballot : ℕ) → races.now ≡ races_of_ballot index.now ballot → result ≡ are_cast index.now ballot 0 0 lines.now }
+{
+    let mut race = 0;
+    let mut column = 0;
+    for at in 0..lines.len() {
+        let Some(next) = behind_cast(index, races, race, column, lines.get(at)) else {
             return false;
-        }
-        least = race + 1;
+        };
+        race = next.0;
+        column = next.1;
     }
     true
 }
@@ -257,9 +275,7 @@ fn is_fate(index: &BallotIndex, races: &[u32], fate: &BlockFate) -> bool
 {
     let plan = index.plan();
     match fate {
-        BlockFate::Cast(codes, overs) => {
-            are_marks(index, races, codes) && are_overs(index, races, overs)
-        }
+        BlockFate::Cast(lines) => are_cast(index, races, lines),
         BlockFate::Spoiled => true,
         BlockFate::Audited(papers, codes) => {
             are_papers(plan, races, papers) && are_columns(plan, races, codes.as_slice())

@@ -3,10 +3,10 @@
 //! A line that the last block has no room for adds nothing to it.
 ghost use Rattle.std.specs.Prelude.{◌≡◌, IfOk, OnOk};
 ghost use Rattle.sg_forms.specs.Said.{said};
-ghost use Rattle.sg_record.specs.inside.Gathering.{begun, dispute_with, last_with, with_code, with_over, with_paper};
+ghost use Rattle.sg_record.specs.inside.Gathering.{begun, dispute_with, last_with, with_cast, with_code, with_paper};
 ghost use Rattle.sg_record.specs.inside.Growing.{change_of};
 
-use crate::record::{BallotBlock, BlockFate, DisputeBlock};
+use crate::record::{BallotBlock, BlockFate, CastLine, DisputeBlock};
 use sg_forms::{CodeLine, Line};
 use sg_plan::{ClaimWord, Items, NoMemory};
 use std::alloc::Global;
@@ -19,29 +19,29 @@ pub(crate) fn begin_fate(alloc: Global, line: &Line) -> BlockFate
         Line::Spoiled(_) => BlockFate::Spoiled,
         Line::Audited(_) => BlockFate::Audited(Items::new(alloc), Items::new(alloc)),
         Line::Voided(_) => BlockFate::Voided,
-        _ => BlockFate::Cast(Items::new(alloc), Items::new(alloc)),
+        _ => BlockFate::Cast(Items::new(alloc)),
     }
 }
 
-/// Puts a code behind those of a cast or an audited ballot.
-fn push_code(fate: &mut BlockFate, code: CodeLine) -> Result<(), NoMemory>
-    ensures { OnOk result (fate.new ≡ with_code code fate.old) }
+/// Puts a line behind those of a cast ballot.
+fn push_cast(fate: &mut BlockFate, line: CastLine) -> Result<(), NoMemory>
+    ensures { OnOk result (fate.new ≡ with_cast line fate.old) }
 {
     match fate {
-        BlockFate::Cast(codes, _) => codes.push(code),
-        BlockFate::Audited(_, codes) => codes.push(code),
+        BlockFate::Cast(lines) => lines.push(line),
+        BlockFate::Audited(..) => Ok(()),
         BlockFate::Spoiled => Ok(()),
         BlockFate::Voided => Ok(()),
     }
 }
 
-/// Puts a race behind those that are over on a cast ballot.
-fn push_over(fate: &mut BlockFate, race: u32) -> Result<(), NoMemory>
-    ensures { OnOk result (fate.new ≡ with_over race fate.old) }
+/// Puts a code behind those of an audited ballot.
+fn push_code(fate: &mut BlockFate, code: CodeLine) -> Result<(), NoMemory>
+    ensures { OnOk result (fate.new ≡ with_code code fate.old) }
 {
     match fate {
-        BlockFate::Cast(_, overs) => overs.push(race),
-        BlockFate::Audited(..) => Ok(()),
+        BlockFate::Audited(_, codes) => codes.push(code),
+        BlockFate::Cast(..) => Ok(()),
         BlockFate::Spoiled => Ok(()),
         BlockFate::Voided => Ok(()),
     }
@@ -66,10 +66,10 @@ fn push_paper(alloc: Global, fate: &mut BlockFate, codes: &[u16]) -> Result<(), 
 /// What a line adds to the last block.
 #[derive(Clone, Copy, Debug)]
 pub(crate) enum Addition<'a> {
-    /// A code, to a cast or an audited ballot.
+    /// A line, to a cast ballot.
+    Cast(CastLine),
+    /// A code, to an audited ballot.
     Code(CodeLine),
-    /// That this race is over, to a cast ballot.
-    Over(u32),
     /// The codes of a race read from the paper, to an audited ballot.
     Paper(&'a [u16]),
 }
@@ -79,8 +79,8 @@ fn push(alloc: Global, fate: &mut BlockFate, more: Addition) -> Result<(), NoMem
     ensures { OnOk result (fate.new ≡ change_of more.entry fate.old) }
 {
     match more {
+        Addition::Cast(line) => push_cast(fate, line),
         Addition::Code(code) => push_code(fate, code),
-        Addition::Over(race) => push_over(fate, race),
         Addition::Paper(codes) => push_paper(alloc, fate, codes),
     }
 }

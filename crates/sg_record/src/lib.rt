@@ -27,7 +27,7 @@ pub use openings::put_row;
 pub use pen::Pen;
 pub use posts::Posts;
 pub use read::{RecordReading, read_record};
-pub use record::{BallotBlock, BlockFate, DisputeBlock, Record, RowCommit};
+pub use record::{BallotBlock, BlockFate, CastLine, DisputeBlock, Record, RowCommit};
 pub use sg_forms::{CodeLine, Line, RowOpening, write_line};
 pub use sg_grammar::{Expect, read_line};
 pub use typed::{know_types, know_words};

@@ -1,6 +1,6 @@
 //! The seal of a section, written as a record has it.
 ghost use Rattle.std.specs.Prelude.{◌≡◌, ◌≤◌, ◌<◌};
-ghost use Rattle.sg_record.specs.Lines.{seal_line};
+ghost use Rattle.sg_record.specs.Tree.{as_line, seal_tree};
 ghost use Rattle.sg_record.specs.Pens.{Writes};
 
 use crate::pen::Pen;
@@ -18,7 +18,7 @@ pub(crate) fn put_section_seal<O: Sink>(
 ) -> Result<(), Failed>
     requires first { 1 ≤ section }
     requires last { section ≤ 3 }
-    ensures { Writes O.written O.faults pen.old out.old pen.new out.new result (seal_line section seals.now) }
+    ensures { Writes O.written O.faults pen.old out.old pen.new out.new result (seal_tree as_line section seals.now) }
 {
     let digest = seals[section as usize - 1];
     let seal = Line::Seal {

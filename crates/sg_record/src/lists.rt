@@ -9,7 +9,7 @@ ghost use Rattle.sg_record.specs.inside.Growing.{Adds, IsOfRace, with_plan};
 
 use crate::last::{Addition, begin_fate, push_dispute_code, push_last};
 use crate::nested::{empty_lists, empty_tables, push_at, push_bits_at, push_bits_in, push_in};
-use crate::record::{BallotBlock, DisputeBlock, Record, RowCommit};
+use crate::record::{BallotBlock, CastLine, DisputeBlock, Record, RowCommit};
 use hex::FromHexError;
 use sg_commit::Digest;
 use sg_forms::{CodeLine, Line, RowOpening};
@@ -94,7 +94,8 @@ impl Lists {
             }
             PlacedLine::Code { block, code, .. } => self.add_code(alloc, block, code),
             PlacedLine::Over { race, .. } => {
-                push_last(alloc, &mut self.ballots, Addition::Over(race))
+                let line = CastLine::Over(race);
+                push_last(alloc, &mut self.ballots, Addition::Cast(line))
             }
             PlacedLine::Paper { codes, count, .. } => {
                 let paper = Addition::Paper(first_codes(&codes, count));
@@ -167,9 +168,11 @@ impl Lists {
         ensures { OnOk result ((ballot race column : ℕ) → (s : Said) → Adds self.old self.new (CodeAt block ballot race column code) s) }
     {
         match block {
-            Block::Cast | Block::Audited => {
-                push_last(alloc, &mut self.ballots, Addition::Code(code))
+            Block::Cast => {
+                let line = CastLine::Code(code);
+                push_last(alloc, &mut self.ballots, Addition::Cast(line))
             }
+            Block::Audited => push_last(alloc, &mut self.ballots, Addition::Code(code)),
             Block::Dispute => push_dispute_code(alloc, &mut self.disputes, code),
         }
     }

@@ -4,7 +4,8 @@ ghost use Rattle.sg_plan.specs.Limits.{most_public_bytes};
 ghost use Rattle.sg_forms.specs.Said.Said.{DrawPublic, Row};
 ghost use Rattle.sg_lines.specs.Words.{encode_lower};
 ghost use Rattle.sg_record.specs.Formed.{is_draw, is_formed};
-ghost use Rattle.sg_record.specs.Lines.{draw_line, indexed, opening_lines, race_row_lines, second_lines};
+ghost use Rattle.sg_record.specs.Lines.{second_lines};
+ghost use Rattle.sg_record.specs.Tree.{as_line, draw_leaf, indexed, opening_tree, race_row_tree};
 ghost use Rattle.sg_record.specs.Pens.{SealsWhere, Writes};
 ghost use Rattle.sg_record.specs.Writing.{text_in};
 
@@ -22,7 +23,7 @@ const MOST_DIGITS: usize = 2 * MOST_PUBLIC_BYTES;
 /// Writes the draw: with public bytes there are 1 to 4,096 of them.
 fn put_draw<O: Sink>(pen: &mut Pen, draw: &Draw, out: &mut O) -> Result<(), Failed>
     requires draw { is_draw draw.now ≡ true }
-    ensures { Writes O.written O.faults pen.old out.old pen.new out.new result (draw_line draw.now ∷ []) }
+    ensures { Writes O.written O.faults pen.old out.old pen.new out.new result (draw_leaf as_line draw.now ∷ []) }
 {
     match draw {
         Draw::Full => pen.put_line(&Line::DrawFull, out),
@@ -62,7 +63,7 @@ fn put_race_rows<P: Posts, O: Sink>(
     requires ready { P.is_ready posted.now }
     requires formed { is_formed (P.posted posted.now) ≡ true }
     requires race { race < length (P.posted posted.now).plan.races }
-    ensures { Writes O.written O.faults pen.old out.old pen.new out.new result (race_row_lines race (slice_index_or (P.posted posted.now).rows race [])) }
+    ensures { Writes O.written O.faults pen.old out.old pen.new out.new result (race_row_tree as_line race (slice_index_or (P.posted posted.now).rows race [])) }
 {
     for instance in 0..count_instances(posted) {
         posted.put_instance_rows(pen, race, instance, out)?;
@@ -74,7 +75,7 @@ fn put_race_rows<P: Posts, O: Sink>(
 fn put_rows<P: Posts, O: Sink>(pen: &mut Pen, posted: &P, out: &mut O) -> Result<(), Failed>
     requires ready { P.is_ready posted.now }
     requires formed { is_formed (P.posted posted.now) ≡ true }
-    ensures { Writes O.written O.faults pen.old out.old pen.new out.new result (indexed race_row_lines 0 (P.posted posted.now).rows) }
+    ensures { Writes O.written O.faults pen.old out.old pen.new out.new result (indexed (race_row_tree as_line) 0 (P.posted posted.now).rows) }
 {
     for race in 0..count_races(posted) {
         put_race_rows(pen, posted, race, out)?;
@@ -92,7 +93,7 @@ pub(crate) fn put_openings<P: Posts, O: Sink>(
     requires ready { P.is_ready posted.now }
     requires formed { is_formed (P.posted posted.now) ≡ true }
     requires seal { SealsWhere P.wants_seal pen.old.seal (text_in (P.posted posted.now).plan.version (second_lines (P.posted posted.now))) }
-    ensures { Writes O.written O.faults pen.old out.old pen.new out.new result (opening_lines (P.posted posted.now)) }
+    ensures { Writes O.written O.faults pen.old out.old pen.new out.new result (opening_tree as_line (P.posted posted.now)) }
 {
     put_draw(pen, posted.draw(), out)?;
     put_rows(pen, posted, out)?;

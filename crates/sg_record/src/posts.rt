@@ -2,7 +2,8 @@
 ghost use Rattle.std.specs.Prelude.{◌≡◌, ◌<◌, ◌≤◌, [], length, slice_index_or, true};
 ghost use Rattle.std.specs.List.{flat_map};
 ghost use Rattle.sg_record.specs.Formed.{is_formed};
-ghost use Rattle.sg_record.specs.Lines.{block_lines, dispute_lines, instance_row_commit_lines, instance_row_lines, lines_before, race_code_commit_lines, seal_line};
+ghost use Rattle.sg_record.specs.Lines.{lines_before};
+ghost use Rattle.sg_record.specs.Tree.{as_line, block_tree, dispute_tree, instance_row_commit_tree, instance_row_tree, race_code_commit_tree, seal_tree};
 ghost use Rattle.sg_record.specs.Pens.{SealsWhere, Writes};
 ghost use Rattle.sg_record.specs.Writing.{text_in};
 ghost use Rattle.sg_record.specs.declared.record.Record.{Record};
@@ -49,7 +50,7 @@ pub trait Posts {
     fn put_race_codes<O: Sink>(&self, pen: &mut Pen, race: u32, out: &mut O) -> Result<(), Failed>
         requires ready { is_ready self.now }
         requires race { race < length (posted self.now).plan.races }
-        ensures { Writes O.written O.faults pen.old out.old pen.new out.new result (race_code_commit_lines race (slice_index_or (posted self.now).code_commits race [])) };
+        ensures { Writes O.written O.faults pen.old out.old pen.new out.new result (race_code_commit_tree as_line race (slice_index_or (posted self.now).code_commits race [])) };
 
     /// Writes the commitments of the rows of an instance.
     fn put_instance_commits<O: Sink>(
@@ -62,7 +63,7 @@ pub trait Posts {
         requires ready { is_ready self.now }
         requires race { race < length (posted self.now).plan.races }
         requires instance { instance < (posted self.now).plan.instances }
-        ensures { Writes O.written O.faults pen.old out.old pen.new out.new result (instance_row_commit_lines race instance (slice_index_or (slice_index_or (posted self.now).row_commits race []) instance [])) };
+        ensures { Writes O.written O.faults pen.old out.old pen.new out.new result (instance_row_commit_tree as_line race instance (slice_index_or (slice_index_or (posted self.now).row_commits race []) instance [])) };
 
     /// Writes the blocks of all ballots.
     fn put_blocks<O: Sink>(
@@ -74,7 +75,7 @@ pub trait Posts {
         requires version { pen.old.version ≡ (posted self.now).plan.version }
         requires ready { is_ready self.now }
         requires index { index.now ≡ (posted self.now).plan }
-        ensures { Writes O.written O.faults pen.old out.old pen.new out.new result (flat_map (block_lines (posted self.now).plan) (posted self.now).ballots) };
+        ensures { Writes O.written O.faults pen.old out.old pen.new out.new result (flat_map (block_tree as_line (posted self.now).plan) (posted self.now).ballots) };
 
     /// Writes what is opened of the rows of an instance.
     fn put_instance_rows<O: Sink>(
@@ -87,7 +88,7 @@ pub trait Posts {
         requires ready { is_ready self.now }
         requires race { race < length (posted self.now).plan.races }
         requires instance { instance < (posted self.now).plan.instances }
-        ensures { Writes O.written O.faults pen.old out.old pen.new out.new result (instance_row_lines instance (slice_index_or (slice_index_or (posted self.now).rows race []) instance [])) };
+        ensures { Writes O.written O.faults pen.old out.old pen.new out.new result (instance_row_tree as_line race instance (slice_index_or (slice_index_or (posted self.now).rows race []) instance [])) };
 
     /// Writes the blocks of all disputes.
     fn put_disputes<O: Sink>(
@@ -99,14 +100,14 @@ pub trait Posts {
         requires version { pen.old.version ≡ (posted self.now).plan.version }
         requires ready { is_ready self.now }
         requires index { index.now ≡ (posted self.now).plan }
-        ensures { Writes O.written O.faults pen.old out.old pen.new out.new result (flat_map dispute_lines (posted self.now).disputes) };
+        ensures { Writes O.written O.faults pen.old out.old pen.new out.new result (flat_map (dispute_tree as_line) (posted self.now).disputes) };
 
     /// Writes the seal of a section, behind all lines before it.
     fn put_seal<O: Sink>(&self, pen: &mut Pen, section: u32, out: &mut O) -> Result<(), Failed>
         requires first { 1 ≤ section }
         requires last { section ≤ 3 }
         requires seal { SealsWhere wants_seal pen.old.seal (text_in (posted self.now).plan.version (lines_before section (posted self.now))) }
-        ensures { Writes O.written O.faults pen.old out.old pen.new out.new result (seal_line section (posted self.now).seals) };
+        ensures { Writes O.written O.faults pen.old out.old pen.new out.new result (seal_tree as_line section (posted self.now).seals) };
 }
 
 /// How many races the plan has.

@@ -12,11 +12,20 @@ pub struct RowCommit {
     pub right: Digest,
 }
 
+/// A line of a cast ballot's block.
+#[derive(Clone, Copy, Debug, PartialEq, Eq)]
+pub enum CastLine {
+    /// The code of a mark.
+    Code(CodeLine),
+    /// The race is over: it has more marks than a voter has votes in it, and none of them counts.
+    Over(u32),
+}
+
 /// What a ballot's block says of it.
 #[derive(Debug, Drop)]
 pub enum BlockFate {
-    /// It was cast: the codes of its marks, by race and column, and the races that are over on it.
-    Cast(Items<CodeLine>, Items<u32>),
+    /// It was cast: the codes of its marks, and which races are over on it, by race and column.
+    Cast(Items<CastLine>),
     /// It was spoiled.
     Spoiled,
     /// It was audited: the codes read from its paper, and then its codes, by race and column.

@@ -4,7 +4,8 @@ ghost use Rattle.std.specs.List.{flat_map};
 ghost use Rattle.sg_forms.specs.Said.Said.{Total};
 ghost use Rattle.sg_grammar.specs.Due.{each, lines_for};
 ghost use Rattle.sg_record.specs.Formed.{is_formed};
-ghost use Rattle.sg_record.specs.Lines.{bit_sign, block_lines, first_lines, flag_line, flag_lines, indexed, place_line, place_lines, race_result_lines, result_lines, total_line};
+ghost use Rattle.sg_record.specs.Lines.{first_lines};
+ghost use Rattle.sg_record.specs.Tree.{as_line, bit_sign, block_tree, flag_leaf, flag_tree, indexed, place_leaf, place_tree, race_results_tree, result_tree, total_leaf};
 ghost use Rattle.sg_record.specs.Pens.{SealsWhere, Writes};
 ghost use Rattle.sg_record.specs.Writing.{text_in};
 ghost use Rattle.sg_record.specs.inside.Parts.{HasRaces};
@@ -69,7 +70,7 @@ fn put_flag_line<O: Sink>(
     out: &mut O,
 ) -> Result<(), Failed>
     requires line { line < lines_for (length bits.now) }
-    ensures { Writes O.written O.faults pen.old out.old pen.new out.new result (flag_line race instance bits.now line) }
+    ensures { Writes O.written O.faults pen.old out.old pen.new out.new result (flag_leaf as_line race instance bits.now line) }
 {
     let on_line = bits_on(bits.as_slice(), line);
     let mut signs = [0; MOST_BITS];
@@ -90,7 +91,7 @@ fn put_flag_lines<O: Sink>(
     bits: &Items<bool>,
     out: &mut O,
 ) -> Result<(), Failed>
-    ensures { Writes O.written O.faults pen.old out.old pen.new out.new result (flag_lines race instance bits.now) }
+    ensures { Writes O.written O.faults pen.old out.old pen.new out.new result (flag_tree as_line race instance bits.now) }
 {
     for line in 0..count_lines(bits.len()) {
         put_flag_line(pen, race, instance, bits, line, out)?;
@@ -106,7 +107,7 @@ fn put_race_flags<O: Sink>(
     out: &mut O,
 ) -> Result<(), Failed>
     requires few { length instances.now < 2 ^ 32 }
-    ensures { Writes O.written O.faults pen.old out.old pen.new out.new result (indexed (flag_lines race) 0 instances.now) }
+    ensures { Writes O.written O.faults pen.old out.old pen.new out.new result (indexed (flag_tree as_line race) 0 instances.now) }
 {
     for instance in 0..instances.len() {
         let bits = instances.get(instance);
@@ -125,7 +126,7 @@ fn put_place_line<O: Sink>(
     out: &mut O,
 ) -> Result<(), Failed>
     requires line { line < lines_for (length bits.now) }
-    ensures { Writes O.written O.faults pen.old out.old pen.new out.new result (place_line race bits.now line) }
+    ensures { Writes O.written O.faults pen.old out.old pen.new out.new result (place_leaf as_line race bits.now line) }
 {
     let on_line = bits_on(bits.as_slice(), line);
     let mut signs = [0; MOST_BITS];
@@ -144,7 +145,7 @@ fn put_place_lines<O: Sink>(
     bits: &Items<bool>,
     out: &mut O,
 ) -> Result<(), Failed>
-    ensures { Writes O.written O.faults pen.old out.old pen.new out.new result (place_lines race bits.now) }
+    ensures { Writes O.written O.faults pen.old out.old pen.new out.new result (place_tree as_line race bits.now) }
 {
     for line in 0..count_lines(bits.len()) {
         put_place_line(pen, race, bits, line, out)?;
@@ -178,7 +179,7 @@ fn put_totals<O: Sink>(
     out: &mut O,
 ) -> Result<(), Failed>
     requires few { length totals.now < 2 ^ 32 }
-    ensures { Writes O.written O.faults pen.old out.old pen.new out.new result (indexed (total_line race) 0 totals.now) }
+    ensures { Writes O.written O.faults pen.old out.old pen.new out.new result (indexed (total_leaf as_line race) 0 totals.now) }
 {
     for candidate in 0..totals.len() {
         let count = totals.get(candidate);
@@ -197,7 +198,7 @@ fn put_race_results<P: Posts, O: Sink>(
     requires ready { P.is_ready posted.now }
     requires race { race < length (P.posted posted.now).plan.races }
     requires lists { HasRaces (P.posted posted.now) }
-    ensures { Writes O.written O.faults pen.old out.old pen.new out.new result (race_result_lines (P.posted posted.now) race) }
+    ensures { Writes O.written O.faults pen.old out.old pen.new out.new result (race_results_tree as_line (P.posted posted.now) race) }
 {
     let flags = posted.flags().get(race as usize);
     let places = posted.places().get(race as usize);
@@ -211,7 +212,7 @@ fn put_race_results<P: Posts, O: Sink>(
 fn put_results<P: Posts, O: Sink>(pen: &mut Pen, posted: &P, out: &mut O) -> Result<(), Failed>
     requires ready { P.is_ready posted.now }
     requires formed { is_formed (P.posted posted.now) ≡ true }
-    ensures { Writes O.written O.faults pen.old out.old pen.new out.new result (each (race_result_lines (P.posted posted.now)) 0 (length (P.posted posted.now).plan.races)) }
+    ensures { Writes O.written O.faults pen.old out.old pen.new out.new result (each (race_results_tree as_line (P.posted posted.now)) 0 (length (P.posted posted.now).plan.races)) }
 {
     for race in 0..count_races(posted) {
         put_race_results(pen, posted, race, out)?;
@@ -231,7 +232,7 @@ pub(crate) fn put_closed<P: Posts, O: Sink>(
     requires formed { is_formed (P.posted posted.now) ≡ true }
     requires index { index.now ≡ (P.posted posted.now).plan }
     requires seal { SealsWhere P.wants_seal pen.old.seal (text_in (P.posted posted.now).plan.version (first_lines (P.posted posted.now))) }
-    ensures { Writes O.written O.faults pen.old out.old pen.new out.new result (flat_map (block_lines (P.posted posted.now).plan) (P.posted posted.now).ballots ++ result_lines (P.posted posted.now)) }
+    ensures { Writes O.written O.faults pen.old out.old pen.new out.new result (flat_map (block_tree as_line (P.posted posted.now).plan) (P.posted posted.now).ballots ++ result_tree as_line (P.posted posted.now)) }
 {
     posted.put_blocks(pen, index, out)?;
     put_results(pen, posted, out)?;

@@ -5,9 +5,9 @@ ghost use Rattle.std.specs.Prelude.{◌≡◌, All, true};
 ghost use Rattle.sg_forms.specs.Spelling.{IsNumber, IsRow};
 ghost use Rattle.sg_record.specs.Formed.{is_formed};
 ghost use Rattle.sg_record.specs.Laws.{HasWords};
-ghost use Rattle.sg_record.specs.Typed.{AreDigests, AreDrawn, BlockHasKeys, DisputeHasKeys, HasKey, HaveKeys, IsDigest, IsTyped};
+ghost use Rattle.sg_record.specs.Typed.{AreDigests, AreDrawn, BlockHasKeys, DisputeHasKeys, HasCastKey, HasKey, HaveKeys, IsDigest, IsTyped};
 
-use crate::record::{BallotBlock, BlockFate, DisputeBlock, Record, RowCommit};
+use crate::record::{BallotBlock, BlockFate, CastLine, DisputeBlock, Record, RowCommit};
 use sg_commit::Digest;
 use sg_forms::{CodeLine, RowOpening, know_bytes, know_digest, know_key, know_numbers, know_row};
 use sg_plan::{Draw, Items};
@@ -74,12 +74,31 @@ fn know_codes(codes: &Items<CodeLine>)
     }
 }
 
+/// The key of a line of a cast ballot is such, if it has one.
+fn know_cast_line(line: &CastLine)
+    ensures { HasCastKey line.now }
+{
+    if let CastLine::Code(code) = line {
+        know_key(&code.key);
+    }
+}
+
+/// The keys of the lines of a cast ballot are such.
+fn know_cast_lines(lines: &Items<CastLine>)
+    ensures { All HasCastKey lines.now }
+{
+    for at in 0..lines.len() {
+        know_cast_line(lines.get(at));
+    }
+}
+
 /// The keys of a ballot's block are such.
 fn know_fate(fate: &BlockFate)
     ensures { HaveKeys fate.now }
 {
     match fate {
-        BlockFate::Cast(codes, _) | BlockFate::Audited(_, codes) => know_codes(codes),
+        BlockFate::Cast(lines) => know_cast_lines(lines),
+        BlockFate::Audited(_, codes) => know_codes(codes),
         BlockFate::Spoiled | BlockFate::Voided => {}
     }
 }

@@ -2,7 +2,9 @@
 use crate::lists::{are_by_instance, are_by_race};
 use sg_commit::{Digest, Key, Opening};
 use sg_plan::{ClaimWord, Draw, Paper, Plan, Race, Run, Style};
-use sg_record::{BallotBlock, BlockFate, CodeLine, DisputeBlock, Record, RowCommit, RowOpening};
+use sg_record::{
+    BallotBlock, BlockFate, CastLine, CodeLine, DisputeBlock, Record, RowCommit, RowOpening,
+};
 
 /// A digest and a key of zeros, and a digest of the greatest bytes.
 const ZEROS: Digest = Digest([0; 32]);
@@ -27,6 +29,11 @@ const fn code(race: u32, column: u32, code: u16) -> CodeLine {
         key: KEY,
         code,
     }
+}
+
+/// The line of a mark, with such a code.
+const fn mark(race: u32, column: u32, shown: u16) -> CastLine {
+    CastLine::Code(code(race, column, shown))
 }
 
 /// The candidates have these letters for names.
@@ -105,10 +112,10 @@ fn has_entries(posted: &Record, counts: (usize, usize), instances: usize) -> boo
         && posted.seals == [ZEROS, ONES, ZEROS]
 }
 
-/// The ballot is cast, with these codes and races that are over.
-fn is_cast(block: &BallotBlock, codes: &[CodeLine], over: &[u32]) -> bool {
+/// The ballot is cast, with these lines.
+fn is_cast(block: &BallotBlock, lines: &[CastLine]) -> bool {
     match &block.fate {
-        BlockFate::Cast(marks, races) => marks.as_slice() == codes && races.as_slice() == over,
+        BlockFate::Cast(own) => own.as_slice() == lines,
         _ => false,
     }
 }
@@ -133,14 +140,14 @@ fn is_audited(block: &BallotBlock) -> bool {
 
 /// The blocks are one of each fate, and a second one of a cast ballot.
 fn are_fates(blocks: &[BallotBlock]) -> bool {
-    let marks = [code(0, 1, 31), code(1, 0, 0), code(1, 1, 1)];
+    let marks = [mark(0, 1, 31), mark(1, 0, 0), mark(1, 1, 1)];
     match blocks {
         [cast, audited, spoiled, voided, over] => {
-            is_cast(cast, marks.as_slice(), &[])
+            is_cast(cast, marks.as_slice())
                 && is_audited(audited)
                 && matches!(spoiled.fate, BlockFate::Spoiled)
                 && matches!(voided.fate, BlockFate::Voided)
-                && is_cast(over, &[], &[0])
+                && is_cast(over, &[CastLine::Over(0)])
         }
         _ => false,
     }

@@ -9,7 +9,7 @@ ghost use Rattle.sg_reports.specs.declared.report.Report.TheVariants.{Audit};
 
 use crate::report::{Report, report_of, write_report};
 use sg_outside::{Sink, Source};
-use sg_plan::{Items, NoMemory, Word};
+use sg_plan::{Items, Word};
 use sg_words::command_of;
 use std::alloc::Global;
 
@@ -21,9 +21,9 @@ pub fn run_reports<S: Source, O: Sink>(
     input: &mut S,
     out: &mut O,
 ) -> u8
-    // Status 2 comes exactly where the words are no such command's, but for want of memory (9). Then nothing is read or written.
+    // Status 2 comes exactly where the words are no such command's. Then nothing is read or written.
     ensures form { result ≡ 2 → report_in words.now ≡ None }
-    ensures refused { report_in words.now ≡ None → (result ≡ 2) ⊎ (result ≡ 9) }
+    ensures refused { report_in words.now ≡ None → result ≡ 2 }
     ensures untouched { report_in words.now ≡ None → (input.new ≡ input.old) × (out.new ≡ out.old) }
     // With `audit`, where the input tells its bytes: it answers yes exactly when the bytes read are a whole record whose
     // openings match their commitments and whose opened halves agree; then, for every printing and every completion that
@@ -38,13 +38,9 @@ pub fn run_reports<S: Source, O: Sink>(
     // After a read that failed, and where memory was wanted, the output is as it was.
     ensures unwritten { (result ≡ 3) ⊎ (result ≡ 9) → out.new ≡ out.old }
 {
-    match command_of(alloc, words) {
-        Ok(Some(command)) => match report_of(command) {
-            Some(report) => status_with(alloc, report, input, out),
-            None => 2,
-        },
-        Ok(None) => 2,
-        Err(NoMemory) => 9,
+    match command_of(words).and_then(report_of) {
+        Some(report) => status_with(alloc, report, input, out),
+        None => 2,
     }
 }
 

@@ -21,7 +21,8 @@ use Rattle.sg_forms.specs.Said.{Said}
 use Rattle.sg_forms.specs.Said.Said.{Seal}
 use Rattle.sg_forms.specs.Spelling.{spelling}
 use Rattle.sg_record.proofs.Putting.{text-append}
-use Rattle.sg_record.specs.Lines.{block_lines, commit_lines, draw_line, indexed, lines_in, plan_lines, race_row_lines, result_lines}
+use Rattle.sg_record.specs.Lines.{lines_in, plan_lines}
+use Rattle.sg_record.specs.Tree.{as_line, block_tree, commit_tree, draw_leaf, indexed, race_row_tree, result_tree}
 use Rattle.sg_record.specs.Writing.{text_in}
 use Rattle.sg_record.specs.declared.record.Record.{Record}
 use Rattle.sg_acts.specs.declared.asks.Act.TheVariants as act
@@ -30,7 +31,8 @@ use Rattle.sg_post.specs.Posted.{lines_at, posted_record, posted_text, seal_3}
 use Rattle.sg_post.specs.declared.story.Claimed.{Claimed}
 use Rattle.sg_post.specs.declared.story.Story.{Story}
 use Rattle.sg_post.specs.declared.story.Told.{Told}
-use Rattle.sg_histories.specs.Answers.{entry_of, fits_draw}
+use Rattle.sg_histories.specs.Answers.{entry_of}
+use Rattle.sg_record.specs.Formed.{is_draw}
 use Rattle.sg_histories.specs.Histories.{Entry, claims_of, fate_of, phase_word, stage_of}
 use Rattle.sg_histories.specs.HistoryLaws.{history_after}
 use Rattle.sg_histories.specs.Lawful.{IsAskable, Lawful}
@@ -49,7 +51,7 @@ use Rattle.sg_sample.proofs.Voting.{Stood, behind_done, stood_behind, whole_done
 
 -- THE HISTORY
 
-pub draw_fits : (number : ℕ) → fits_draw (sample_draw number) ≡ true
+pub draw_fits : (number : ℕ) → is_draw (sample_draw number) ≡ true
 draw_fits number = refl
 
 high_bytes : (k n i : ℕ) → slice_index (bytes_high_first k n) i < 256
@@ -127,14 +129,14 @@ last_behind head commits blocks results rows draws seal = simp (append_assoc, ap
 before_seal : Record → List Said
 before_seal posted =
     plan_lines posted.plan
-    ++ (commit_lines posted ++ (flat_map (block_lines posted.plan) posted.ballots ++ (result_lines posted ++ (draw_line posted.draw ∷ indexed race_row_lines 0 posted.rows))))
+    ++ (commit_tree as_line posted ++ (flat_map (block_tree as_line posted.plan) posted.ballots ++ (result_tree as_line posted ++ (draw_leaf as_line posted.draw ∷ indexed (race_row_tree as_line) 0 posted.rows))))
 
 record_lines : (plan : Plan) (seed : List ℕ) (fates : List Told) (draw : Draw)
     → lines_in (posted_record plan seed fates draw []) ≡ before_seal (posted_record plan seed fates draw []) ++ Seal 3 (seal_3 plan seed fates draw) ∷ []
 unfolding before_seal
 record_lines plan seed fates draw =
     let posted = posted_record plan seed fates draw [] in
-    last_behind (plan_lines plan) (commit_lines posted) (flat_map (block_lines plan) posted.ballots) (result_lines posted) (indexed race_row_lines 0 posted.rows) (draw_line draw) (Seal 3 (seal_3 plan seed fates draw))
+    last_behind (plan_lines plan) (commit_tree as_line posted) (flat_map (block_tree as_line plan) posted.ballots) (result_tree as_line posted) (indexed (race_row_tree as_line) 0 posted.rows) (draw_leaf as_line draw) (Seal 3 (seal_3 plan seed fates draw))
 
 whole_seal : (plan : Plan) (seed : List ℕ) (fates : List Told) (draw : Draw) → length (seal_3 plan seed fates draw).0 ≡ 32
 unfolding seal_3

@@ -14,7 +14,8 @@ use Rattle.sg_acts.specs.declared.asks.Ask.{Ask}
 use Rattle.sg_acts.specs.declared.asks.Ask.TheVariants as ask
 use Rattle.sg_acts.specs.declared.asks.Stamp.{Stamp}
 use Rattle.sg_keeper.specs.declared.setup.Setup.{Setup}
-use Rattle.sg_histories.specs.Answers.{accepts, answer_of, entry_of, fits_draw, is_done, knows_secret_of, next_history, refusal_of, repeat_of}
+use Rattle.sg_histories.specs.Answers.{accepts, answer_of, entry_of, is_done, knows_secret_of, next_history, refusal_of, repeat_of}
+use Rattle.sg_record.specs.Formed.{is_draw}
 use Rattle.sg_histories.specs.Histories.{Entry, claims_of, fate_of, is_stamped, phase_word, stage_of}
 use Rattle.sg_histories.specs.HistoryLaws.{history_after}
 use Rattle.sg_histories.specs.Lawful.{IsAccepted, IsAskable, Lawful}
@@ -151,7 +152,7 @@ closed : (setup : Setup) (asks : List Ask) (before : ℕ) → setup.secrets ≡ 
     → history_after setup (with_act asks act.Close) ≡ entry_of (stamp_of (length asks)) act.Close ∷ history_after setup asks
 closed setup asks before secrets stood = goes_on setup (history_after setup asks) (stamp_of (length asks)) act.Close (close_accepted setup asks before secrets stood)
 
-pub draw_accepted : (setup : Setup) (asks : List Ask) (before : ℕ) (drawn : Draw) → setup.secrets ≡ sample_secret ∷ [] → Stood setup asks before → fits_draw drawn ≡ true
+pub draw_accepted : (setup : Setup) (asks : List Ask) (before : ℕ) (drawn : Draw) → setup.secrets ≡ sample_secret ∷ [] → Stood setup asks before → is_draw drawn ≡ true
     → accepts setup (history_after setup (with_act asks act.Close)) (stamp_of (suc (length asks))) (act.Draw drawn) ≡ true
 draw_accepted setup asks before drawn secrets stood fits =
     subst (λ (l : List Entry). accepts setup l (stamp_of (suc (length asks))) (act.Draw drawn) ≡ true) (sym (closed setup asks before secrets stood))
@@ -163,7 +164,7 @@ draw_accepted setup asks before drawn secrets stood fits =
     none = rw fits refl
 
 -- the whole history
-pub whole_history : (setup : Setup) (asks : List Ask) (before : ℕ) (drawn : Draw) → setup.secrets ≡ sample_secret ∷ [] → Stood setup asks before → fits_draw drawn ≡ true
+pub whole_history : (setup : Setup) (asks : List Ask) (before : ℕ) (drawn : Draw) → setup.secrets ≡ sample_secret ∷ [] → Stood setup asks before → is_draw drawn ≡ true
     → history_after setup (with_act (with_act asks act.Close) (act.Draw drawn))
     ≡ entry_of (stamp_of (suc (length asks))) (act.Draw drawn) ∷ entry_of (stamp_of (length asks)) act.Close ∷ history_after setup asks
 whole_history setup asks before drawn secrets stood fits =
@@ -171,7 +172,7 @@ whole_history setup asks before drawn secrets stood fits =
     ∙ ap (λ (l : List Entry). entry_of (stamp_of (suc (length asks))) (act.Draw drawn) ∷ l) (closed setup asks before secrets stood)
 
 -- is lawful
-pub whole_lawful : (setup : Setup) (asks : List Ask) (before : ℕ) (drawn : Draw) → before ≤ 9000 → setup.secrets ≡ sample_secret ∷ [] → Stood setup asks before → fits_draw drawn ≡ true
+pub whole_lawful : (setup : Setup) (asks : List Ask) (before : ℕ) (drawn : Draw) → before ≤ 9000 → setup.secrets ≡ sample_secret ∷ [] → Stood setup asks before → is_draw drawn ≡ true
     → IsAskable setup (act.Draw drawn) → Lawful setup (history_after setup (with_act (with_act asks act.Close) (act.Draw drawn)))
 whole_lawful setup asks before drawn few secrets stood fits askable =
     let later = draw_accepted setup asks before drawn secrets stood fits in
@@ -205,7 +206,7 @@ behind_done setup ballots (suc before) plan secrets few within =
           ap length (goes_on setup (history_after setup asks) (stamp_of (length asks)) done accepted) ∙ ap suc old.1,
         )
 
-pub whole_done : (setup : Setup) (asks : List Ask) (before : ℕ) (drawn : Draw) → setup.secrets ≡ sample_secret ∷ [] → Stood setup asks before → fits_draw drawn ≡ true → AreDone setup asks
+pub whole_done : (setup : Setup) (asks : List Ask) (before : ℕ) (drawn : Draw) → setup.secrets ≡ sample_secret ∷ [] → Stood setup asks before → is_draw drawn ≡ true → AreDone setup asks
     → AreDone setup (with_act (with_act asks act.Close) (act.Draw drawn))
 whole_done setup asks before drawn secrets stood fits done = (
   done_is setup (history_after setup (with_act asks act.Close)) (stamp_of (suc (length asks))) (act.Draw drawn) (draw_accepted setup asks before drawn secrets stood fits),

@@ -22,24 +22,15 @@ use Rattle.sg_words.specs.declared.sample.Sample.{Sample}
 
 abbrev pub is_cast : Fate → Bool
 is_cast (fate.Cast marks) = true
-is_cast fate.Unused = false
-is_cast fate.Spoiled = false
-is_cast (fate.Audited paper) = false
-is_cast fate.Voided = false
+is_cast other = false
 
 abbrev pub is_spoiled : Fate → Bool
 is_spoiled fate.Spoiled = true
-is_spoiled fate.Unused = false
-is_spoiled (fate.Cast marks) = false
-is_spoiled (fate.Audited paper) = false
-is_spoiled fate.Voided = false
+is_spoiled other = false
 
 abbrev pub is_audited : Fate → Bool
 is_audited (fate.Audited paper) = true
-is_audited fate.Unused = false
-is_audited (fate.Cast marks) = false
-is_audited fate.Spoiled = false
-is_audited fate.Voided = false
+is_audited other = false
 
 -- how many ballots have such a fate
 abbrev pub count_fates : (Fate → Bool) → List Told → ℕ

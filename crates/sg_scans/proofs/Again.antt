@@ -4,7 +4,7 @@ use Rattle.std.proofs.lemmas.Bool.{and_parts, eq-eqb, eqb-true}
 use Rattle.std.specs.Option.{option_map, unwrap_or}
 use Rattle.std.proofs.lemmas.Slice.Eq.{bytes_eq-Decides}
 use Rattle.sg_plan.specs.Ballots.{ballot_has, candidates_of}
-use Rattle.sg_plan.specs.Limits.{first_bad}
+use Rattle.sg_plan.specs.Limits.{first_bad, first_of}
 use Rattle.sg_plan.specs.declared.plan.Fate.{Fate}
 use Rattle.sg_plan.specs.declared.plan.Fate.TheVariants as fate
 use Rattle.sg_plan.specs.declared.plan.Mark.{Mark}
@@ -21,7 +21,7 @@ use Rattle.sg_keeper.specs.declared.setup.Setup.{Setup}
 use Rattle.sg_plan.specs.Fates.{has_mark}
 use Rattle.sg_desks.specs.ActTexts.{IsAct}
 use Rattle.sg_desks.proofs.ActsRead.{texts_differ}
-use Rattle.sg_histories.specs.Answers.{accepts, answer_of, body_of, early_refusal, early_reply, entry_of, first_reply, is_ballot, is_done, is_unused, is_voting, knows_secret_of, next_history, refusal_of, repeat_of, same_act, scan_refusal, unless}
+use Rattle.sg_histories.specs.Answers.{accepts, answer_of, body_of, early_refusal, early_reply, entry_of, is_ballot, is_done, is_unused, is_voting, knows_secret_of, next_history, refusal_of, repeat_of, same_act, scan_refusal, unless}
 use Rattle.sg_histories.specs.Histories.{Entry, fate_of, fate_word, is_stamped, phase_of}
 use Rattle.sg_histories.proofs.Accepted.{Passed, accepts_is, early, first_none, next_early, passed}
 use Rattle.sg_scans.specs.ScanLaws.{AnswersAlike, IsScan, Scan, scan_act, scan_ask}
@@ -32,7 +32,7 @@ abbrev pub Refuses : Option Reply → Type 0
 Refuses None = Unit {0}
 Refuses (Some said) = is_done said ≡ false
 
-refuses_first : (o : Option Reply) (os : List (Option Reply)) → Refuses o → Refuses (first_reply os) → Refuses (first_reply (o ∷ os))
+refuses_first : (o : Option Reply) (os : List (Option Reply)) → Refuses o → Refuses (first_of os) → Refuses (first_of (o ∷ os))
 refuses_first None os one more = more
 refuses_first (Some said) os one more = one
 
@@ -103,7 +103,7 @@ alike_then a b c one two = by_done (is_done a) refl
 
 -- the reply, by the three parts
 abbrev early_is : (secret : Bool) (again refusal : Option Reply) → Option Reply
-early_is secret again refusal = first_reply (unless secret reply.Secret ∷ again ∷ refusal ∷ [])
+early_is secret again refusal = first_of (unless secret reply.Secret ∷ again ∷ refusal ∷ [])
 
 -- whether a number was taken does not depend on what it was taken for
 taken : (setup : Setup) (history : List Entry) (a b : Stamp) (x y : Act) → a.station ≡ b.station → a.number ≡ b.number

@@ -18,20 +18,14 @@ use Rattle.sg_tables.specs.Tables.{code_of_entry, codes_of_row, shown_by}
 -- a voter has votes
 abbrev pub fate_marks : Plan → ℕ → ℕ → Fate → Bool
 fate_marks plan race candidate (fate.Cast marks) = has_mark marks race candidate && not (is_over plan marks race)
-fate_marks plan race candidate fate.Unused = false
-fate_marks plan race candidate fate.Spoiled = false
-fate_marks plan race candidate (fate.Audited paper) = false
-fate_marks plan race candidate fate.Voided = false
+fate_marks plan race candidate other = false
 
 -- VOID RACES
 
 -- the race is void on a ballot with this fate: it is cast, and has more marks there than a voter has votes
 abbrev pub is_void : Plan → Fate → ℕ → Bool
 is_void plan (fate.Cast marks) race = is_over plan marks race
-is_void plan fate.Unused race = false
-is_void plan fate.Spoiled race = false
-is_void plan (fate.Audited paper) race = false
-is_void plan fate.Voided race = false
+is_void plan other race = false
 
 -- the void races of a ballot with this fate, rising
 abbrev pub void_races : Plan → Fate → List ℕ

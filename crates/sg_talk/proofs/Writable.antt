@@ -5,7 +5,7 @@ use Rattle.std.specs.Prelude.{IfSome}
 use Rattle.std.specs.Option.{option_map, unwrap_or}
 use Rattle.sg_plan.specs.Ballots.{ballot_has, candidates_of, races_of_ballot}
 use Rattle.sg_plan.specs.Fates.{has_mark}
-use Rattle.sg_plan.specs.Limits.{fault_of, first_bad}
+use Rattle.sg_plan.specs.Limits.{fault_of, first_bad, first_of}
 use Rattle.sg_plan.specs.declared.plan.Fate.{Fate}
 use Rattle.sg_plan.specs.declared.plan.Mark.{Mark}
 use Rattle.sg_plan.specs.declared.plan.Plan.{Plan}
@@ -25,7 +25,8 @@ use Rattle.sg_asks.specs.Replies.{HasPlainText, HasReplyCodes, IsPlain}
 use Rattle.sg_talk.specs.declared.answered.Answered.TheVariants as answered
 use Rattle.sg_talk.specs.Answers.{IsWritable}
 use Rattle.sg_desks.specs.ActTexts.{act_text}
-use Rattle.sg_histories.specs.Answers.{answer_of, body_of, body_with, early_refusal, early_reply, first_reply, fits_draw, fits_races, is_ballot, is_cast_word, is_closed, is_drawn, is_unused, is_voting, knows_secret_of, look_reply, refusal_of, repeat_of, same_act, scan_refusal, unless}
+use Rattle.sg_histories.specs.Answers.{answer_of, body_of, body_with, early_refusal, early_reply, fits_races, is_ballot, is_cast_word, is_closed, is_drawn, is_unused, is_voting, knows_secret_of, look_reply, refusal_of, repeat_of, same_act, scan_refusal, unless}
+use Rattle.sg_record.specs.Formed.{is_draw}
 use Rattle.sg_histories.specs.Histories.{Entry, claims_of, fate_of, fate_word, is_stamped, phase_of, scanner_of}
 use Rattle.sg_histories.specs.Lawful.{IsAccepted, Lawful, Turn}
 use Rattle.sg_histories.proofs.Accepted.{passed}
@@ -41,7 +42,7 @@ abbrev CanWriteEach : ℕ → List (Option Reply) → Type 0
 CanWriteEach version [] = Unit {0}
 CanWriteEach version (refusal ∷ refusals) = IfSome refusal (CanWrite version) × CanWriteEach version refusals
 
-first_can : (version : ℕ) (refusals : List (Option Reply)) → CanWriteEach version refusals → IfSome (first_reply refusals) (CanWrite version)
+first_can : (version : ℕ) (refusals : List (Option Reply)) → CanWriteEach version refusals → IfSome (first_of refusals) (CanWrite version)
 first_can version [] each = tt
 first_can version (None ∷ refusals) each = first_can version refusals each.1
 first_can version (Some refusal ∷ refusals) each = each.0
@@ -85,8 +86,8 @@ refusal_can version setup history station act.Close =
     first_can version (unless (is_voting now) (reply.Phase now) ∷ []) (unless_can version (is_voting now) (reply.Phase now) (tt, tt), tt)
 refusal_can version setup history station (act.Draw drawn) =
     let now = phase_of history in
-    first_can version (unless (is_closed now) (reply.Phase now) ∷ unless (fits_draw drawn) reply.Draw ∷ [])
-    (unless_can version (is_closed now) (reply.Phase now) (tt, tt), (unless_can version (fits_draw drawn) reply.Draw (tt, tt), tt))
+    first_can version (unless (is_closed now) (reply.Phase now) ∷ unless (is_draw drawn) reply.Draw ∷ [])
+    (unless_can version (is_closed now) (reply.Phase now) (tt, tt), (unless_can version (is_draw drawn) reply.Draw (tt, tt), tt))
 refusal_can version setup history station (act.Claim ballot race code) =
     let now = phase_of history in
     let kept = length (claims_of history) in

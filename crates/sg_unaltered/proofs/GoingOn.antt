@@ -1,13 +1,12 @@
 -- A history whose papers are true goes on to an unaltered one.
-use Rattle.std.proofs.Common.{◌≡◌, ℕ, ◌<◌, ◌==◌, ◌^◌, Bool, true, false, cond, List, [], ◌∷◌, length, map, get_or, slice_get, bytes_eq, is_none, Option, Some, None, refl, ap, sym, ◌∙◌, subst, arith}
+use Rattle.std.proofs.Common.{◌≡◌, ℕ, ◌<◌, true, false, List, [], ◌∷◌, length, map, get_or, slice_get, bytes_eq, None, refl, ap, ◌∙◌, subst}
 use Rattle.std.specs.Option.{option_map_or}
 use Rattle.std.proofs.lemmas.List.Elements.{All-cons, All-nil}
 use Rattle.std.proofs.lemmas.Option.{slice_get-get_or}
 use Rattle.std.proofs.lemmas.Slice.Eq.{bytes_eq-Decides}
 use Rattle.sg_lists.proofs.Options.{cond_none}
-use Rattle.sg_plan.specs.Limits.{fault_of}
+use Rattle.sg_plan.specs.Limits.{fault_of, first_of}
 use Rattle.sg_plan.specs.declared.plan.Draw.{Draw}
-use Rattle.sg_plan.specs.declared.plan.Stage.{Stage}
 use Rattle.sg_plan.specs.declared.plan.Stage.TheVariants as stage
 use Rattle.sg_acts.specs.declared.asks.Act.{Act}
 use Rattle.sg_acts.specs.declared.asks.Act.TheVariants as act
@@ -16,15 +15,13 @@ use Rattle.sg_acts.specs.declared.asks.Stamp.{Stamp}
 use Rattle.sg_acts.specs.declared.replies.Body.TheVariants as body
 use Rattle.sg_acts.specs.declared.replies.Phase.{Phase}
 use Rattle.sg_acts.specs.declared.replies.Phase.TheVariants as phase
-use Rattle.sg_acts.specs.declared.replies.Reply.{Reply}
 use Rattle.sg_acts.specs.declared.replies.Reply.TheVariants as reply
 use Rattle.sg_keeper.specs.declared.setup.Setup.{Setup}
-use Rattle.sg_post.specs.declared.story.Story.{Story}
 use Rattle.sg_histories.proofs.Accepted.{next_early}
-use Rattle.sg_histories.specs.Answers.{answer_of, body_of, close_refusal, draw_refusal, early_reply, entry_of, first_reply, is_drawn, knows_secret_of, next_history, refusal_of, repeat_of, unless}
-use Rattle.sg_histories.specs.Histories.{Entry, act_of_stamp, claims_of, fate_of, is_stamped, phase_of, phase_word, stage_of}
+use Rattle.sg_histories.specs.Answers.{answer_of, body_of, close_refusal, draw_refusal, early_reply, entry_of, is_drawn, next_history, refusal_of, repeat_of, unless}
+use Rattle.sg_histories.specs.Histories.{Entry, act_of_stamp, claims_of, fate_of, is_stamped}
 use Rattle.sg_histories.specs.Lawful.{IsAskable, Lawful}
-use Rattle.sg_histories.specs.Stories.{answered, story_of, told_fates}
+use Rattle.sg_histories.specs.Stories.{answered, told_fates}
 use Rattle.sg_histories.specs.declared.kept.Claim.{Claim}
 use Rattle.sg_histories.proofs.OutDones.{claims_fit}
 use Rattle.sg_histories.proofs.Talks.{next_lawful}
@@ -75,7 +72,7 @@ no_claims setup history is = (claims_fit setup history is.lawful).early (ap is_d
 pub closed_histories_go_on : ClosedHistoriesGoOn
 closed_histories_go_on setup history drawing drawn kept is new fits =
     let fates = told_fates setup.plan (fate_of history) in
-    let none : refusal_of setup history drawing.station (act.Draw drawn) ≡ None = ap (λ (now : Phase). draw_refusal now drawn) is.phase_is ∙ ap (λ b. first_reply (unless b reply.Draw ∷ [])) fits.0 in
+    let none : refusal_of setup history drawing.station (act.Draw drawn) ≡ None = ap (λ (now : Phase). draw_refusal now drawn) is.phase_is ∙ ap (λ b. first_of (unless b reply.Draw ∷ [])) fits.0 in
     let draw = new_is_done setup history drawing (act.Draw drawn) new (record { codes = tt; counted = fits.1 }) none in
     let unaltered : IsUnalteredHistory setup (drawn_by history drawing drawn) = record {
       lawful = done_lawful setup history drawing (act.Draw drawn) is.lawful draw;

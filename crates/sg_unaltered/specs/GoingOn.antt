@@ -20,7 +20,8 @@ use Rattle.sg_check.specs.Verdict.{IsVerdict}
 use Rattle.sg_check.specs.declared.judged.Judged.TheVariants as judged
 use Rattle.sg_post.specs.Posted.{posted_text}
 use Rattle.sg_accepted.specs.Totals.{told_totals}
-use Rattle.sg_histories.specs.Answers.{answer_of, entry_of, fits_draw, knows_secret_of, next_history}
+use Rattle.sg_histories.specs.Answers.{answer_of, entry_of, knows_secret_of, next_history}
+use Rattle.sg_record.specs.Formed.{is_draw}
 use Rattle.sg_histories.specs.Histories.{Entry, act_of_stamp, fate_of, phase_of}
 use Rattle.sg_histories.specs.Lawful.{IsCounted, Lawful}
 use Rattle.sg_histories.specs.Standing.{IsAsk}
@@ -43,7 +44,7 @@ pub record IsNewStamp (setup : Setup) (history : List Entry) (stamp : Stamp) : T
 
 -- a draw that fits: full, or by 1 to 4,096 public bytes
 abbrev pub IsFittingDraw : Draw → Type 0
-IsFittingDraw drawn = (fits_draw drawn ≡ true) × IsCounted (act.Draw drawn)
+IsFittingDraw drawn = (is_draw drawn ≡ true) × IsCounted (act.Draw drawn)
 
 -- the office does the act: it can come, it is answered `Done` with this body, and the next history has it in front
 pub record IsDone (setup : Setup) (history : List Entry) (stamp : Stamp) (asked : Act) (said : Body) : Type 0 where

@@ -21,12 +21,7 @@ use Rattle.sg_histories.specs.Stories.{story_of}
 -- a paper that was read is that of its ballot
 abbrev pub HasTruePaper : Setup → Act → Type 0
 HasTruePaper setup (act.Audit ballot paper) = paper ≡ paper_of setup.plan setup.seed.0 ballot
-HasTruePaper setup (act.Scan ballot marks) = Unit {0}
-HasTruePaper setup (act.Spoil ballot) = Unit {0}
-HasTruePaper setup act.Close = Unit {0}
-HasTruePaper setup (act.Draw drawn) = Unit {0}
-HasTruePaper setup (act.Claim ballot race code) = Unit {0}
-HasTruePaper setup (act.Void ballot) = Unit {0}
+HasTruePaper setup other = Unit {0}
 
 -- the history is lawful, sides are drawn, and each paper that was read is that of its ballot
 pub record IsUnalteredHistory (setup : Setup) (history : List Entry) : Type 0 where

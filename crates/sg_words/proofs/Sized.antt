@@ -4,7 +4,7 @@ use Rattle.std.specs.Prelude.{if◌then◌else◌, nat_le, ◌&&◌, IfSome}
 use Rattle.std.proofs.Common.{◌≡◌, ℕ, ◌≤◌, Bool, true, false, List, [], ◌∷◌, bytes_eq, Option, Some, None, refl}
 use Rattle.std.proofs.lemmas.Bool.{leb-true}
 use Rattle.sg_lines.specs.Words.{decimal_of}
-use Rattle.sg_words.specs.Command.{Behind, IsSized, Words, asked_behind, asked_in, command_in, commands, no_more, two_more}
+use Rattle.sg_words.specs.Command.{Behind, IsSized, Words, asked_behind, asked_in, commands, no_more, two_more}
 use Rattle.sg_words.specs.Numbers.{IsService, Range, ballots_range, count_range, number_in, pair_in, port_range, sample_in, sample_with, seed_range, service_in, service_with}
 use Rattle.sg_words.specs.declared.command.Command.{Command}
 use Rattle.sg_words.specs.declared.command.Command.TheVariants.{Sample, Serve}
@@ -81,6 +81,5 @@ form_is_sized (form ∷ forms) name words sized =
     (behind_is_sized form.behind words sized.0) (form_is_sized forms name words sized.1)
 
 -- what words ask for is sized
-pub commands_are_sized : (words : List (List ℕ)) → IfSome (command_in words) IsSized
-commands_are_sized [] = tt
-commands_are_sized (name ∷ words) = form_is_sized commands name words each_is_sized
+pub table_is_sized : (name : List ℕ) (words : List (List ℕ)) → IfSome (asked_in commands name words) IsSized
+table_is_sized name words = form_is_sized commands name words each_is_sized

@@ -1,5 +1,2 @@
--- What `clap` is asked, and what is made of its answer. Only clauses of private functions and proofs cite this.
-pub mod App
-pub mod Found
-pub mod Refused
+-- What the table of the code means. Only clauses of private functions and proofs cite this.
 pub mod Table

@@ -1,5 +1,5 @@
-//! What the program can be asked to do, and the table of the commands: the words of each. The command line that `clap` is told,
-//! the command of a name and the line that names all commands are read off it.
+//! What the program can be asked to do, and the table of the commands: the words of each. The command that words ask for and the
+//! line that names all commands are read off it.
 ghost use Rattle.std.specs.Prelude.{◌≡◌, map};
 ghost use Rattle.sg_words.specs.Command.{commands as all_words, may_hold_output, reports as report_words};
 ghost use Rattle.sg_words.specs.inside.Table.{words_of};

@@ -1,19 +1,16 @@
 //! The words after the program's name, the command that they ask for, and the line that names the words of all commands.
 //!
-//! One table has the words of each command. `clap` reads the words as one level of subcommands, which it is told from the
-//! table, and what it found is then compared with the words.
+//! One table has the words of each command. The command that words ask for is looked up in it, and the line is put together
+//! from it.
 #![tactic(auto)]
 
-mod app;
 mod asked;
 mod command;
-mod found;
 mod laws;
 mod number;
 mod sample;
 mod service;
 mod table;
-mod texts;
 mod usage_line;
 
 pub use asked::command_of;

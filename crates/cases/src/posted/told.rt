@@ -5,25 +5,30 @@ use crate::fault::Fault;
 use sg_plan::limits::{MOST_CANDIDATES, MOST_RACES};
 use sg_plan::{Draw, Fate, Items, Mark, Stage, copy_paper};
 use sg_post::{Claimed, Told};
-use sg_record::{BallotBlock, BlockFate, CodeLine, Record};
+use sg_record::{BallotBlock, BlockFate, CastLine, Record};
 use sg_tables::Tables;
 use std::alloc::Global;
 
 /// One of the lines is of this column of the race.
-fn has_column(lines: &[CodeLine], race: u32, column: u32) -> bool {
-    lines
-        .iter()
-        .any(|line| line.race == race && line.column == column)
+fn has_column(lines: &[CastLine], race: u32, column: u32) -> bool {
+    lines.iter().any(|line| match line {
+        CastLine::Code(code) => code.race == race && code.column == column,
+        CastLine::Over(_) => false,
+    })
 }
 
-/// Adds the marks of a ballot in a race: beside those candidates whose columns are posted, and where the race is void
+/// The race is over on the ballot with these lines.
+fn is_over(lines: &[CastLine], race: u32) -> bool {
+    lines.iter().any(|line| *line == CastLine::Over(race))
+}
+
+/// Adds the marks of a ballot in a race: beside those candidates whose columns are posted, and where the race is over
 /// beside all.
 fn add_marks(
     tables: &Tables,
     ballot: u32,
     race: u32,
-    lines: &[CodeLine],
-    is_void: bool,
+    lines: &[CastLine],
     marks: &mut Items<Mark>,
 ) -> Result<(), Fault>
     requires { race < length tables.now.plan.races }
@@ -43,7 +48,7 @@ fn add_marks(
     let candidates = candidates as u32;
     for candidate in 0..candidates {
         let column = tables.q_entry(race, row, candidate) % candidates;
-        if is_void || has_column(lines, race, column) {
+        if is_over(lines, race) || has_column(lines, race, column) {
             marks.push(Mark { race, candidate })?;
         }
     }
@@ -54,8 +59,7 @@ fn add_marks(
 fn add_all_marks(
     tables: &Tables,
     ballot: u32,
-    lines: &[CodeLine],
-    voids: &[u32],
+    lines: &[CastLine],
     marks: &mut Items<Mark>,
 ) -> Result<(), Fault> {
     let races = tables.plan().races.len();
@@ -63,32 +67,22 @@ fn add_all_marks(
         return Err(Fault::Case);
     }
     for race in 0..races as u32 {
-        let is_void = voids.iter().any(|other| *other == race);
-        add_marks(tables, ballot, race, lines, is_void, marks)?;
+        add_marks(tables, ballot, race, lines, marks)?;
     }
     Ok(())
 }
 
 /// The fate of a ballot that is cast.
-fn cast_of(
-    alloc: Global,
-    tables: &Tables,
-    ballot: u32,
-    lines: &[CodeLine],
-    voids: &[u32],
-) -> Result<Fate, Fault> {
+fn cast_of(alloc: Global, tables: &Tables, ballot: u32, lines: &[CastLine]) -> Result<Fate, Fault> {
     let mut marks = Items::new(alloc);
-    add_all_marks(tables, ballot, lines, voids, &mut marks)?;
+    add_all_marks(tables, ballot, lines, &mut marks)?;
     Ok(Fate::Cast(marks))
 }
 
 /// The fate of the ballot of a block.
 fn fate_of(alloc: Global, tables: &Tables, block: &BallotBlock) -> Result<Fate, Fault> {
     match &block.fate {
-        BlockFate::Cast(lines, voids) => {
-            let (lines, voids) = (lines.as_slice(), voids.as_slice());
-            cast_of(alloc, tables, block.ballot, lines, voids)
-        }
+        BlockFate::Cast(lines) => cast_of(alloc, tables, block.ballot, lines.as_slice()),
         BlockFate::Spoiled => Ok(Fate::Spoiled),
         BlockFate::Audited(paper, _) => Ok(Fate::Audited(copy_paper(paper, alloc)?)),
         BlockFate::Voided => Ok(Fate::Voided),

@@ -12,7 +12,8 @@ use Rattle.sg_acts.specs.declared.replies.Phase.{Phase}
 use Rattle.sg_acts.specs.declared.replies.Receipt.{Receipt}
 use Rattle.sg_acts.specs.declared.replies.Reply.{Reply}
 use Rattle.sg_acts.specs.declared.replies.Reply.TheVariants as reply
-use Rattle.sg_asks.specs.Replies.{claim_word, fate_word, phase_word}
+use Rattle.sg_asks.specs.Replies.{fate_word, phase_word}
+use Rattle.sg_forms.specs.Spelling.{claim_word}
 use Rattle.sg_asks.specs.declared.pieces.Piece.{Piece}
 use Rattle.sg_asks.specs.declared.pieces.Piece.TheVariants as piece
 

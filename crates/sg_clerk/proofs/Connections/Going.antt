@@ -11,6 +11,7 @@ use Rattle.sg_histories.specs.declared.kept.Kept.{Kept}
 use Rattle.sg_http.specs.Visits.{Serves}
 use Rattle.sg_http.specs.declared.serving.Served.{Served}
 use Rattle.sg_http.specs.declared.serving.Served.TheVariants as served
+use Rattle.sg_clerk.specs.Outside.{Outside, output_at}
 use Rattle.sg_clerk.specs.Asking.{EndsAfter, EndsBy, RepliesNext, TalkedBy}
 use Rattle.sg_clerk.specs.Ends.{HasFailed}
 use Rattle.sg_clerk.specs.declared.asker.Stop.{Stop}
@@ -18,7 +19,7 @@ use Rattle.sg_clerk.specs.declared.asker.Stop.TheVariants as stop
 use Rattle.sg_clerk.specs.declared.ended.Ending.{Ending}
 use Rattle.sg_clerk.specs.declared.ended.Ending.TheVariants as ending
 use Rattle.sg_clerk.specs.calls.Calls.{Call, TakesKnown, by_calls, failed, failures_in, lines_in}
-use Rattle.sg_clerk.specs.calls.Serves.{CallsEnd, EndsSo, Scene, ServesCalls, one_more, out_at}
+use Rattle.sg_clerk.specs.calls.Serves.{CallsEnd, EndsSo, ServesCalls, one_more}
 use Rattle.sg_clerk.specs.calls.inside.Steps.{CallsCame, CallsOver, IsShut}
 use Rattle.sg_clerk.proofs.Connections.Growing.{failed-counted, failures-push, takes-none, takes-one, takes-push}
 
@@ -82,10 +83,10 @@ calls-fault count left left' a b c faults faults' faults'' calls fewer same rose
 -- HOW THE RUN ENDS
 
 -- the connections were served by a talk, behind the port that was listened on
-pub serves-calls : (how : Ending) (setup : Setup) (start : List Entry) (count left first : ℕ) (board : Option Board) (tells : Type 0) (rows after : Rows) (before now : Scene)
+pub serves-calls : (how : Ending) (setup : Setup) (start : List Entry) (count left first : ℕ) (board : Option Board) (tells : Type 0) (rows after : Rows) (before now : Outside)
     → board ≡ before.board → before.link_faults ≤ first
     → TalkedBy by_calls (CallsCame count left board now.board first now.link_faults) (λ why. CallsOver why count board now.board first now.link_faults) how
-    (out_at before) (out_at now) setup start tells rows after before.keep_faults now.keep_faults
+    (output_at before) (output_at now) setup start tells rows after before.keep_faults now.keep_faults
     → ServesCalls how setup start count tells rows after before now
 serves-calls how setup start count left first board tells rows after before now listened order talked = record {
   exchanges = talked.exchanges;
@@ -107,7 +108,7 @@ serves-calls how setup start count left first board tells rows after before now 
       ends = ends;
     })
 
-    by_stop : (why : Stop) → TakesKnown calls board now.board → IsShut why count first now.link_faults calls → EndsAfter why how (lines_in calls) (out_at before) (out_at now)
+    by_stop : (why : Stop) → TakesKnown calls board now.board → IsShut why count first now.link_faults calls → EndsAfter why how (lines_in calls) (output_at before) (output_at now)
         → CallsEnd count before now how setup calls
     by_stop stop.Done takes shut ends = ends_at ending.Done takes (λ low. omega (arith, shut.1 low)) tt (shut.0, ends.1) ends.0
     by_stop stop.LinkFault takes shut ends = ends_at ending.LinkFault takes shut.2 (Rose-later before.link_faults first now.link_faults order shut.1) (shut.0, ends.1) ends.0
@@ -116,7 +117,7 @@ serves-calls how setup start count left first board tells rows after before now 
     by_stop stop.NoMemory takes shut ends = absurd shut
 
     by_end : EndsBy by_calls (CallsCame count left board now.board first now.link_faults) (λ why. CallsOver why count board now.board first now.link_faults) how
-        (out_at before) (out_at now) setup calls → CallsEnd count before now how setup calls
+        (output_at before) (output_at now) setup calls → CallsEnd count before now how setup calls
     by_end (inl over) = by_stop over.why over.over.takes over.over.shut over.ends
     by_end (inr cut) =
         let few : length calls ≤ count = omega (arith, cut.came.counted) in

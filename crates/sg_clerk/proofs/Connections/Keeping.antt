@@ -14,13 +14,14 @@ use Rattle.sg_http.specs.Leads.Lead.{Posts, Refused, Sees}
 use Rattle.sg_http.specs.Visits.{Ends, IsSaid}
 use Rattle.sg_http.specs.declared.serving.Served.{Served}
 use Rattle.sg_http.specs.declared.serving.Served.TheVariants as served
+use Rattle.sg_clerk.specs.Outside.{Outside}
 use Rattle.sg_clerk.specs.Laws.{KeepsPosted}
 use Rattle.sg_clerk.proofs.Grown.{same_grows, talks_grow}
 use Rattle.sg_clerk.proofs.Keeping.{turns_keep}
 use Rattle.sg_clerk.specs.calls.Calls.{AreServed, by_calls, stores_in}
 use Rattle.sg_clerk.specs.calls.Laws.{CallsKeepRecord}
 use Rattle.sg_clerk.specs.calls.Says.{ServeSays}
-use Rattle.sg_clerk.specs.calls.Serves.{CallsEnd, Scene, listening}
+use Rattle.sg_clerk.specs.calls.Serves.{CallsEnd, listening}
 
 said_later : (setup : Setup) (lead : Lead) (said : Option Answered) (before after : List Entry) → Lawful setup before → IsSaid setup lead said before after → IsLater setup before after
 said_later setup lead None before after lawful says = same_later setup before after lawful says
@@ -42,7 +43,7 @@ calls_keep_record setup = turns_keep by_calls setup (λ call before after lawful
     ends_later call.how setup call.taken call.is_ended call.sent call.said before after lawful turn.1)
 
 -- `serve`
-pub serve_grows : (result : Outcome) (port count : ℕ) (tells : Type 0) (rows rows' : Rows) (before now : Scene) → ServeSays result port count tells rows rows' before now → tells → KeepsPosted rows rows'
+pub serve_grows : (result : Outcome) (port count : ℕ) (tells : Type 0) (rows rows' : Rows) (before now : Outside) → ServeSays result port count tells rows rows' before now → tells → KeepsPosted rows rows'
 serve_grows result port count tells rows rows' before now (inl served) told =
     talks_grow AreServed stores_in (CallsEnd count (listening port before) now) result tells rows rows' before.keep_faults now.keep_faults calls_keep_record served told
 serve_grows result port count tells rows rows' before now (inr (inl shut)) told = same_grows rows rows' (shut.1.same told)

@@ -6,6 +6,7 @@ use Rattle.sg_outside.specs.declared.outcome.Outcome.{Outcome}
 use Rattle.sg_outside.specs.declared.outcome.Outcome.TheVariants as outcome
 use Rattle.sg_keeper.specs.declared.rows.Rows.{Rows}
 use Rattle.sg_histories.specs.declared.kept.Kept.{Kept}
+use Rattle.sg_clerk.specs.Outside.{Outside, output_at}
 use Rattle.sg_clerk.specs.Ends.{outcome_of}
 use Rattle.sg_clerk.specs.Opening.{IsOfRows, IsOpen}
 use Rattle.sg_clerk.specs.Talks.{ClosedSays}
@@ -14,26 +15,26 @@ use Rattle.sg_clerk.specs.declared.ended.Ending.TheVariants as ending
 use Rattle.sg_clerk.proofs.Talking.{office_talks}
 use Rattle.sg_clerk.specs.calls.Calls.{AreServed, Call, stores_in}
 use Rattle.sg_clerk.specs.calls.Says.{ServeSays}
-use Rattle.sg_clerk.specs.calls.Serves.{CallsEnd, EndsSo, Scene, ServesPort, StaysShut, listening, out_at}
+use Rattle.sg_clerk.specs.calls.Serves.{CallsEnd, EndsSo, ServesPort, StaysShut, listening}
 
 -- a scene with another count of the keeper's faults
-abbrev pub at_count : Scene → ℕ → Scene
+abbrev pub at_count : Outside → ℕ → Outside
 at_count scene faults = record scene { keep_faults = faults }
 
 -- nothing was written
-unwritten : (before now : Scene) → now.written ≡ before.written → now.write_faults ≡ before.write_faults → out_at now ≡ out_at before
+unwritten : (before now : Outside) → now.written ≡ before.written → now.write_faults ≡ before.write_faults → output_at now ≡ output_at before
 unwritten before now written faults =
     let at_bytes : Option (List ℕ) → Seen = λ bytes. record { bytes = bytes; faults = now.write_faults } in
     let at_faults : ℕ → Seen = λ count. record { bytes = before.written; faults = count } in
     ap at_bytes written ∙ ap at_faults faults
 
 -- behind an office, where no port was listened on
-shut_says : (how : Ending) (kept : Kept) (port count : ℕ) (tells still : Type 0) (rows middle after : Rows) (before now : Scene) (faults : ℕ)
+shut_says : (how : Ending) (kept : Kept) (port count : ℕ) (tells still : Type 0) (rows middle after : Rows) (before now : Outside) (faults : ℕ)
     → (tells → IsOpen kept rows) → (tells → still) → (tells → middle ≡ rows)
     → StaysShut how still middle after (at_count before faults) now → ServeSays (outcome_of how) port count tells rows after before now
 shut_says how kept port count tells still rows middle after before now faults opens told same shut =
     let quiet = unwritten before now shut.written shut.write_faults in
-    let wanted = λ (result : Outcome). ClosedSays result tells rows before.keep_faults now.keep_faults (out_at before) (out_at now) in
+    let wanted = λ (result : Outcome). ClosedSays result tells rows before.keep_faults now.keep_faults (output_at before) (output_at now) in
     elim shut.cause [
       | inl memory ↦ inr (inr (record {
         unasked = (shut.board, memory.1);
@@ -54,7 +55,7 @@ shut_says how kept port count tells still rows middle after before now faults op
     ]
 
 -- behind an office that was opened
-pub office_serves : (how : Ending) (kept : Kept) (port count : ℕ) (tells still : Type 0) (rows middle after : Rows) (before now : Scene) (faults : ℕ)
+pub office_serves : (how : Ending) (kept : Kept) (port count : ℕ) (tells still : Type 0) (rows middle after : Rows) (before now : Outside) (faults : ℕ)
     → IsOfRows kept tells rows → (tells → IsOpen kept rows) → (tells → still) → (tells → middle ≡ rows) → before.keep_faults ≤ faults
     → ServesPort how kept port count still middle after (at_count before faults) now → ServeSays (outcome_of how) port count tells rows after before now
 office_serves how kept port count tells still rows middle after before now faults starts opens told same later (inl talks) =
@@ -89,7 +90,7 @@ refuses_none ending.LinkFault count calls written written' ends = tt
 refuses_none (ending.Refused why) count calls written written' ends = absurd ends
 refuses_none ending.NoMemory count calls written written' ends = tt
 
-pub never_closed : (how : Ending) (kept : Kept) (port count : ℕ) (tells still : Type 0) (rows middle after : Rows) (before now : Scene)
+pub never_closed : (how : Ending) (kept : Kept) (port count : ℕ) (tells still : Type 0) (rows middle after : Rows) (before now : Outside)
     → IsOfRows kept tells rows → ServesPort how kept port count still middle after before now → SaysClosed (outcome_of how) → ⊥
 never_closed how kept port count tells still rows middle after before now starts (inl talks) =
     let has = starts.1 in

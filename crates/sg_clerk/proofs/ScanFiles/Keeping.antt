@@ -9,7 +9,7 @@ use Rattle.sg_histories.specs.Lawful.{Lawful}
 use Rattle.sg_scans.specs.declared.fields.ScanLine.{ScanLine}
 use Rattle.sg_scans.specs.declared.fields.ScanLine.TheVariants as line
 use Rattle.sg_talk.proofs.Growing.{IsLater, same_later, turn_later}
-use Rattle.sg_clerk.specs.Ends.{Moment}
+use Rattle.sg_clerk.specs.Outside.{Outside}
 use Rattle.sg_clerk.specs.Laws.{KeepsPosted}
 use Rattle.sg_clerk.proofs.Grown.{same_grows, talks_grow}
 use Rattle.sg_clerk.proofs.Keeping.{turns_keep}
@@ -25,7 +25,7 @@ pub scans_keep_record : ScansKeepRecord
 scans_keep_record setup = turns_keep by_scans setup (λ one. line_later setup one.line one.answer)
 
 -- `scans`
-pub scans_grow : (result : Outcome) (tells : Type 0) (rows rows' : Rows) (before now : Moment) → ScansSay result tells rows rows' before now → tells → KeepsPosted rows rows'
+pub scans_grow : (result : Outcome) (tells : Type 0) (rows rows' : Rows) (before now : Outside) → ScansSay result tells rows rows' before now → tells → KeepsPosted rows rows'
 scans_grow result tells rows rows' before now (inl talks) told =
     talks_grow ScanTalk stores_of (ScansEnd before now) result tells rows rows' before.keep_faults now.keep_faults scans_keep_record talks told
 scans_grow result tells rows rows' before now (inr closed) told = same_grows rows rows' (closed.same told)

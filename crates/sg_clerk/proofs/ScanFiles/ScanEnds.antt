@@ -12,8 +12,9 @@ use Rattle.sg_scans.specs.FileRecords.{records_of}
 use Rattle.sg_scans.specs.ScanLines.{IsFault}
 use Rattle.sg_scans.specs.declared.fields.ScanLine.{ScanLine}
 use Rattle.sg_scans.specs.declared.file.ScansFault.TheVariants as fault
+use Rattle.sg_clerk.specs.Outside.{Outside, input_at, output_at}
 use Rattle.sg_clerk.specs.Asking.{EndsAfter, EndsBy, TalkedBy}
-use Rattle.sg_clerk.specs.Ends.{HasFailed, Moment, Refuses, input_at, out_at}
+use Rattle.sg_clerk.specs.Ends.{HasFailed, Refuses}
 use Rattle.sg_clerk.specs.Taken.{TookAtMost}
 use Rattle.sg_clerk.specs.declared.asker.Stop.{Stop}
 use Rattle.sg_clerk.specs.declared.asker.Stop.TheVariants as stop
@@ -56,8 +57,8 @@ first_scans None lines front others are is = tt
 first_scans (Some bytes) lines front others are is = (others, subst (λ (l : List ScanLine). AreScansOf l bytes) is are)
 
 -- all were answered
-all_end : (why : Stop) (how : Ending) (lines : List ScanLine) (handed : List Handed) (texts : List (List ℕ)) (before now : Moment) → ReadsScans (file.Scans lines) (input_at before) (input_at now)
-    → ScansOver why lines handed → EndsAfter why how texts (out_at before) (out_at now) → (how ≡ ending.Done) × ScansEndSo ending.Done (scans_in handed) texts before.left now.left before.written now.written
+all_end : (why : Stop) (how : Ending) (lines : List ScanLine) (handed : List Handed) (texts : List (List ℕ)) (before now : Outside) → ReadsScans (file.Scans lines) (input_at before) (input_at now)
+    → ScansOver why lines handed → EndsAfter why how texts (output_at before) (output_at now) → (how ≡ ending.Done) × ScansEndSo ending.Done (scans_in handed) texts before.left now.left before.written now.written
 all_end stop.Done how lines handed texts before now reads all ends = (ends.0, (subst (λ (l : List ScanLine). IfSome before.left (AreScansOf l)) all reads.0.1, reads.1, ends.1))
 all_end stop.ReadFault how lines handed texts before now reads all ends = absurd all
 all_end stop.LinkFault how lines handed texts before now reads all ends = absurd all
@@ -65,9 +66,9 @@ all_end (stop.Unfit why) how lines handed texts before now reads all ends = absu
 all_end stop.NoMemory how lines handed texts before now reads all ends = absurd all
 
 -- the records of a file that was read
-pub does_lines : (how : Ending) (at : ℕ) (setup : Setup) (start : List Entry) (tells : Type 0) (rows after : Rows) (lines left : List ScanLine) (before now : Moment)
+pub does_lines : (how : Ending) (at : ℕ) (setup : Setup) (start : List Entry) (tells : Type 0) (rows after : Rows) (lines left : List ScanLine) (before now : Outside)
     → TookAtMost (longest_file + 1) before.left now.left → ReadsScans (file.Scans lines) (input_at before) (input_at now)
-    → TalkedBy by_scans (ScansCame lines at left) (λ why. ScansOver why lines) how (out_at before) (out_at now) setup start tells rows after before.keep_faults now.keep_faults
+    → TalkedBy by_scans (ScansCame lines at left) (λ why. ScansOver why lines) how (output_at before) (output_at now) setup start tells rows after before.keep_faults now.keep_faults
     → DoesScans how setup start tells rows after before now
 does_lines how at setup start tells rows after lines left before now took reads talked = record {
   exchanges = talked.exchanges;
@@ -84,7 +85,7 @@ does_lines how at setup start tells rows after lines left before now took reads 
         → ScansEnd before now how setup talked.exchanges
     ends_at h cause ends is = subst (λ (e : Ending). ScansEnd before now e setup talked.exchanges) (sym is) (record { took = took; cause = cause; ends = ends })
 
-    by_end : EndsBy by_scans (ScansCame lines at left) (λ why. ScansOver why lines) how (out_at before) (out_at now) setup talked.exchanges → ScansEnd before now how setup talked.exchanges
+    by_end : EndsBy by_scans (ScansCame lines at left) (λ why. ScansOver why lines) how (output_at before) (output_at now) setup talked.exchanges → ScansEnd before now how setup talked.exchanges
     by_end (inl over) =
         let all = all_end over.why how lines talked.exchanges texts before now reads over.over over.ends in
         ends_at ending.Done tt all.1 all.0
@@ -98,7 +99,7 @@ does_lines how at setup start tells rows after lines left before now took reads 
 
 -- WITHOUT AN ANSWER
 
-none_done : (how : Ending) (setup : Setup) (start : List Entry) (tells : Type 0) (rows : Rows) (before now : Moment) → now.keep_faults ≡ before.keep_faults → TookAtMost (longest_file + 1) before.left now.left
+none_done : (how : Ending) (setup : Setup) (start : List Entry) (tells : Type 0) (rows : Rows) (before now : Outside) → now.keep_faults ≡ before.keep_faults → TookAtMost (longest_file + 1) before.left now.left
     → HasFailed how before.read_faults now.read_faults before.write_faults now.write_faults → ScansEndSo how [] [] before.left now.left before.written now.written
     → DoesScans how setup start tells rows rows before now
 none_done how setup start tells rows before now same took cause ends = record {
@@ -110,7 +111,7 @@ none_done how setup start tells rows before now same took cause ends = record {
 }
 
 -- a refusal's line was written, or cut
-pub does_refused : (how : Ending) (why : Unfit) (setup : Setup) (start : List Entry) (tells : Type 0) (rows : Rows) (before now : Moment) → now.keep_faults ≡ before.keep_faults
+pub does_refused : (how : Ending) (why : Unfit) (setup : Setup) (start : List Entry) (tells : Type 0) (rows : Rows) (before now : Outside) → now.keep_faults ≡ before.keep_faults
     → TookAtMost (longest_file + 1) before.left now.left → IsRefusedFile why before.left → Refuses how why before.written now.written before.write_faults now.write_faults
     → DoesScans how setup start tells rows rows before now
 does_refused how why setup start tells rows before now same took bad (inl told) =
@@ -121,13 +122,13 @@ does_refused how why setup start tells rows before now same took bad (inr cut) =
     (none_done (ending.WriteFault (Some why)) setup start tells rows before now same took cut.1 (bad, refl, cut.2))
 
 -- a read failed
-pub does_unread : (setup : Setup) (start : List Entry) (tells : Type 0) (rows : Rows) (before now : Moment) → now.keep_faults ≡ before.keep_faults → now.written ≡ before.written
+pub does_unread : (setup : Setup) (start : List Entry) (tells : Type 0) (rows : Rows) (before now : Outside) → now.keep_faults ≡ before.keep_faults → now.written ≡ before.written
     → TookAtMost (longest_file + 1) before.left now.left → Rose before.read_faults now.read_faults → DoesScans ending.ReadFault setup start tells rows rows before now
 does_unread setup start tells rows before now same quiet took rose =
     none_done ending.ReadFault setup start tells rows before now same took rose (refl, rw quiet (Keeps-refl before.written))
 
 -- memory was wanted for the file
-pub does_lost : (setup : Setup) (start : List Entry) (tells : Type 0) (rows : Rows) (before now : Moment) → now.keep_faults ≡ before.keep_faults → now.written ≡ before.written
+pub does_lost : (setup : Setup) (start : List Entry) (tells : Type 0) (rows : Rows) (before now : Outside) → now.keep_faults ≡ before.keep_faults → now.written ≡ before.written
     → TookAtMost (longest_file + 1) before.left now.left → DoesScans ending.NoMemory setup start tells rows rows before now
 does_lost setup start tells rows before now same quiet took =
     none_done ending.NoMemory setup start tells rows before now same took tt (inl refl, misses-none before.written now.written [] (rw quiet (Appends-nil before.written)))

@@ -12,8 +12,9 @@ use Rattle.sg_histories.specs.Histories.{Entry}
 use Rattle.sg_talk.specs.Turns.{AskTurn}
 use Rattle.sg_scans.specs.declared.fields.ScanLine.{ScanLine}
 use Rattle.sg_scans.specs.declared.fields.ScanLine.TheVariants as line
+use Rattle.sg_clerk.specs.Outside.{Outside, input_at, output_at}
 use Rattle.sg_clerk.specs.Asking.{Exchanging, TalkBy, stores_by}
-use Rattle.sg_clerk.specs.Ends.{HasFailed, Moment, answer_line, input_at, out_at}
+use Rattle.sg_clerk.specs.Ends.{HasFailed, answer_line}
 use Rattle.sg_clerk.specs.Taken.{TookAtMost}
 use Rattle.sg_clerk.specs.Talks.{Talked}
 use Rattle.sg_clerk.specs.declared.ended.Ending.{Ending}
@@ -62,9 +63,9 @@ pub record EndsScans (input input' out out' : Seen) (how : Ending) (setup : Setu
   pub cause : HasFailed how input.faults input'.faults out.faults out'.faults
   pub ends : ScansEndSo how (scans_in handed) (replies_in setup.plan.version handed) input.bytes input'.bytes out.bytes out'.bytes
 
-abbrev pub ScansEnd : Moment → Moment → Ending → Setup → List Handed → Type 0
-ScansEnd before now = EndsScans (input_at before) (input_at now) (out_at before) (out_at now)
+abbrev pub ScansEnd : Outside → Outside → Ending → Setup → List Handed → Type 0
+ScansEnd before now = EndsScans (input_at before) (input_at now) (output_at before) (output_at now)
 
 -- A run of `scans` from a history on: a talk over the records of a scanner's file, and how it ended.
-abbrev pub DoesScans : Ending → Setup → List Entry → (tells : Type 0) → Rows → Rows → Moment → Moment → Type 0
+abbrev pub DoesScans : Ending → Setup → List Entry → (tells : Type 0) → Rows → Rows → Outside → Outside → Type 0
 DoesScans how setup history tells rows rows' before now = Talked ScanTalk stores_of (ScansEnd before now how) setup history tells rows rows' before.keep_faults now.keep_faults

@@ -1,5 +1,6 @@
 //! `serve`: connections to a port are asks of the office, one each, and each is answered.
 ghost use Rattle.std.specs.Prelude.{◌≡◌, ◌⊎◌, false};
+ghost use Rattle.sg_clerk.specs.Outside.{unread};
 ghost use Rattle.sg_clerk.specs.calls.Says.{ServeSays};
 
 use crate::calls::station::serve_calls;
@@ -21,8 +22,8 @@ pub fn serve<L: Links, K: Keeper, O: Sink>(
 ) -> Outcome
     requires { L.is_open links.old ≡ false }
     ensures says { ServeSays result port count (K.tells keeper.old) (K.rows keeper.old) (K.rows keeper.new)
-        (record { board = L.board links.old; written = O.written out.old; link_faults = L.faults links.old; write_faults = O.faults out.old; keep_faults = K.faults keeper.old })
-        (record { board = L.board links.new; written = O.written out.new; link_faults = L.faults links.new; write_faults = O.faults out.new; keep_faults = K.faults keeper.new }) }
+        (unread (L.board links.old) (O.written out.old) (L.faults links.old) (O.faults out.old) (K.faults keeper.old))
+        (unread (L.board links.new) (O.written out.new) (L.faults links.new) (O.faults out.new) (K.faults keeper.new)) }
     // Where no office is opened, the links are as they were.
     ensures unlinked { (result ≡ Outcome.KeeperFailed) ⊎ (result ≡ Outcome.Refused) ⊎ (result ≡ Outcome.Damaged) → links.new ≡ links.old }
     ensures closed { L.is_open links.new ≡ false }

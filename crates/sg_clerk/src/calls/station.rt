@@ -1,5 +1,6 @@
 //! Connections are taken and served, one after another.
 ghost use Rattle.std.specs.Prelude.{◌≡◌, ◌≤◌, ◌++◌, [], ◌∷◌, IfOk, decimal, false};
+ghost use Rattle.sg_clerk.specs.Outside.{unread};
 ghost use Rattle.sg_clerk.specs.Ends.{WroteLine};
 ghost use Rattle.sg_clerk.specs.calls.Calls.{line_of};
 ghost use Rattle.sg_clerk.specs.calls.Serves.{ServesPort};
@@ -110,8 +111,8 @@ pub fn serve_calls<L: Links, K: Keeper, O: Sink>(
 ) -> Ending
     requires { L.is_open links.old ≡ false }
     ensures serves { ServesPort result office.old port count (K.tells keeper.old) (K.rows keeper.old) (K.rows keeper.new)
-        (record { board = L.board links.old; written = O.written out.old; link_faults = L.faults links.old; write_faults = O.faults out.old; keep_faults = K.faults keeper.old })
-        (record { board = L.board links.new; written = O.written out.new; link_faults = L.faults links.new; write_faults = O.faults out.new; keep_faults = K.faults keeper.new }) }
+        (unread (L.board links.old) (O.written out.old) (L.faults links.old) (O.faults out.old) (K.faults keeper.old))
+        (unread (L.board links.new) (O.written out.new) (L.faults links.new) (O.faults out.new) (K.faults keeper.new)) }
     ensures closed { L.is_open links.new ≡ false }
     ensures told { K.tells keeper.old → K.tells keeper.new }
 {

@@ -5,6 +5,7 @@ ghost use Rattle.sg_histories.specs.Standing.{StandsFor};
 ghost use Rattle.sg_scans.specs.Asked.{CanCome};
 ghost use Rattle.sg_talk.specs.Answers.{IsWritable};
 ghost use Rattle.sg_talk.specs.Turns.{CountsStore};
+ghost use Rattle.sg_clerk.specs.Outside.{unlinked};
 ghost use Rattle.sg_clerk.specs.Taken.{TookAtMost};
 ghost use Rattle.sg_clerk.specs.scans.DoesScans.{DoesScans};
 ghost use Rattle.sg_clerk.specs.scans.ScansEnds.{longest_file};
@@ -108,8 +109,8 @@ pub fn do_scans<S: Source, K: Keeper, O: Sink>(
 ) -> Ending
     ensures does { (history : List Entry) → StandsFor office.old history
         → DoesScans result office.old.setup history (K.tells keeper.old) (K.rows keeper.old) (K.rows keeper.new)
-        (record { left = S.left input.old; written = O.written out.old; read_faults = S.faults input.old; write_faults = O.faults out.old; keep_faults = K.faults keeper.old })
-        (record { left = S.left input.new; written = O.written out.new; read_faults = S.faults input.new; write_faults = O.faults out.new; keep_faults = K.faults keeper.new }) }
+        (unlinked (S.left input.old) (O.written out.old) (S.faults input.old) (O.faults out.old) (K.faults keeper.old))
+        (unlinked (S.left input.new) (O.written out.new) (S.faults input.new) (O.faults out.new) (K.faults keeper.new)) }
     ensures bounded { TookAtMost (longest_file + 1) (S.left input.old) (S.left input.new) }
     ensures told { K.tells keeper.old → K.tells keeper.new }
 {

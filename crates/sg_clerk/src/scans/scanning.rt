@@ -1,5 +1,6 @@
 //! `scans`: the records of a scanner's file are asks of the office, and each is answered by a line.
 ghost use Rattle.std.specs.Prelude.{◌≡◌, ◌≤◌};
+ghost use Rattle.sg_clerk.specs.Outside.{unlinked};
 ghost use Rattle.sg_clerk.specs.scans.ScansAsked.{ScansSay};
 
 use crate::open_office;
@@ -17,8 +18,8 @@ pub fn answer_scans<S: Source, K: Keeper, O: Sink>(
     out: &mut O,
 ) -> Outcome
     ensures says { ScansSay result (K.tells keeper.old) (K.rows keeper.old) (K.rows keeper.new)
-        (record { left = S.left input.old; written = O.written out.old; read_faults = S.faults input.old; write_faults = O.faults out.old; keep_faults = K.faults keeper.old })
-        (record { left = S.left input.new; written = O.written out.new; read_faults = S.faults input.new; write_faults = O.faults out.new; keep_faults = K.faults keeper.new }) }
+        (unlinked (S.left input.old) (O.written out.old) (S.faults input.old) (O.faults out.old) (K.faults keeper.old))
+        (unlinked (S.left input.new) (O.written out.new) (S.faults input.new) (O.faults out.new) (K.faults keeper.new)) }
     ensures told { K.tells keeper.old → K.tells keeper.new }
 {
     match open_office(alloc, keeper, out) {

@@ -7,6 +7,8 @@ use Rattle.sg_plan.specs.Ballots.{entries_of}
 use Rattle.sg_plan.specs.declared.plan.Plan.{Plan}
 use Rattle.sg_record.specs.Formed.{is_dispute, is_fate}
 use Rattle.sg_record.specs.declared.record.BallotBlock.{BallotBlock}
+use Rattle.sg_record.specs.declared.record.CastLine.{CastLine}
+use Rattle.sg_record.specs.declared.record.CastLine.TheVariants as cast
 use Rattle.sg_record.specs.declared.record.DisputeBlock.{DisputeBlock}
 use Rattle.sg_facts.specs.Items.{item_in}
 
@@ -36,6 +38,14 @@ Puts plan old new given = (race entry : ℕ) → race < length plan.races → en
 -- each of these codes is of a column of the ballot
 abbrev pub AreOwn : Plan → ℕ → List CodeLine → Type 0
 AreOwn plan ballot codes = (at : ℕ) (code : CodeLine) → slice_get codes at ≡ Some code → is_column plan ballot code.race code.column ≡ true
+
+-- and so is the code of each of these lines, where it has one
+abbrev pub IsOwnLine : Plan → ℕ → CastLine → Type 0
+IsOwnLine plan ballot (cast.Code code) = is_column plan ballot code.race code.column ≡ true
+IsOwnLine plan ballot (cast.Over race) = Unit {0}
+
+abbrev pub AreOwnLines : Plan → ℕ → List CastLine → Type 0
+AreOwnLines plan ballot lines = (at : ℕ) (line : CastLine) → slice_get lines at ≡ Some line → IsOwnLine plan ballot line
 
 abbrev pub AreFates : Plan → List BallotBlock → Type 0
 AreFates plan blocks = (at : ℕ) (one : BallotBlock) → slice_get blocks at ≡ Some one → is_fate plan one.ballot one.fate ≡ true

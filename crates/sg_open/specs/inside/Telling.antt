@@ -15,7 +15,8 @@ use Rattle.sg_acts.specs.declared.asks.Act.TheVariants as act
 use Rattle.sg_keeper.specs.declared.rows.BallotRow.{BallotRow}
 use Rattle.sg_keeper.specs.declared.rows.ClaimRow.{ClaimRow}
 use Rattle.sg_keeper.specs.declared.rows.StageRow.{StageRow}
-use Rattle.sg_histories.specs.Answers.{fits_draw, is_ballot}
+use Rattle.sg_histories.specs.Answers.{is_ballot}
+use Rattle.sg_record.specs.Formed.{is_draw}
 use Rattle.sg_histories.specs.ValidRows.{ballot_words, claim_act, fits, natural}
 use Rattle.sg_histories.specs.declared.kept.Claim.{Claim}
 use Rattle.sg_open.specs.declared.ballots.BallotTold.{BallotTold}
@@ -61,7 +62,7 @@ ballot_told plan row =
 
 -- the draw, where its bytes are few enough
 abbrev pub fit_draw : Draw → Option Draw
-fit_draw drawn = if fits_draw drawn then Some drawn else None
+fit_draw drawn = if is_draw drawn then Some drawn else None
 
 -- the draw of an act, where it fits
 abbrev pub act_draw : Act → Option Draw

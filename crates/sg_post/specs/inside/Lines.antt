@@ -9,7 +9,8 @@ use Rattle.sg_tables.specs.Posts.{column_marked, is_void}
 use Rattle.sg_forms.specs.Said.{Said}
 use Rattle.sg_forms.specs.Said.Said.{Audited, Cast, Code, CodeCommit, Dispute, Over, Row, RowCommit}
 use Rattle.sg_grammar.specs.Due.{each}
-use Rattle.sg_record.specs.Lines.{block_lines, paper_lines}
+use Rattle.sg_record.specs.Tree.{as_line, block_tree}
+use Rattle.sg_record.specs.inside.Parts.{paper_lines}
 use Rattle.sg_post.specs.Posted.{audited_race_codes, code_commit_of, code_in_row, opened_row, row_commit_of, told_blocks}
 use Rattle.sg_post.specs.declared.story.Claimed.{Claimed}
 use Rattle.sg_post.specs.declared.story.Told.{Told}
@@ -58,7 +59,7 @@ abbrev pub audited_block : Plan → List ℕ → ℕ → List (List ℕ) → Lis
 audited_block plan seed ballot paper = Audited ballot ∷ (paper_lines (races_of_ballot plan ballot) paper ++ each (audited_race plan seed ballot) 0 (length plan.races))
 
 unfoldable pub told_lines : Plan → List ℕ → Told → List Said
-told_lines plan seed told = flat_map (block_lines plan) (told_blocks plan seed told)
+told_lines plan seed told = flat_map (block_tree as_line plan) (told_blocks plan seed told)
 
 -- SECTION 3
 

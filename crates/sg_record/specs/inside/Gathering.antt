@@ -17,6 +17,8 @@ use Rattle.sg_grammar.specs.declared.state.Block.TheVariants as block
 use Rattle.sg_record.specs.declared.record.BallotBlock.{BallotBlock}
 use Rattle.sg_record.specs.declared.record.BlockFate.{BlockFate}
 use Rattle.sg_record.specs.declared.record.BlockFate.TheVariants as fate
+use Rattle.sg_record.specs.declared.record.CastLine.{CastLine}
+use Rattle.sg_record.specs.declared.record.CastLine.TheVariants as cast
 use Rattle.sg_record.specs.declared.record.DisputeBlock.{DisputeBlock}
 use Rattle.sg_record.specs.declared.record.Record.{Record}
 
@@ -66,16 +68,15 @@ abbrev pub begun : Said → BlockFate
 begun (Spoiled ballot) = fate.Spoiled
 begun (Audited ballot) = fate.Audited [] []
 begun (Voided ballot) = fate.Voided
-begun said = fate.Cast [] []
+begun said = fate.Cast []
+
+abbrev pub with_cast : CastLine → BlockFate → BlockFate
+with_cast line (fate.Cast lines) = fate.Cast (lines ++ line ∷ [])
+with_cast line what = what
 
 abbrev pub with_code : CodeLine → BlockFate → BlockFate
-with_code code (fate.Cast codes overs) = fate.Cast (codes ++ code ∷ []) overs
 with_code code (fate.Audited papers codes) = fate.Audited papers (codes ++ code ∷ [])
 with_code code what = what
-
-abbrev pub with_over : ℕ → BlockFate → BlockFate
-with_over race (fate.Cast codes overs) = fate.Cast codes (overs ++ race ∷ [])
-with_over race what = what
 
 abbrev pub with_paper : List ℕ → BlockFate → BlockFate
 with_paper list (fate.Audited papers codes) = fate.Audited (papers ++ list ∷ []) codes
@@ -103,8 +104,9 @@ added plan made (RowCommitAt race instance row left right) said = record made { 
 added plan made (SealAt number digest) said = record made { seals = sealed made.seals number digest }
 added plan made (Begun ballot) said = record made { ballots = made.ballots ++ record { ballot = ballot; fate = begun said } ∷ [] }
 added plan made (CodeAt block.Dispute ballot race column code) said = record made { disputes = dispute_with code made.disputes }
-added plan made (CodeAt kind ballot race column code) said = record made { ballots = last_with (with_code code) made.ballots }
-added plan made (OverAt ballot race) said = record made { ballots = last_with (with_over race) made.ballots }
+added plan made (CodeAt block.Cast ballot race column code) said = record made { ballots = last_with (with_cast (cast.Code code)) made.ballots }
+added plan made (CodeAt block.Audited ballot race column code) said = record made { ballots = last_with (with_code code) made.ballots }
+added plan made (OverAt ballot race) said = record made { ballots = last_with (with_cast (cast.Over race)) made.ballots }
 added plan made (PaperAt ballot race list) said = record made { ballots = last_with (with_paper list) made.ballots }
 added plan made (FlagsAt race instance from bits) said = record made { flags = append_in made.flags race instance (bits_of bits) }
 added plan made (PlacesAt race from bits) said = record made { places = append_at made.places race (bits_of bits) }

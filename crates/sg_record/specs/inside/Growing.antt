@@ -4,7 +4,7 @@ use Rattle.sg_plan.specs.declared.plan.Plan.{Plan}
 use Rattle.sg_forms.specs.Said.{Said}
 use Rattle.sg_grammar.specs.Placed.{Placed}
 use Rattle.sg_grammar.specs.Placed.Placed.{CodeCommitAt, FlagsAt, PlacesAt, RowAt, RowCommitAt, TotalAt}
-use Rattle.sg_record.specs.inside.Gathering.{Gathered, added, blank, with_code, with_over, with_paper}
+use Rattle.sg_record.specs.inside.Gathering.{Gathered, added, blank, with_cast, with_code, with_paper}
 use Rattle.sg_record.specs.declared.last.Addition.{Addition}
 use Rattle.sg_record.specs.declared.last.Addition.TheVariants as addition
 use Rattle.sg_record.specs.declared.lists.Lists.{Lists}
@@ -14,8 +14,8 @@ use Rattle.sg_record.specs.declared.record.Record.{Record}
 
 -- how a line's addition changes what the last block says
 abbrev pub change_of : Addition → BlockFate → BlockFate
+change_of (addition.Cast line) = with_cast line
 change_of (addition.Code code) = with_code code
-change_of (addition.Over race) = with_over race
 change_of (addition.Paper codes) = with_paper codes.now
 
 -- the record of a plan and these lists

@@ -1,7 +1,8 @@
 -- What the writers of a record's parts ask of its lists, so that each list is walked over once.
-use Rattle.std.specs.Prelude.{◌≡◌, ℕ, ◌+◌, ◌^◌, ◌<◌, ◌≤◌, ◌==◌, Bool, true, List, [], ◌∷◌, length, filter, drop, All}
-use Rattle.std.specs.List.{list_any}
-use Rattle.sg_forms.specs.declared.line.CodeLine.{CodeLine}
+use Rattle.std.specs.Prelude.{◌≡◌, ℕ, ◌^◌, ◌<◌, ◌≤◌, true, List, [], ◌∷◌, length, map, All}
+use Rattle.std.specs.List.{zip}
+use Rattle.sg_forms.specs.Said.{Said}
+use Rattle.sg_forms.specs.Said.Said.{Paper}
 use Rattle.sg_forms.specs.Spelling.{IsCode}
 use Rattle.sg_plan.specs.Ballots.{ballots_of}
 use Rattle.sg_plan.specs.declared.plan.Plan.{Plan}
@@ -10,26 +11,23 @@ use Rattle.sg_plan.specs.Names.{IsName}
 use Rattle.sg_record.specs.Formed.{is_fate}
 use Rattle.sg_record.specs.Writing.{HaveCodes}
 use Rattle.sg_record.specs.declared.record.BallotBlock.{BallotBlock}
+use Rattle.sg_record.specs.declared.record.CastLine.{CastLine}
+use Rattle.sg_record.specs.declared.record.CastLine.TheVariants as cast
 use Rattle.sg_record.specs.declared.record.DisputeBlock.{DisputeBlock}
 use Rattle.sg_record.specs.declared.record.Record.{Record}
 
--- the codes are of this race or later ones, and races don't fall
-abbrev pub DoNotFall : ℕ → List CodeLine → Type 0
-DoNotFall least [] = Unit {0}
-DoNotFall least (code ∷ codes) = (least ≤ code.race) × DoNotFall code.race codes
+-- the code of a line of a cast ballot is of the version, if it has one
+abbrev pub HasCastCode : ℕ → CastLine → Type 0
+HasCastCode version (cast.Code code) = IsCode version code.code
+HasCastCode version other = Unit {0}
 
--- the races are this one or later ones, and rise
-abbrev pub DoRise : ℕ → List ℕ → Type 0
-DoRise least [] = Unit {0}
-DoRise least (race ∷ races) = (least ≤ race) × DoRise (race + 1) races
+abbrev pub HaveCastCodes : ℕ → List CastLine → Type 0
+HaveCastCodes version [] = Unit {0}
+HaveCastCodes version (line ∷ lines) = HasCastCode version line × HaveCastCodes version lines
 
--- the codes of a race
-abbrev pub of_race : ℕ → List CodeLine → List CodeLine
-of_race race codes = filter (λ code. code.race == race) codes
-
--- the race is one of these
-abbrev pub has_race : ℕ → List ℕ → Bool
-has_race race races = list_any (λ over. over == race) races
+-- a paper's codes, race by race
+abbrev pub paper_lines : List ℕ → List (List ℕ) → List Said
+paper_lines races papers = map (λ one. Paper one.0 one.1) (zip races papers)
 
 -- each race has its results, which are few enough to be numbered
 pub record HasRaces (posted : Record) : Type 0 where
@@ -38,19 +36,6 @@ pub record HasRaces (posted : Record) : Type 0 where
   pub totals : length posted.totals ≡ length posted.plan.races
   pub few_flags : All (λ instances. length instances < 2 ^ 32) posted.flags
   pub few_totals : All (λ totals. length totals < 2 ^ 32) posted.totals
-
--- behind the codes of the race, from one place to another, those of later races stand
-pub record GoesOn (version race : ℕ) (codes : List CodeLine) (from end : ℕ) : Type 0 where
-  pub within : end ≤ length codes
-  pub have : HaveCodes version (drop end codes)
-  pub order : DoNotFall (race + 1) (drop end codes)
-  pub same : (later : ℕ) → race < later → of_race later (drop from codes) ≡ of_race later (drop end codes)
-
--- the same of the races that are over
-pub record GoesOnOver (race : ℕ) (overs : List ℕ) (from end : ℕ) : Type 0 where
-  pub within : end ≤ length overs
-  pub order : DoRise (race + 1) (drop end overs)
-  pub same : (later : ℕ) → race < later → has_race later (drop from overs) ≡ has_race later (drop end overs)
 
 -- a list of 1 to 16 codes of the version for each race
 abbrev pub ArePapers : ℕ → List ℕ → List (List ℕ) → Type 0

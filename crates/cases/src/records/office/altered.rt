@@ -4,7 +4,7 @@ use super::tables::{CANDIDATES, ENTRIES, INSTANCES, code_of, entry_of, left_poin
 use super::{Exchange, FIRST_DRAW, Office, SECOND_DRAW, THIRD_DRAW};
 use crate::fault::Fault;
 use sg_plan::{Items, NoMemory, Side};
-use sg_record::{BallotBlock, BlockFate, Record, RowOpening};
+use sg_record::{BallotBlock, BlockFate, CastLine, Record, RowOpening};
 use std::alloc::Global;
 use std::io::Write;
 
@@ -168,15 +168,22 @@ fn count_altered(instance: &Instance) -> u32 {
     count
 }
 
+/// Notes the code of a line of a cast ballot, if it has one.
+fn note_line(codes: &mut Items<Option<u16>>, ballot: u32, line: &CastLine) {
+    if let CastLine::Code(code) = line {
+        let row = ballot.saturating_sub(1);
+        let entry = row.saturating_mul(CANDIDATES).saturating_add(code.column) as usize;
+        if entry < codes.len() {
+            codes.replace(entry, Some(code.code));
+        }
+    }
+}
+
 /// Notes the codes of a cast ballot's block.
 fn note_codes(codes: &mut Items<Option<u16>>, block: &BallotBlock) {
-    if let BlockFate::Cast(lines, _) = &block.fate {
+    if let BlockFate::Cast(lines) = &block.fate {
         for line in lines.as_slice() {
-            let row = block.ballot.saturating_sub(1);
-            let entry = row.saturating_mul(CANDIDATES).saturating_add(line.column) as usize;
-            if entry < codes.len() {
-                codes.replace(entry, Some(line.code));
-            }
+            note_line(codes, block.ballot, line);
         }
     }
 }

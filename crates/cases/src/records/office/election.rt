@@ -2,7 +2,7 @@
 use super::tables::{BALLOTS, CANDIDATES, INSTANCES, code_of, entry_of, key_of, shown};
 use sg_commit::CommitKind;
 use sg_plan::{Items, NoMemory, Plan, Race, Run, Style, Word};
-use sg_record::{BallotBlock, BlockFate, CodeLine};
+use sg_record::{BallotBlock, BlockFate, CastLine, CodeLine};
 use std::alloc::Global;
 
 /// The version of the record.
@@ -120,14 +120,16 @@ fn code_line(entry: u32) -> CodeLine {
 
 /// What the block of a ballot says. An unused one has none.
 fn fate_of(alloc: Global, ballot_row: u32) -> Result<Option<BlockFate>, NoMemory> {
-    let mut codes = Items::new(alloc);
+    let mut lines = Items::new(alloc);
     match use_of(ballot_row) {
-        BallotUse::Marked(candidate) => codes.push(code_line(entry_of(ballot_row, candidate)))?,
+        BallotUse::Marked(candidate) => {
+            lines.push(CastLine::Code(code_line(entry_of(ballot_row, candidate))))?;
+        }
         BallotUse::Blank => {}
         BallotUse::Spoiled => return Ok(Some(BlockFate::Spoiled)),
         BallotUse::Unused => return Ok(None),
     }
-    Ok(Some(BlockFate::Cast(codes, Items::new(alloc))))
+    Ok(Some(BlockFate::Cast(lines)))
 }
 
 /// Puts the blocks of all ballots.

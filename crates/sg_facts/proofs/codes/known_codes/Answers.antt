@@ -14,7 +14,7 @@ use Rattle.sg_facts.proofs.codes.known_codes.Goals as goal
 
 pub note_blocks-requires-clause-fates : goal.note_blocks-requires-clause-fates
 note_blocks-requires-clause-fates c =
-    subst (λ (p : Plan). AreFates p c.args.posted.now.ballots) (sym c.requires.index) (blocks_fates c.args.posted.now.plan 0 c.args.posted.now.ballots (formed_parts c.args.posted.now c.requires.formed).blocks)
+    subst (λ (p : Plan). AreFates p c.args.posted.now.ballots) (sym c.requires.index) (blocks_fates c.args.posted.now.plan c.args.posted.now.ballots (formed_parts c.args.posted.now c.requires.formed).blocks)
 
 pub note_blocks-requires-clause-sized : goal.note_blocks-requires-clause-sized
 note_blocks-requires-clause-sized c = blank_sized c.args.index.now c.in_ok-table.table c.in_ok-table.ensures
@@ -34,4 +34,4 @@ returns c =
     put_all plan c.in_ok-table.table c.note_disputes.new.table (λ r e. option_map_or Some (first_given (block_code plan r e) posted.ballots) (first_given (dispute_code plan r e) posted.disputes))
     (λ r e. known_code plan r e (places_in posted)) blank sized
     (puts_both plan c.in_ok-table.table c.note_blocks.new.table c.note_disputes.new.table (λ r e. first_given (block_code plan r e) posted.ballots) (λ r e. first_given (dispute_code plan r e) posted.disputes) first second)
-    (λ r e within. (are_listed posted).known r e within)
+    (are_listed posted).known

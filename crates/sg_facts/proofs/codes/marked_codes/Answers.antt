@@ -14,7 +14,7 @@ use Rattle.sg_facts.proofs.codes.marked_codes.Goals as goal
 
 pub note_marks-requires-clause-fates : goal.note_marks-requires-clause-fates
 note_marks-requires-clause-fates c =
-    subst (λ (p : Plan). AreFates p c.args.posted.now.ballots) (sym c.requires.index) (blocks_fates c.args.posted.now.plan 0 c.args.posted.now.ballots (formed_parts c.args.posted.now c.requires.formed).blocks)
+    subst (λ (p : Plan). AreFates p c.args.posted.now.ballots) (sym c.requires.index) (blocks_fates c.args.posted.now.plan c.args.posted.now.ballots (formed_parts c.args.posted.now c.requires.formed).blocks)
 
 pub note_marks-requires-clause-sized : goal.note_marks-requires-clause-sized
 note_marks-requires-clause-sized c = blank_sized c.args.index.now c.in_ok-table.table c.in_ok-table.ensures
@@ -27,4 +27,4 @@ returns c =
     let sized = subst (λ (p : Plan). IsSized p c.note_marks.new.table) c.requires.index c.note_marks.ensures.sized in
     let blank = subst (λ (p : Plan). HasTable p c.in_ok-table.table (λ r e. None)) c.requires.index c.in_ok-table.ensures in
     put_all plan c.in_ok-table.table c.note_marks.new.table (λ r e. first_given (block_mark plan r e) posted.ballots) (λ r e. marked_code plan r e (places_in posted)) blank sized first
-    (λ r e within. (are_listed posted).mark r e within)
+    (are_listed posted).mark

@@ -5,10 +5,10 @@ use Rattle.sg_record.specs.declared.record.BlockFate.{BlockFate}
 use Rattle.sg_facts.proofs.Tabling.{audited_own, cast_own}
 use Rattle.sg_facts.proofs.codes.note_block.Goals as goal
 
+pub note_lines-requires-clause-own : goal.note_lines-requires-clause-own
+note_lines-requires-clause-own c =
+    cast_own c.args.index.now c.args.block.now.ballot c.in-Cast.lines (subst (λ (f : BlockFate). is_fate c.args.index.now c.args.block.now.ballot f ≡ true) c.in-Cast.is c.requires.fate)
+
 pub note_codes-requires-clause-own : goal.note_codes-requires-clause-own
 note_codes-requires-clause-own c =
-    cast_own c.args.index.now c.args.block.now.ballot c.in-Cast.codes c.in-Cast.field-1 (subst (λ (f : BlockFate). is_fate c.args.index.now c.args.block.now.ballot f ≡ true) c.in-Cast.is c.requires.fate)
-
-pub note_codes-requires-in-Audited-clause-own : goal.note_codes-requires-in-Audited-clause-own
-note_codes-requires-in-Audited-clause-own c =
     audited_own c.args.index.now c.args.block.now.ballot c.in-Audited.field-0 c.in-Audited.codes (subst (λ (f : BlockFate). is_fate c.args.index.now c.args.block.now.ballot f ≡ true) c.in-Audited.is c.requires.fate)

@@ -12,6 +12,6 @@ pub loop-at-preserved : goal.loop-at-preserved
 loop-at-preserved c =
     let plan = c.args.index.now in (
       c.note_codes.ensures.sized,
-      puts_more {A = DisputeBlock} plan c.args.table.now c.loop-at.table c.note_codes.new.table (λ race entry. dispute_code plan race entry) c.args.blocks.now (take c.loop-at.at c.args.blocks.now)
+      puts_more {A = DisputeBlock} plan c.args.table.now c.loop-at.table c.note_codes.new.table (λ race entry. dispute_code plan race entry) (take c.loop-at.at c.args.blocks.now)
           (take (c.loop-at.at + 1) c.args.blocks.now) c.get-block.result.now c.get-block.ensures.front c.loop-at.invariant.1 c.note_codes.ensures.puts,
     )

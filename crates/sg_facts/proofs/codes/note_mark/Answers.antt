@@ -5,6 +5,6 @@ use Rattle.sg_record.specs.declared.record.BlockFate.{BlockFate}
 use Rattle.sg_facts.proofs.Tabling.{cast_own}
 use Rattle.sg_facts.proofs.codes.note_mark.Goals as goal
 
-pub note_codes-requires-clause-own : goal.note_codes-requires-clause-own
-note_codes-requires-clause-own c =
-    cast_own c.args.index.now c.args.block.now.ballot c.in-Cast.codes c.in-Cast.field-1 (subst (λ (f : BlockFate). is_fate c.args.index.now c.args.block.now.ballot f ≡ true) c.in-Cast.is c.requires.fate)
+pub note_lines-requires-clause-own : goal.note_lines-requires-clause-own
+note_lines-requires-clause-own c =
+    cast_own c.args.index.now c.args.block.now.ballot c.in-Cast.lines (subst (λ (f : BlockFate). is_fate c.args.index.now c.args.block.now.ballot f ≡ true) c.in-Cast.is c.requires.fate)

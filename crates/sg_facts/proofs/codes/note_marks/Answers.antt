@@ -9,6 +9,6 @@ pub loop-at-preserved : goal.loop-at-preserved
 loop-at-preserved c =
     let plan = c.args.index.now in (
       c.note_mark.ensures.sized,
-      puts_more {A = BallotBlock} plan c.args.table.now c.loop-at.table c.note_mark.new.table (λ race entry. block_mark plan race entry) c.args.blocks.now (take c.loop-at.at c.args.blocks.now)
+      puts_more {A = BallotBlock} plan c.args.table.now c.loop-at.table c.note_mark.new.table (λ race entry. block_mark plan race entry) (take c.loop-at.at c.args.blocks.now)
           (take (c.loop-at.at + 1) c.args.blocks.now) c.get.result.now c.get.ensures.front c.loop-at.invariant.1 c.note_mark.ensures.puts,
     )

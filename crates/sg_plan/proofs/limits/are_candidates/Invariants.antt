@@ -1,6 +1,7 @@
 use Rattle.std.proofs.Common.{◌≡◌, [], take, drop}
-use Rattle.sg_plan.specs.Limits.{candidate_keeps, each_keeps}
+use Rattle.sg_plan.specs.Limits.{each_keeps}
+use Rattle.sg_plan.specs.Names.{name_keeps}
 use Rattle.sg_plan.proofs.limits.are_candidates.Given as goal
 
 abbrev pub invariant-loop-at : goal.invariant-loop-at
-invariant-loop-at l = each_keeps candidate_keeps (take l.at l.names) (drop l.at l.names) ≡ each_keeps candidate_keeps [] l.names
+invariant-loop-at l = each_keeps name_keeps (take l.at l.names) (drop l.at l.names) ≡ each_keeps name_keeps [] l.names

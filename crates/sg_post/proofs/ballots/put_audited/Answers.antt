@@ -8,11 +8,9 @@ use Rattle.sg_plan.specs.declared.plan.Plan.{Plan}
 use Rattle.sg_record.proofs.Limits.{ballot_two}
 use Rattle.sg_record.proofs.Marks.{Papers, papers_pass}
 use Rattle.sg_record.proofs.Putting.{puts_stop, puts_then}
-use Rattle.sg_record.specs.Lines.{paper_lines}
+use Rattle.sg_record.specs.inside.Parts.{ArePapers, paper_lines}
 use Rattle.sg_post.specs.inside.Lines.{audited_race}
-use Rattle.sg_post.proofs.Claims.{paper-same}
 use Rattle.sg_post.proofs.ballots.put_audited.Goals as goal
-use Rattle.sg_record.specs.inside.Parts.{ArePapers}
 
 pub put_papers-requires-clause-len : goal.put_papers-requires-clause-len
 put_papers-requires-clause-len g c =
@@ -20,8 +18,7 @@ put_papers-requires-clause-len g c =
     let races = c.races.ensures ∙ ap (λ (p : Plan). races_of_ballot p c.args.ballot) c.requires.index in
     let good = c.count_races.ensures.limits in
     let pass : Papers plan (races_of_ballot plan c.args.ballot) c.args.paper.now =
-    papers_pass plan (races_of_ballot plan c.args.ballot) c.args.paper.now (bounds plan good).few_candidates (ballot_two plan good (style_of_ballot plan c.args.ballot))
-    (sym (paper-same plan (races_of_ballot plan c.args.ballot) c.args.paper.now) ∙ c.requires.fits) in
+    papers_pass plan (races_of_ballot plan c.args.ballot) c.args.paper.now (bounds plan good).few_candidates (ballot_two plan good (style_of_ballot plan c.args.ballot)) c.requires.fits in
     pass.len ∙ sym (ap length races)
 
 pub put_papers-requires-clause-papers : goal.put_papers-requires-clause-papers
@@ -30,8 +27,7 @@ put_papers-requires-clause-papers g c =
     let races = c.races.ensures ∙ ap (λ (p : Plan). races_of_ballot p c.args.ballot) c.requires.index in
     let good = c.count_races.ensures.limits in
     let pass : Papers plan (races_of_ballot plan c.args.ballot) c.args.paper.now =
-    papers_pass plan (races_of_ballot plan c.args.ballot) c.args.paper.now (bounds plan good).few_candidates (ballot_two plan good (style_of_ballot plan c.args.ballot))
-    (sym (paper-same plan (races_of_ballot plan c.args.ballot) c.args.paper.now) ∙ c.requires.fits) in
+    papers_pass plan (races_of_ballot plan c.args.ballot) c.args.paper.now (bounds plan good).few_candidates (ballot_two plan good (style_of_ballot plan c.args.ballot)) c.requires.fits in
     let at = subst (λ (v : ℕ). ArePapers v (races_of_ballot plan c.args.ballot) c.args.paper.now) (sym (c.in_ok-put_line.ensures.version ∙ c.requires.version)) pass.each in
     subst (λ (r : List ℕ). ArePapers c.put_line.new.self.version r c.args.paper.now) (sym races) at
 

@@ -3,7 +3,7 @@ use Rattle.std.proofs.Common.{◌∷◌, [], ◌∙◌, map, ◌++◌}
 use Rattle.sg_record.proofs.Marks.{audit_have, audit_papers}
 use Rattle.sg_record.proofs.Putting.{puts_stop, puts_then}
 use Rattle.sg_forms.specs.Said.Said.{Audited, Code}
-use Rattle.sg_record.specs.Lines.{paper_lines}
+use Rattle.sg_record.specs.inside.Parts.{paper_lines}
 use Rattle.sg_record.proofs.blocks.put_audited.Goals as goal
 
 pub returns-in_err-put_line : goal.returns-in_err-put_line

@@ -4,7 +4,7 @@ use Rattle.std.proofs.lemmas.List.{drop_all, drop_more}
 use Rattle.sg_forms.specs.Said.Said.{Paper}
 use Rattle.sg_record.proofs.Marks.{first_paper, papers_step}
 use Rattle.sg_record.proofs.Putting.{left_at_fault, left_behind, left_none}
-use Rattle.sg_record.specs.Lines.{paper_lines}
+use Rattle.sg_record.specs.inside.Parts.{paper_lines}
 use Rattle.sg_record.proofs.blocks.put_papers.Goals as goal
 
 pub put_paper-requires-clause-codes : goal.put_paper-requires-clause-codes

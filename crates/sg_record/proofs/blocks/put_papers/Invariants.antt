@@ -1,9 +1,8 @@
 -- What is written so far, and what is left.
 use Rattle.std.proofs.Common.{drop}
 use Rattle.sg_record.proofs.Putting.{Left}
-use Rattle.sg_record.specs.Lines.{paper_lines}
 use Rattle.sg_record.specs.Pens.{moment}
-use Rattle.sg_record.specs.inside.Parts.{ArePapers}
+use Rattle.sg_record.specs.inside.Parts.{ArePapers, paper_lines}
 use Rattle.sg_record.proofs.blocks.put_papers.Given as goal
 
 abbrev pub invariant-loop-at : goal.invariant-loop-at

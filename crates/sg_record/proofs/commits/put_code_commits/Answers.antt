@@ -3,7 +3,7 @@ use Rattle.std.proofs.Common.{[], arith}
 use Rattle.std.proofs.lemmas.List.{drop_more}
 use Rattle.sg_record.proofs.FormedLists.{entries_len, formed_parts}
 use Rattle.sg_record.proofs.Putting.{left_all, list_end, list_fault, list_next}
-use Rattle.sg_record.specs.Lines.{race_code_commit_lines}
+use Rattle.sg_record.specs.Tree.{as_line, race_code_commit_tree}
 use Rattle.sg_record.proofs.commits.put_code_commits.Goals as goal
 
 pub loop-race-init : goal.loop-race-init
@@ -13,16 +13,16 @@ pub returns-in_err-put_race_codes : goal.returns-in_err-put_race_codes
 returns-in_err-put_race_codes g c =
     let posted = g.P.Posts.posted c.args.posted.now in
     let many = entries_len posted.plan posted.code_commits (formed_parts posted c.requires.formed).code_commits in
-    list_fault _ _ _ _ _ race_code_commit_lines posted.code_commits c.loop-race.race _ c.loop-race.invariant (drop_more posted.code_commits c.loop-race.race [] (omega (arith, many, c.count_races-race-end.ensures))) c.from_residual.ensures.0 c.in_err-put_race_codes.ensures
+    list_fault _ _ _ _ _ (race_code_commit_tree as_line) posted.code_commits c.loop-race.race _ c.loop-race.invariant (drop_more posted.code_commits c.loop-race.race [] (omega (arith, many, c.count_races-race-end.ensures))) c.from_residual.ensures.0 c.in_err-put_race_codes.ensures
 
 pub loop-race-preserved : goal.loop-race-preserved
 loop-race-preserved g c =
     let posted = g.P.Posts.posted c.args.posted.now in
     let many = entries_len posted.plan posted.code_commits (formed_parts posted c.requires.formed).code_commits in
-    list_next _ _ _ _ race_code_commit_lines posted.code_commits c.loop-race.race _ c.loop-race.invariant (drop_more posted.code_commits c.loop-race.race [] (omega (arith, many, c.count_races-race-end.ensures))) c.in_ok-put_race_codes.ensures
+    list_next _ _ _ _ (race_code_commit_tree as_line) posted.code_commits c.loop-race.race _ c.loop-race.invariant (drop_more posted.code_commits c.loop-race.race [] (omega (arith, many, c.count_races-race-end.ensures))) c.in_ok-put_race_codes.ensures
 
 pub returns : goal.returns
 returns g c =
     let posted = g.P.Posts.posted c.args.posted.now in
     let many = entries_len posted.plan posted.code_commits (formed_parts posted c.requires.formed).code_commits in
-    list_end _ _ _ race_code_commit_lines posted.code_commits c.loop-race.race c.loop-race.invariant (omega (arith, many, c.count_races-race-end.ensures))
+    list_end _ _ _ (race_code_commit_tree as_line) posted.code_commits c.loop-race.race c.loop-race.invariant (omega (arith, many, c.count_races-race-end.ensures))

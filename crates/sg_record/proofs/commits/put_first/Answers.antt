@@ -2,7 +2,8 @@
 use Rattle.std.proofs.Common.{[], ◌++◌}
 use Rattle.sg_record.proofs.FormedLists.{formed_parts}
 use Rattle.sg_record.proofs.Putting.{puts_stop, puts_then, seals_after}
-use Rattle.sg_record.specs.Lines.{commit_lines, indexed, plan_lines, race_code_commit_lines, race_row_commit_lines, seal_line}
+use Rattle.sg_record.specs.Lines.{plan_lines}
+use Rattle.sg_record.specs.Tree.{as_line, commit_tree, indexed, race_code_commit_tree, race_row_commit_tree, seal_tree}
 use Rattle.sg_record.proofs.commits.put_first.Goals as goal
 
 pub put_plan-requires : goal.put_plan-requires
@@ -11,8 +12,8 @@ put_plan-requires g c = record { limits = rw c.plan.ensures (formed_parts (g.P.P
 pub put_seal-requires-clause-seal : goal.put_seal-requires-clause-seal
 put_seal-requires-clause-seal g c =
     let posted = g.P.Posts.posted c.args.posted.now in
-    let codes = indexed race_code_commit_lines 0 posted.code_commits in
-    let rows = indexed race_row_commit_lines 0 posted.row_commits in
+    let codes = indexed (race_code_commit_tree as_line) 0 posted.code_commits in
+    let rows = indexed (race_row_commit_tree as_line) 0 posted.row_commits in
     let parts = puts_then _ _ _ _ _ (plan_lines posted.plan) (codes ++ rows) (rw c.plan.ensures at c.in_ok-put_plan.ensures)
     (puts_then _ _ _ _ _ codes rows c.in_ok-put_code_commits.ensures c.in_ok-put_row_commits.ensures) in
     seals_after g.P.Posts.wants_seal _ _ _ posted.plan.version [] (plan_lines posted.plan ++ (codes ++ rows)) c.requires.version c.requires.seal parts
@@ -20,30 +21,30 @@ put_seal-requires-clause-seal g c =
 pub returns-in_err-put_plan : goal.returns-in_err-put_plan
 returns-in_err-put_plan g c =
     let posted = g.P.Posts.posted c.args.posted.now in
-    puts_stop _ _ _ _ (plan_lines posted.plan) (commit_lines posted) c.from_residual.ensures.0 (rw c.plan.ensures at c.in_err-put_plan.ensures)
+    puts_stop _ _ _ _ (plan_lines posted.plan) (commit_tree as_line posted) c.from_residual.ensures.0 (rw c.plan.ensures at c.in_err-put_plan.ensures)
 
 pub returns-in_err-put_code_commits : goal.returns-in_err-put_code_commits
 returns-in_err-put_code_commits g c =
     let posted = g.P.Posts.posted c.args.posted.now in
-    let codes = indexed race_code_commit_lines 0 posted.code_commits in
-    let rows = indexed race_row_commit_lines 0 posted.row_commits in
-    puts_then _ _ _ _ _ (plan_lines posted.plan) (commit_lines posted) (rw c.plan.ensures at c.in_ok-put_plan.ensures)
-    (puts_stop _ _ _ _ codes (rows ++ seal_line 1 posted.seals) c.from_residual-in_err-put_code_commits.ensures.0 c.in_err-put_code_commits.ensures)
+    let codes = indexed (race_code_commit_tree as_line) 0 posted.code_commits in
+    let rows = indexed (race_row_commit_tree as_line) 0 posted.row_commits in
+    puts_then _ _ _ _ _ (plan_lines posted.plan) (commit_tree as_line posted) (rw c.plan.ensures at c.in_ok-put_plan.ensures)
+    (puts_stop _ _ _ _ codes (rows ++ seal_tree as_line 1 posted.seals) c.from_residual-in_err-put_code_commits.ensures.0 c.in_err-put_code_commits.ensures)
 
 pub returns-in_err-put_row_commits : goal.returns-in_err-put_row_commits
 returns-in_err-put_row_commits g c =
     let posted = g.P.Posts.posted c.args.posted.now in
-    let codes = indexed race_code_commit_lines 0 posted.code_commits in
-    let rows = indexed race_row_commit_lines 0 posted.row_commits in
-    puts_then _ _ _ _ _ (plan_lines posted.plan) (commit_lines posted) (rw c.plan.ensures at c.in_ok-put_plan.ensures)
-    (puts_then _ _ _ _ _ codes (rows ++ seal_line 1 posted.seals) c.in_ok-put_code_commits.ensures
-    (puts_stop _ _ _ _ rows (seal_line 1 posted.seals) c.from_residual-in_err-put_row_commits.ensures.0 c.in_err-put_row_commits.ensures))
+    let codes = indexed (race_code_commit_tree as_line) 0 posted.code_commits in
+    let rows = indexed (race_row_commit_tree as_line) 0 posted.row_commits in
+    puts_then _ _ _ _ _ (plan_lines posted.plan) (commit_tree as_line posted) (rw c.plan.ensures at c.in_ok-put_plan.ensures)
+    (puts_then _ _ _ _ _ codes (rows ++ seal_tree as_line 1 posted.seals) c.in_ok-put_code_commits.ensures
+    (puts_stop _ _ _ _ rows (seal_tree as_line 1 posted.seals) c.from_residual-in_err-put_row_commits.ensures.0 c.in_err-put_row_commits.ensures))
 
 pub returns : goal.returns
 returns g c =
     let posted = g.P.Posts.posted c.args.posted.now in
-    let codes = indexed race_code_commit_lines 0 posted.code_commits in
-    let rows = indexed race_row_commit_lines 0 posted.row_commits in
-    puts_then _ _ _ _ _ (plan_lines posted.plan) (commit_lines posted) (rw c.plan.ensures at c.in_ok-put_plan.ensures)
-    (puts_then _ _ _ _ _ codes (rows ++ seal_line 1 posted.seals) c.in_ok-put_code_commits.ensures
-    (puts_then _ _ _ _ _ rows (seal_line 1 posted.seals) c.in_ok-put_row_commits.ensures c.put_seal.ensures))
+    let codes = indexed (race_code_commit_tree as_line) 0 posted.code_commits in
+    let rows = indexed (race_row_commit_tree as_line) 0 posted.row_commits in
+    puts_then _ _ _ _ _ (plan_lines posted.plan) (commit_tree as_line posted) (rw c.plan.ensures at c.in_ok-put_plan.ensures)
+    (puts_then _ _ _ _ _ codes (rows ++ seal_tree as_line 1 posted.seals) c.in_ok-put_code_commits.ensures
+    (puts_then _ _ _ _ _ rows (seal_tree as_line 1 posted.seals) c.in_ok-put_row_commits.ensures c.put_seal.ensures))

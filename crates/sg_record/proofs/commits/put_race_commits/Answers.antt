@@ -3,7 +3,7 @@ use Rattle.std.proofs.Common.{[], get_or, arith}
 use Rattle.std.proofs.lemmas.List.{drop_more}
 use Rattle.sg_record.proofs.FormedLists.{formed_parts, rows_have}
 use Rattle.sg_record.proofs.Putting.{left_all, list_end, list_fault, list_next}
-use Rattle.sg_record.specs.Lines.{instance_row_commit_lines}
+use Rattle.sg_record.specs.Tree.{as_line, instance_row_commit_tree}
 use Rattle.sg_record.proofs.commits.put_race_commits.Goals as goal
 
 pub loop-instance-init : goal.loop-instance-init
@@ -13,16 +13,16 @@ pub returns-in_err-put_instance_commits : goal.returns-in_err-put_instance_commi
 returns-in_err-put_instance_commits g c =
     let posted = g.P.Posts.posted c.args.posted.now in
     let many = (rows_have posted.plan posted.row_commits (formed_parts posted c.requires.formed).row_commits).each c.args.race c.requires.race in
-    list_fault _ _ _ _ _ (instance_row_commit_lines c.args.race) (get_or posted.row_commits c.args.race []) c.loop-instance.instance _ c.loop-instance.invariant (drop_more (get_or posted.row_commits c.args.race []) c.loop-instance.instance [] (omega (arith, many, c.count_instances-instance-end.ensures))) c.from_residual.ensures.0 c.in_err-put_instance_commits.ensures
+    list_fault _ _ _ _ _ (instance_row_commit_tree as_line c.args.race) (get_or posted.row_commits c.args.race []) c.loop-instance.instance _ c.loop-instance.invariant (drop_more (get_or posted.row_commits c.args.race []) c.loop-instance.instance [] (omega (arith, many, c.count_instances-instance-end.ensures))) c.from_residual.ensures.0 c.in_err-put_instance_commits.ensures
 
 pub loop-instance-preserved : goal.loop-instance-preserved
 loop-instance-preserved g c =
     let posted = g.P.Posts.posted c.args.posted.now in
     let many = (rows_have posted.plan posted.row_commits (formed_parts posted c.requires.formed).row_commits).each c.args.race c.requires.race in
-    list_next _ _ _ _ (instance_row_commit_lines c.args.race) (get_or posted.row_commits c.args.race []) c.loop-instance.instance _ c.loop-instance.invariant (drop_more (get_or posted.row_commits c.args.race []) c.loop-instance.instance [] (omega (arith, many, c.count_instances-instance-end.ensures))) c.in_ok-put_instance_commits.ensures
+    list_next _ _ _ _ (instance_row_commit_tree as_line c.args.race) (get_or posted.row_commits c.args.race []) c.loop-instance.instance _ c.loop-instance.invariant (drop_more (get_or posted.row_commits c.args.race []) c.loop-instance.instance [] (omega (arith, many, c.count_instances-instance-end.ensures))) c.in_ok-put_instance_commits.ensures
 
 pub returns : goal.returns
 returns g c =
     let posted = g.P.Posts.posted c.args.posted.now in
     let many = (rows_have posted.plan posted.row_commits (formed_parts posted c.requires.formed).row_commits).each c.args.race c.requires.race in
-    list_end _ _ _ (instance_row_commit_lines c.args.race) (get_or posted.row_commits c.args.race []) c.loop-instance.instance c.loop-instance.invariant (omega (arith, many, c.count_instances-instance-end.ensures))
+    list_end _ _ _ (instance_row_commit_tree as_line c.args.race) (get_or posted.row_commits c.args.race []) c.loop-instance.instance c.loop-instance.invariant (omega (arith, many, c.count_instances-instance-end.ensures))

@@ -1,9 +1,9 @@
 -- What is written so far, and what is left.
 use Rattle.std.proofs.Common.{[], get_or}
 use Rattle.sg_record.proofs.Putting.{LeftFrom}
-use Rattle.sg_record.specs.Lines.{instance_row_commit_lines}
+use Rattle.sg_record.specs.Tree.{as_line, instance_row_commit_tree}
 use Rattle.sg_record.specs.Pens.{moment}
 use Rattle.sg_record.proofs.commits.put_race_commits.Given as goal
 
 abbrev pub invariant-loop-instance : goal.invariant-loop-instance
-invariant-loop-instance g l = LeftFrom (moment g.O.Sink.written g.O.Sink.faults l.fn.pen l.fn.out) (moment g.O.Sink.written g.O.Sink.faults l.pen l.out) (instance_row_commit_lines l.race) (get_or (g.P.Posts.posted l.posted).row_commits l.race []) l.instance
+invariant-loop-instance g l = LeftFrom (moment g.O.Sink.written g.O.Sink.faults l.fn.pen l.fn.out) (moment g.O.Sink.written g.O.Sink.faults l.pen l.out) (instance_row_commit_tree as_line l.race) (get_or (g.P.Posts.posted l.posted).row_commits l.race []) l.instance

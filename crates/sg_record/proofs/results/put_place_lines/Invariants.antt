@@ -2,9 +2,9 @@
 use Rattle.std.proofs.Common.{length}
 use Rattle.sg_record.proofs.Putting.{LeftEach}
 use Rattle.sg_grammar.specs.Due.{lines_for}
-use Rattle.sg_record.specs.Lines.{place_line}
+use Rattle.sg_record.specs.Tree.{as_line, place_leaf}
 use Rattle.sg_record.specs.Pens.{moment}
 use Rattle.sg_record.proofs.results.put_place_lines.Given as goal
 
 abbrev pub invariant-loop-line : goal.invariant-loop-line
-invariant-loop-line g l = LeftEach (moment g.O.Sink.written g.O.Sink.faults l.fn.pen l.fn.out) (moment g.O.Sink.written g.O.Sink.faults l.pen l.out) (place_line l.race l.bits) l.line (lines_for (length l.bits))
+invariant-loop-line g l = LeftEach (moment g.O.Sink.written g.O.Sink.faults l.fn.pen l.fn.out) (moment g.O.Sink.written g.O.Sink.faults l.pen l.out) (place_leaf as_line l.race l.bits) l.line (lines_for (length l.bits))

@@ -2,7 +2,8 @@
 use Rattle.std.proofs.Common.{[], ◌++◌, ◌∙◌}
 use Rattle.std.specs.List.{flat_map}
 use Rattle.sg_record.proofs.Putting.{puts_stop, puts_then, seals_after}
-use Rattle.sg_record.specs.Lines.{block_lines, first_lines, result_lines}
+use Rattle.sg_record.specs.Lines.{first_lines}
+use Rattle.sg_record.specs.Tree.{as_line, block_tree, result_tree}
 use Rattle.sg_record.proofs.write.put_second.Goals as goal
 
 pub put_closed-requires-clause-version : goal.put_closed-requires-clause-version
@@ -16,9 +17,9 @@ put_closed-requires-clause-seal g c =
 pub returns-in_err-put_first : goal.returns-in_err-put_first
 returns-in_err-put_first g c =
     let posted = g.P.Posts.posted c.args.posted.now in
-    puts_stop _ _ _ _ (first_lines posted) (flat_map (block_lines posted.plan) posted.ballots ++ result_lines posted) c.from_residual.ensures.0 c.in_err-put_first.ensures
+    puts_stop _ _ _ _ (first_lines posted) (flat_map (block_tree as_line posted.plan) posted.ballots ++ result_tree as_line posted) c.from_residual.ensures.0 c.in_err-put_first.ensures
 
 pub returns : goal.returns
 returns g c =
     let posted = g.P.Posts.posted c.args.posted.now in
-    puts_then _ _ _ _ _ (first_lines posted) (flat_map (block_lines posted.plan) posted.ballots ++ result_lines posted) c.in_ok-put_first.ensures c.put_closed.ensures
+    puts_then _ _ _ _ _ (first_lines posted) (flat_map (block_tree as_line posted.plan) posted.ballots ++ result_tree as_line posted) c.in_ok-put_first.ensures c.put_closed.ensures

@@ -3,7 +3,7 @@ use Rattle.std.proofs.Common.{[], length, ap, arith}
 use Rattle.std.proofs.lemmas.Option.{get_or_from_slice_get}
 use Rattle.sg_record.proofs.FormedLists.{formed_parts, instance_list, rows_have}
 use Rattle.sg_record.proofs.Putting.{list_end, list_fault, list_next, puts_same}
-use Rattle.sg_record.specs.Lines.{instance_row_commit_lines, row_commit_line}
+use Rattle.sg_record.specs.Tree.{as_line, instance_row_commit_tree, row_commit_leaf}
 use Rattle.sg_record.proofs.listed.RecordPosts.put_instance_commits.Goals as goal
 
 pub get-instances-requires : goal.get-instances-requires
@@ -20,14 +20,14 @@ get-rows-requires g c =
 
 pub returns-in_err-put_row_commit : goal.returns-in_err-put_row_commit
 returns-in_err-put_row_commit g c =
-    puts_same _ _ _ _ _ (ap (instance_row_commit_lines c.args.race c.args.instance) (instance_list c.args.self.now.row_commits c.args.race c.args.instance _ _ c.get-instances.ensures.item c.get-rows.ensures.item))
-    (list_fault _ _ _ _ _ (row_commit_line c.args.race c.args.instance) c.get-rows.result.now c.loop-at.at c.get.result.now c.loop-at.invariant c.get.ensures.rest c.from_residual.ensures.0 c.in_err-put_row_commit.ensures)
+    puts_same _ _ _ _ _ (ap (instance_row_commit_tree as_line c.args.race c.args.instance) (instance_list c.args.self.now.row_commits c.args.race c.args.instance _ _ c.get-instances.ensures.item c.get-rows.ensures.item))
+    (list_fault _ _ _ _ _ (row_commit_leaf as_line c.args.race c.args.instance) c.get-rows.result.now c.loop-at.at c.get.result.now c.loop-at.invariant c.get.ensures.rest c.from_residual.ensures.0 c.in_err-put_row_commit.ensures)
 
 pub loop-at-preserved : goal.loop-at-preserved
 loop-at-preserved g c =
-    list_next _ _ _ _ (row_commit_line c.args.race c.args.instance) c.get-rows.result.now c.loop-at.at c.get.result.now c.loop-at.invariant c.get.ensures.rest c.in_ok-put_row_commit.ensures
+    list_next _ _ _ _ (row_commit_leaf as_line c.args.race c.args.instance) c.get-rows.result.now c.loop-at.at c.get.result.now c.loop-at.invariant c.get.ensures.rest c.in_ok-put_row_commit.ensures
 
 pub returns : goal.returns
 returns g c =
-    puts_same _ _ _ _ _ (ap (instance_row_commit_lines c.args.race c.args.instance) (instance_list c.args.self.now.row_commits c.args.race c.args.instance _ _ c.get-instances.ensures.item c.get-rows.ensures.item))
-    (list_end _ _ _ (row_commit_line c.args.race c.args.instance) c.get-rows.result.now c.loop-at.at c.loop-at.invariant (omega arith))
+    puts_same _ _ _ _ _ (ap (instance_row_commit_tree as_line c.args.race c.args.instance) (instance_list c.args.self.now.row_commits c.args.race c.args.instance _ _ c.get-instances.ensures.item c.get-rows.ensures.item))
+    (list_end _ _ _ (row_commit_leaf as_line c.args.race c.args.instance) c.get-rows.result.now c.loop-at.at c.loop-at.invariant (omega arith))

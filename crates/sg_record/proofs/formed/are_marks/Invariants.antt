@@ -1,8 +1,0 @@
--- The items walked over pass, and the rest decide.
-use Rattle.std.proofs.Common.{◌≡◌, ℕ, drop}
-use Rattle.sg_record.specs.Formed.{are_marks}
-use Rattle.sg_plan.specs.Ballots.{races_of_ballot}
-use Rattle.sg_record.proofs.formed.are_marks.Given as goal
-
-abbrev pub invariant-loop-at : goal.invariant-loop-at
-invariant-loop-at l = (ballot : ℕ) → l.races ≡ races_of_ballot l.plan ballot → are_marks l.plan ballot l.race l.column (drop l.at l.codes) ≡ are_marks l.plan ballot 0 0 l.codes
