@@ -2,7 +2,7 @@
 use Rattle.std.proofs.Common.{◌≡◌, ◌≢◌, ℕ, zero, suc, ◌+◌, ◌*◌, ◌<◌, ◌==◌, ◌⊎◌, nat_lt, Bool, true, false, ◌&&◌, cond, inl, inr, List, [], ◌∷◌, ◌++◌, All, length, replicate, Option, Some, None, refl, sym, subst, ap, ◌∙◌, arith}
 use Rattle.std.specs.Option.{option_and_then, option_map, option_map_or}
 use Rattle.std.specs.Prelude.{IsSome, slice_get, slice_set}
-use Rattle.std.proofs.lemmas.Bool.{and_from, and_parts, cases_eq, cases_lt, eqb-true, lt-ltb, or_cases}
+use Rattle.std.proofs.lemmas.Bool.{and_from, and_parts, cases_eq, cases_lt, eqb-true, lt-ltb, ltb-true, or_cases}
 use Rattle.std.proofs.lemmas.Option.{cond_some, same_Some, slice_get_past, slice_get_within}
 use Rattle.std.specs.List.{list_all, list_any}
 use Rattle.std.proofs.lemmas.List.{length-set, length_push}
@@ -10,6 +10,7 @@ use Rattle.sg_lists.proofs.Each.{EachOf}
 use Rattle.sg_lists.proofs.Lists.{slice_get-push, slice_get-push_last, slice_get-replicate, slice_get-set, slice_get_there}
 use Rattle.sg_lists.proofs.Options.{option_map_or-Some}
 use Rattle.sg_lists.proofs.Tests.{All-slice_get, list_all-slice_get}
+use Rattle.sg_plan.proofs.PlanLaws.{entry_tells}
 use Rattle.sg_plan.specs.Ballots.{ballot_has, candidates_of, entries_of, entry_at, races_of_ballot, rows_of}
 use Rattle.sg_plan.specs.declared.plan.Plan.{Plan}
 use Rattle.sg_plan.specs.declared.plan.Race.{Race}
@@ -25,15 +26,13 @@ use Rattle.sg_record.specs.declared.record.BlockFate.TheVariants as fate
 use Rattle.sg_record.specs.declared.record.CastLine.{CastLine}
 use Rattle.sg_record.specs.declared.record.CastLine.TheVariants as cast
 use Rattle.sg_record.specs.declared.record.DisputeBlock.{DisputeBlock}
-use Rattle.sg_check.specs.Facts.{first_given}
 use Rattle.sg_facts.specs.Items.{item_in}
 use Rattle.sg_facts.specs.Listed.{code_shown}
 use Rattle.sg_facts.specs.Tables.{HasTable}
 use Rattle.sg_facts.specs.inside.Putting.{AreDisputes, AreFates, AreOwn, AreOwnLines, IsOwnLine, IsSized, Puts, or_code, put_at, told, with_first}
-use Rattle.sg_facts.proofs.Finding.{given-append}
 
 -- only a race of the plan has entries
-pub has_entries : (plan : Plan) (race : ℕ) {entry : ℕ} → entry < entries_of plan race → race < length plan.races
+has_entries : (plan : Plan) (race : ℕ) {entry : ℕ} → entry < entries_of plan race → race < length plan.races
 has_entries plan race below =
     elim (cases_lt race (length plan.races)) [
       | inl within ↦ within
@@ -42,6 +41,15 @@ has_entries plan race below =
           let empty : entries_of plan race ≡ rows_of plan race * 0 = ap (λ (count : ℕ). rows_of plan race * count) none in
           absurd (omega (arith, empty, below))
     ]
+
+-- the entry of a ballot's column is one of the race's
+pub column_entry : (plan : Plan) (ballot race column : ℕ) → is_column plan ballot race column ≡ true → entry_at plan race ballot column < entries_of plan race
+column_entry plan ballot race column is =
+    let parts = and_parts (ballot_has plan ballot race) (nat_lt column (candidates_of plan race)) is in
+    (entry_tells plan race ballot column parts.0 (ltb-true column (candidates_of plan race) parts.1)).below
+
+pub column_race : (plan : Plan) (ballot race column : ℕ) → is_column plan ballot race column ≡ true → race < length plan.races
+column_race plan ballot race column is = has_entries plan race (column_entry plan ballot race column is)
 
 -- ONE LIST
 
@@ -139,7 +147,7 @@ then_one : (kept : Option ℕ) (code : ℕ) → or_code code kept ≡ option_map
 then_one None code = refl
 then_one (Some k) code = refl
 
-then_three : (a b c : Option ℕ) → option_map_or Some (option_map_or Some a b) c ≡ option_map_or Some a (option_map_or Some b c)
+pub then_three : (a b c : Option ℕ) → option_map_or Some (option_map_or Some a b) c ≡ option_map_or Some a (option_map_or Some b c)
 then_three None b c = refl
 then_three (Some x) b c = refl
 
@@ -166,20 +174,9 @@ one_puts plan old new ballot code is sized = λ r e within below.
     at_place false (Some k) s = sym (option_map_or-Some k)
     at_place b None s = cc
 
-pub puts_same : (plan : Plan) (old new : List (List (Option ℕ))) (f h : ℕ → ℕ → Option ℕ) → ((r e : ℕ) → f r e ≡ h r e) → Puts plan old new f → Puts plan old new h
-puts_same plan old new f h same puts = λ r e within below. puts r e within below ∙ ap (λ (o : Option ℕ). option_map_or Some (told old r e) o) (same r e)
-
 pub puts_both : (plan : Plan) (old mid new : List (List (Option ℕ))) (f h : ℕ → ℕ → Option ℕ) → Puts plan old mid f → Puts plan mid new h → Puts plan old new (λ r e. option_map_or Some (f r e) (h r e))
 puts_both plan old mid new f h one two = λ r e within below.
     two r e within below ∙ (ap (λ (o : Option ℕ). option_map_or Some o (h r e)) (one r e within below) ∙ then_three (told old r e) (f r e) (h r e))
-
--- those of one more item
-pub puts_more : {A : Type 0} (plan : Plan) (old mid new : List (List (Option ℕ))) (g : ℕ → ℕ → A → Option ℕ) (front front' : List A) (x : A) → front' ≡ front ++ x ∷ []
-    → Puts plan old mid (λ r e. first_given (g r e) front) → Puts plan mid new (λ r e. g r e x) → Puts plan old new (λ r e. first_given (g r e) front')
-puts_more plan old mid new g front front' x grown one two =
-    puts_same plan old new (λ r e. option_map_or Some (first_given (g r e) front) (g r e x)) (λ r e. first_given (g r e) front')
-    (λ r e. sym (ap (first_given (g r e)) grown ∙ (given-append (g r e) front (x ∷ []) ∙ ap (λ (o : Option ℕ). option_map_or Some (first_given (g r e) front) o) (option_map_or-Some (g r e x)))))
-    (puts_both plan old mid new (λ r e. first_given (g r e) front) (λ r e. g r e x) one two)
 
 pub blank_sized : (plan : Plan) (table : List (List (Option ℕ))) → HasTable plan table (λ race entry. None) → IsSized plan table
 blank_sized plan table blank = λ r e within below. subst (λ (x : Option (Option ℕ)). IsSome x) (sym (blank r e within below)) refl
@@ -228,6 +225,8 @@ pub audited_own : (plan : Plan) (ballot : ℕ) (papers : List (List ℕ)) (codes
 audited_own plan ballot papers codes e =
     columns_own plan ballot (races_of_ballot plan ballot) codes (λ race is. has_among plan ballot race ∙ is)
     (codes-own plan (races_of_ballot plan ballot) codes (and_parts (are_papers plan (races_of_ballot plan ballot) papers) (are_columns plan (races_of_ballot plan ballot) codes) e).1)
+
+pub ruleset own_codes = (cast_own, audited_own)
 
 pub dispute_own : (plan : Plan) (one : DisputeBlock) → is_dispute plan one ≡ true → AreOwn plan one.ballot one.codes
 dispute_own plan one e =

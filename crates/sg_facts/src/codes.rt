@@ -17,6 +17,7 @@ use sg_record::{BallotBlock, BlockFate, CastLine, DisputeBlock, Record};
 use std::alloc::Global;
 
 /// The entry of a code of a ballot.
+#[tactic(auto, using(crate::proofs::Tabling::column_entry, crate::proofs::Tabling::column_race))]
 fn entry_of(index: &BallotIndex, ballot: u32, code: &CodeLine) -> u32
     requires { is_column index.now ballot code.now.race code.now.column ≡ true }
     ensures entry { result ≡ entry_at index.now code.now.race ballot code.now.column }
@@ -24,13 +25,13 @@ fn entry_of(index: &BallotIndex, ballot: u32, code: &CodeLine) -> u32
     ensures race { code.now.race < length index.now.races }
 {
     sg_plan::laws::bounds_law();
-    sg_plan::laws::entries_law();
     let plan = index.plan();
     let row = index.row(code.race, ballot);
     row * plan.candidates(code.race) as u32 + code.column
 }
 
 /// Puts a code of a ballot.
+#[tactic(auto, using(crate::proofs::Tabling::one_sized, crate::proofs::Tabling::one_puts))]
 fn note_code(
     alloc: Global,
     table: &mut Items<Items<Option<u16>>>,
@@ -66,6 +67,7 @@ fn note_line(
 }
 
 /// Puts the codes of the lines of a cast ballot.
+#[tactic(auto, using(crate::proofs::Tabling::then_three))]
 fn note_lines(
     alloc: Global,
     table: &mut Items<Items<Option<u16>>>,
@@ -84,6 +86,7 @@ fn note_lines(
 }
 
 /// Puts the codes of a ballot.
+#[tactic(auto, using(crate::proofs::Tabling::then_three))]
 fn note_codes(
     alloc: Global,
     table: &mut Items<Items<Option<u16>>>,
@@ -102,6 +105,7 @@ fn note_codes(
 }
 
 /// Puts the codes of a ballot that was cast.
+#[tactic(auto, using(crate::proofs::Tabling::own_codes))]
 fn note_mark(
     alloc: Global,
     table: &mut Items<Items<Option<u16>>>,
@@ -119,6 +123,7 @@ fn note_mark(
 }
 
 /// Puts the codes of a ballot that was cast or audited.
+#[tactic(auto, using(crate::proofs::Tabling::own_codes))]
 fn note_block(
     alloc: Global,
     table: &mut Items<Items<Option<u16>>>,
@@ -139,6 +144,7 @@ fn note_block(
 }
 
 /// Puts the codes of the ballots that were cast.
+#[tactic(auto, using(crate::proofs::Tabling::then_three))]
 fn note_marks(
     alloc: Global,
     table: &mut Items<Items<Option<u16>>>,
@@ -156,6 +162,7 @@ fn note_marks(
 }
 
 /// Puts the codes of the ballots that were cast or audited.
+#[tactic(auto, using(crate::proofs::Tabling::then_three))]
 fn note_blocks(
     alloc: Global,
     table: &mut Items<Items<Option<u16>>>,
@@ -173,6 +180,7 @@ fn note_blocks(
 }
 
 /// Puts the codes of the disputes.
+#[tactic(auto, using(crate::proofs::Tabling::dispute_own, crate::proofs::Tabling::then_three))]
 fn note_disputes(
     alloc: Global,
     table: &mut Items<Items<Option<u16>>>,
@@ -191,6 +199,7 @@ fn note_disputes(
 }
 
 /// The code of each marked entry, by race and entry.
+#[tactic(auto, using(crate::proofs::Tabling::blank_sized))]
 pub fn marked_codes(
     alloc: Global,
     posted: &Record,
@@ -206,6 +215,7 @@ pub fn marked_codes(
 }
 
 /// The code that is known of each entry, by race and entry.
+#[tactic(auto, using(crate::proofs::Tabling::blank_sized))]
 pub fn known_codes(
     alloc: Global,
     posted: &Record,

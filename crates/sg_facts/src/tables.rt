@@ -9,6 +9,7 @@ use sg_plan::{BallotIndex, Items, NoMemory};
 use std::alloc::Global;
 
 /// A table in which nothing stands yet.
+#[tactic(auto, using(sg_record::proofs::Bounds::few_races))]
 pub(crate) fn blank_table(
     alloc: Global,
     index: &BallotIndex,
@@ -35,6 +36,7 @@ fn put_first(codes: &mut Items<Option<u16>>, entry: usize, code: u16)
 }
 
 /// Puts the code of an entry, unless it has one. It takes no memory.
+#[tactic(auto, using(crate::proofs::Tabling::put_back))]
 pub(crate) fn put_code(
     alloc: Global,
     table: &mut Items<Items<Option<u16>>>,

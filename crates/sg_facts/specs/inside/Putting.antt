@@ -10,6 +10,7 @@ use Rattle.sg_record.specs.declared.record.BallotBlock.{BallotBlock}
 use Rattle.sg_record.specs.declared.record.CastLine.{CastLine}
 use Rattle.sg_record.specs.declared.record.CastLine.TheVariants as cast
 use Rattle.sg_record.specs.declared.record.DisputeBlock.{DisputeBlock}
+use Rattle.sg_check.specs.Facts.{first_given}
 use Rattle.sg_facts.specs.Items.{item_in}
 
 -- the code, unless one stands there
@@ -34,6 +35,12 @@ IsSized plan table = (race entry : ℕ) → race < length plan.races → entry <
 -- behind these lines, what stands at each entry's place is what stood there, or else what one of them gives
 abbrev pub Puts : Plan → List (List (Option ℕ)) → List (List (Option ℕ)) → (ℕ → ℕ → Option ℕ) → Type 0
 Puts plan old new given = (race entry : ℕ) → race < length plan.races → entry < entries_of plan race → told new race entry ≡ option_map_or Some (told old race entry) (given race entry)
+
+-- behind what stands, what the items left give is what all items give behind what stood
+abbrev pub PutsLeft : {A : Type 0} → Plan → List (List (Option ℕ)) → List (List (Option ℕ)) → (ℕ → ℕ → A → Option ℕ) → List A → List A → Type 0
+PutsLeft plan old new given items left =
+    (race entry : ℕ) → race < length plan.races → entry < entries_of plan race
+    → option_map_or Some (told new race entry) (first_given (given race entry) left) ≡ option_map_or Some (told old race entry) (first_given (given race entry) items)
 
 -- each of these codes is of a column of the ballot
 abbrev pub AreOwn : Plan → ℕ → List CodeLine → Type 0

@@ -1,9 +1,8 @@
 -- The blocks so far were put.
-use Rattle.std.proofs.Common.{take}
-use Rattle.sg_check.specs.Facts.{first_given}
+use Rattle.std.proofs.Common.{drop}
 use Rattle.sg_facts.specs.Listed.{block_code}
-use Rattle.sg_facts.specs.inside.Putting.{IsSized, Puts}
+use Rattle.sg_facts.specs.inside.Putting.{IsSized, PutsLeft}
 use Rattle.sg_facts.proofs.codes.note_blocks.Given as goal
 
 abbrev pub invariant-loop-at : goal.invariant-loop-at
-invariant-loop-at l = IsSized l.index l.table × Puts l.index l.fn.table l.table (λ race entry. first_given (block_code l.index race entry) (take l.at l.blocks))
+invariant-loop-at l = IsSized l.index l.table × PutsLeft l.index l.fn.table l.table (block_code l.index) l.blocks (drop l.at l.blocks)

@@ -1,9 +1,8 @@
 -- The codes so far were put.
-use Rattle.std.proofs.Common.{take}
-use Rattle.sg_check.specs.Facts.{first_given}
+use Rattle.std.proofs.Common.{drop}
 use Rattle.sg_facts.specs.Listed.{code_shown}
-use Rattle.sg_facts.specs.inside.Putting.{IsSized, Puts}
+use Rattle.sg_facts.specs.inside.Putting.{IsSized, PutsLeft}
 use Rattle.sg_facts.proofs.codes.note_codes.Given as goal
 
 abbrev pub invariant-loop-at : goal.invariant-loop-at
-invariant-loop-at l = IsSized l.index l.table × Puts l.index l.fn.table l.table (λ race entry. first_given (code_shown l.index race entry l.ballot) (take l.at l.codes))
+invariant-loop-at l = IsSized l.index l.table × PutsLeft l.index l.fn.table l.table (λ race entry. code_shown l.index race entry l.ballot) l.codes (drop l.at l.codes)

@@ -1,17 +1,7 @@
 -- One more race has its places.
-use Rattle.std.proofs.Common.{◌≤◌, length, refl, ap, ◌∙◌, arith}
-use Rattle.sg_plan.proofs.LimitLaws.{keeps_limits, passes_tests}
-use Rattle.sg_plan.specs.Limits.{fault_of}
+use Rattle.std.proofs.Common.{arith}
 use Rattle.sg_facts.proofs.Tabling.{blank_more}
 use Rattle.sg_facts.proofs.tables.blank_table.Goals as goal
-
-pub loop-race-init : goal.loop-race-init
-loop-race-init c = record { long = rw c.in_ok-table.ensures refl; none = λ r e below. absurd (omega (arith, below)) }
-
-pub overflow_cast-race : goal.overflow_cast-race
-overflow_cast-race c =
-    let few : length c.plan-plan.result.now.races ≤ 32 = (keeps_limits c.plan-plan.result.now (passes_tests c.plan-plan.result.now (ap fault_of c.plan-plan.ensures.plan ∙ c.plan-plan.ensures.good))).most_races in
-    omega (arith, few, c.loop-race-test.true, c.len-race-end.ensures)
 
 pub loop-race-preserved : goal.loop-race-preserved
 loop-race-preserved c =
