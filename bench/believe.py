@@ -18,7 +18,7 @@ KNOWN = [
     ("status 0 of audit", ["sg_fronts/ByRecords.IsYes"]),
     ("the same by the walk over the lines", ["sg_check/Verdict.IsGood"]),
     ("headline with what each status of audit says", ["sg_app/Headline.Headline", "sg_reports/audit/Audit.AuditSays"]),
-    ("all that run says", ["sg_app/Headline.Headline", "sg_app/Says.Ended"]),
+    ("all that run says", ["sg_app/Headline.Headline", "sg_app/Headline.HistoriesGetYes", "sg_app/Says.Ended"]),
 ]
 BEGINS = re.compile(r"^(?:abbrev |unfoldable )?(?:pub )?(?:record |data )?([^\s:({]+)")
 WORD = re.compile(r"[A-Za-z_][A-Za-z0-9_']*(?:\.[A-Za-z_][A-Za-z0-9_']*)*")

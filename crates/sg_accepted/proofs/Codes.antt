@@ -1,5 +1,5 @@
 -- The codes that the blocks of a posted record show in a race: those of marks, and all of an audited ballot.
-use Rattle.std.proofs.Common.{◌≡◌, ◌≢◌, ℕ, ◌+◌, ◌*◌, ◌/◌, ◌%◌, ◌<◌, ◌≤◌, ◌==◌, nat_lt, Bool, true, false, ◌&&◌, ◌||◌, not, cond, inl, inr, List, [], ◌∷◌, ◌++◌, length, map, None, refl, sym, ap, ◌∙◌, arith, append-nil}
+use Rattle.std.proofs.Common.{◌≡◌, ◌≢◌, ℕ, ◌+◌, ◌*◌, ◌/◌, ◌%◌, ◌<◌, ◌≤◌, ◌==◌, nat_lt, Bool, true, false, ◌&&◌, ◌||◌, not, cond, inl, inr, List, [], ◌∷◌, ◌++◌, length, map, Some, None, refl, sym, ap, ◌∙◌, arith, append-nil}
 use Rattle.std.proofs.Math.Bool.{and-false, and-true}
 use Rattle.std.proofs.lemmas.Bool.{and_parts, cases_eq, eq-eqb, ltb-true, ne_eqb}
 use Rattle.std.proofs.lemmas.List.Concat.{flat_map-append}
@@ -25,7 +25,7 @@ use Rattle.sg_tables.specs.Posts.{fate_marks, marked_columns}
 use Rattle.sg_tables.specs.Tables.{shown_by}
 use Rattle.sg_forms.specs.declared.line.CodeLine.{CodeLine}
 use Rattle.sg_grammar.specs.Placed.{Placed}
-use Rattle.sg_grammar.specs.Placed.Placed.{Begun, CodeAt, OverAt, PaperAt}
+use Rattle.sg_grammar.specs.Placed.Placed.{Begun, CodeAt, PaperAt}
 use Rattle.sg_grammar.specs.declared.state.Block.TheVariants as block
 use Rattle.sg_record.specs.Places.{places_in}
 use Rattle.sg_record.specs.Tree.{as_place, block_tree, cast_leaf, cast_place, code_leaf, commit_tree, paper_tree}
@@ -36,11 +36,12 @@ use Rattle.sg_record.specs.declared.record.CastLine.{CastLine}
 use Rattle.sg_record.specs.declared.record.CastLine.TheVariants as cast
 use Rattle.sg_record.specs.declared.record.Record.{Record}
 use Rattle.sg_check.specs.Facts.{is_marked as posted_marked, marks_entry}
+use Rattle.sg_post.proofs.Notes.{note_race, notes-of}
 use Rattle.sg_post.proofs.OwnCodes.{marks-have}
 use Rattle.sg_post.proofs.StoryFits.{fits-later, fits_ballot}
 use Rattle.sg_post.specs.Fits.{fates_fit}
 use Rattle.sg_post.specs.Marks.{is_entry_of, is_entry_marked, told_marks}
-use Rattle.sg_post.specs.Posted.{audited_codes, audited_race_codes, cast_lines, code_in_row, code_line_of, fate_blocks, posted_record, race_cast_lines, race_codes_of, told_blocks}
+use Rattle.sg_post.specs.Posted.{audited_codes, audited_race_codes, cast_lines, code_in_row, code_line_of, fate_blocks, posted_record, race_cast_lines, race_codes_of, race_notes, told_blocks}
 use Rattle.sg_post.specs.declared.story.Claimed.{Claimed}
 use Rattle.sg_post.specs.declared.story.Told.{Told}
 use Rattle.sg_facts.proofs.Rising.{IsPart, all-behind, ballots-rise, behind_ballots, behind_commits, blocks, commits_are, head, head_is, part_of}
@@ -93,6 +94,11 @@ other-part race (CodeAt block.Audited ballot of column code) other = absurd (oth
 other-part race (CodeAt block.Dispute ballot of column code) other = refl
 other-part race line other = refl
 
+-- a note is no such line
+note-hidden : (race r ballot : ℕ) (line : CastLine) → note_race line ≡ Some r → shows_in race (cast_place ballot line) ≡ false
+note-hidden race r ballot (cast.Code code) of = cc
+note-hidden race r ballot line of = refl
+
 -- WHAT NO OTHER LINE COUNTS FOR
 
 module _ (plan : Plan) (seed : List ℕ) (race : ℕ) (within : race < length plan.races) (g : Placed → ℕ) (only : (line : Placed) → shows_in race line ≡ false → g line ≡ 0) where
@@ -107,14 +113,16 @@ module _ (plan : Plan) (seed : List ℕ) (race : ℕ) (within : race < length pl
       let columns : List ℕ = marked_columns plan seed r (ballot_row plan r ballot) (fate.Cast marks) in
       let codes : List CodeLine = map (code_line_of plan seed ballot r) columns in
       let shown : sum_by h (map cast.Code codes) ≡ sum_by (λ c. g (cast_code plan seed r ballot c)) columns = sum-map h cast.Code codes ∙ sum-map (λ code. h (cast.Code code)) (code_line_of plan seed ballot r) columns in
-      sum_by-append h (map cast.Code codes) (cond (is_over plan marks r) (cast.Over r ∷ []) []) ∙ omega (arith, shown, over (is_over plan marks r))
+      sum_by-append h (map cast.Code codes) (race_notes plan ballot (fate.Cast marks) r) ∙ omega (arith, shown, noted)
     where
       h : CastLine → ℕ
       h line = g (cast_place ballot line)
 
-      over : (b : Bool) → sum_by h (cond b (cast.Over r ∷ []) []) ≡ 0
-      over true = sum-of h (cast.Over r ∷ []) (only (OverAt ballot r) refl, tt)
-      over false = refl
+      noted : sum_by h (race_notes plan ballot (fate.Cast marks) r) ≡ 0
+      noted =
+          sum-of h (race_notes plan ballot (fate.Cast marks) r)
+          (of-into (λ (line : CastLine). note_race line ≡ Some r) (λ (line : CastLine). h line ≡ 0) (race_notes plan ballot (fate.Cast marks) r) (λ line of. only (cast_place ballot line) (note-hidden race r ballot line of))
+          (notes-of plan ballot r (fate.Cast marks)))
 
   cast-sum : (ballot : ℕ) (marks : List Mark) → sum_by g (map (cast_leaf as_place ballot) (cast_lines plan seed ballot (fate.Cast marks))) ≡ sum_by g (told_codes plan seed race ballot (fate.Cast marks))
   unfolding cast_lines

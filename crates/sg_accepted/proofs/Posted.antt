@@ -7,7 +7,7 @@ use Rattle.std.proofs.lemmas.Bool.{and_parts}
 use Rattle.std.proofs.lemmas.Option.{same_Some, slice_get_within}
 use Rattle.sg_lists.proofs.Each.{EachOf, of-append, of-flat, of-map}
 use Rattle.sg_lists.proofs.Options.{option_and_then-some}
-use Rattle.sg_plan.specs.Ballots.{ballot_has, candidates_of, entries_of, is_over, races_of_ballot}
+use Rattle.sg_plan.specs.Ballots.{ballot_has, candidates_of, entries_of, races_of_ballot}
 use Rattle.sg_plan.specs.Codes.{is_code}
 use Rattle.sg_plan.specs.Fates.{fate_fits, mark_fits, marks_differ}
 use Rattle.sg_plan.specs.Limits.{fault_of}
@@ -22,7 +22,7 @@ use Rattle.sg_streams.specs.Numbers.{numbers_below}
 use Rattle.sg_tables.proofs.Lists.{get_or-map_below, length-map_below, slice_get-map_below}
 use Rattle.sg_forms.specs.declared.line.CodeLine.{CodeLine}
 use Rattle.sg_grammar.specs.Placed.{Placed}
-use Rattle.sg_grammar.specs.Placed.Placed.{CodeAt, Disputed, OverAt, RowAt, TotalAt}
+use Rattle.sg_grammar.specs.Placed.Placed.{CodeAt, Disputed, RowAt, TotalAt}
 use Rattle.sg_grammar.specs.declared.state.Block.{Block}
 use Rattle.sg_grammar.specs.declared.state.Block.TheVariants as block
 use Rattle.sg_record.specs.Places.{places_in}
@@ -31,9 +31,11 @@ use Rattle.sg_record.specs.declared.record.BallotBlock.{BallotBlock}
 use Rattle.sg_record.specs.declared.record.BlockFate.{BlockFate}
 use Rattle.sg_record.specs.declared.record.BlockFate.TheVariants as blocked
 use Rattle.sg_record.specs.declared.record.CastLine.{CastLine}
+use Rattle.sg_record.specs.declared.record.CastLine.TheVariants as cast
 use Rattle.sg_record.specs.declared.record.Record.{Record}
 use Rattle.sg_check.specs.Completions.{IsHalfOf}
 use Rattle.sg_check.specs.Facts.{code_commitment, is_flagged, is_marked as posted_marked, is_set as posted_set, half_commitment}
+use Rattle.sg_post.proofs.Notes.{IsNote, note_race}
 use Rattle.sg_post.proofs.OwnCodes.{HoldsOfOwn, audited_codes-of, cast_lines-of, race_codes-of}
 use Rattle.sg_post.proofs.StoryFits.{fits-later, fits_ballot}
 use Rattle.sg_post.specs.Fits.{claim_fits, fates_fit}
@@ -102,18 +104,18 @@ HasBlock P plan one = HasLines P plan one.ballot one.fate
 
 -- a property of the codes that the tables give a ballot
 module _ (P : Placed → Type 0) (plan : Plan) (seed : List ℕ) (fine : fault_of plan ≡ None) (own : (kind : Block) (ballot : ℕ) → HoldsOfOwn (λ (code : CodeLine). P (code_leaf as_place kind ballot code)) plan seed ballot) where
-  -- the block of a ballot, where its lines of races that are over and of its paper have the property too
-  pub told-lines : (ballot : ℕ) (what : Fate) → fits_ballot plan ballot what → ((marks : List Mark) → what ≡ fate.Cast marks → (race : ℕ) → race < length plan.races → is_over plan marks race ≡ true → P (OverAt ballot race))
+  -- the block of a ballot, where its notes of races and its paper have the property too
+  pub told-lines : (ballot : ℕ) (what : Fate) → fits_ballot plan ballot what → ((race : ℕ) (line : CastLine) → race < length plan.races → IsNote plan ballot race what line → P (cast_place ballot line))
       → ((paper : List (List ℕ)) → what ≡ fate.Audited paper → EachOf P (paper_tree as_place ballot (races_of_ballot plan ballot) paper))
       → EachOf (HasBlock P plan) (map (λ (w : BlockFate). let one : BallotBlock = record { ballot = ballot; fate = w } in one) (fate_blocks plan seed ballot what))
-  told-lines ballot fate.Unused fit over paper = tt
-  told-lines ballot (fate.Cast marks) fit over paper =
+  told-lines ballot fate.Unused fit noted paper = tt
+  told-lines ballot (fate.Cast marks) fit noted paper =
       let fits = (and_parts (list_all (mark_fits plan (races_of_ballot plan ballot)) marks) (marks_differ marks) fit).0 in
-      (cast_lines-of (λ (line : CastLine). P (cast_place ballot line)) plan seed marks ballot (own block.Cast ballot) (over marks refl) fits, tt)
-  told-lines ballot fate.Spoiled fit over paper = (tt, tt)
-  told-lines ballot (fate.Audited list) fit over paper =
+      (cast_lines-of (λ (line : CastLine). P (cast_place ballot line)) plan seed marks ballot (own block.Cast ballot) noted fits, tt)
+  told-lines ballot fate.Spoiled fit noted paper = (tt, tt)
+  told-lines ballot (fate.Audited list) fit noted paper =
       ((paper list refl, audited_codes-of (λ (code : CodeLine). P (code_leaf as_place block.Audited ballot code)) plan seed ballot fine (own block.Audited ballot)), tt)
-  told-lines ballot fate.Voided fit over paper = at_version (plan.version == 2)
+  told-lines ballot fate.Voided fit noted paper = at_version (plan.version == 2)
     where
       at_version : (b : Bool) → EachOf (HasBlock P plan) (record { ballot = ballot; fate = cond b blocked.Voided blocked.Spoiled } ∷ [])
       at_version true = (tt, tt)
@@ -152,6 +154,10 @@ module _ (plan : Plan) (seed : List ℕ) (fates : List Told) (draw : Draw) where
   plain-right (RowAt race instance number opening) is = cc
   plain-right line is = tt
 
+  note-right : (ballot race : ℕ) (line : CastLine) → note_race line ≡ Some race → SaysRight plan seed fates draw (cast_place ballot line)
+  note-right ballot race (cast.Code code) of = cc
+  note-right ballot race line of = tt
+
   total-right : (race candidate count : ℕ) → race < length plan.races
       → slice_get (slice_index_or (map (λ r. map (total_of plan seed fates r) (numbers_below (candidates_of plan r))) (numbers_below (length plan.races))) race []) candidate ≡ Some count
       → SaysRight plan seed fates draw (TotalAt race candidate count)
@@ -168,7 +174,7 @@ module _ (plan : Plan) (seed : List ℕ) (fates : List Told) (draw : Draw) where
       lines-of P (posted_record plan seed fates draw claims) plain-right
       (blocks-of P (λ ballot. tt) plan (flat_map (told_blocks plan seed) fates)
       (of-flat (HasBlock P plan) (λ (told : Told). fits_ballot plan told.ballot told.fate) (told_blocks plan seed) fates
-      (λ told fits. told-lines P plan seed fine own told.ballot told.fate fits (λ marks is race within over. tt)
+      (λ told fits. told-lines P plan seed fine own told.ballot told.fate fits (λ race line within note. note-right told.ballot race line note.of)
       (λ paper is. papers-of P (λ ballot race list. tt) told.ballot (races_of_ballot plan told.ballot) paper)) (fits-each plan 0 fates fit))) total-right
       (λ race instance number opening there. row_is plan (opened_row plan seed fates draw) race instance number opening there)
       (claims-of P plan seed fine own (λ ballot race code word. tt) claims claimed)

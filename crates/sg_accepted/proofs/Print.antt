@@ -36,7 +36,7 @@ use Rattle.sg_grammar.specs.Lines.{is_audit as block_audit}
 use Rattle.sg_grammar.specs.Placed.{Placed}
 use Rattle.sg_grammar.specs.Placed.Placed.{CodeAt, PaperAt, RowAt}
 use Rattle.sg_grammar.specs.declared.state.Block.TheVariants as block
-use Rattle.sg_record.proofs.BlockTests.{has_among}
+use Rattle.sg_plan.proofs.FateLists.{has_among}
 use Rattle.sg_record.specs.Places.{places_in}
 use Rattle.sg_record.specs.Tree.{as_place, block_tree, code_leaf, commit_tree, draw_leaf, paper_tree}
 use Rattle.sg_record.specs.declared.record.BallotBlock.{BallotBlock}

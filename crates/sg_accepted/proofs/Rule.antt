@@ -24,7 +24,7 @@ use Rattle.sg_plan.specs.declared.plan.Plan.{Plan}
 use Rattle.sg_plan.specs.declared.plan.Style.{Style}
 use Rattle.sg_streams.specs.Numbers.{numbers_below}
 use Rattle.sg_tables.proofs.TableLaws.{code_laws, entry_laws, opening_laws}
-use Rattle.sg_tables.specs.Posts.{marked_columns}
+use Rattle.sg_tables.specs.Posts.{fate_marks, marked_columns}
 use Rattle.sg_tables.specs.Tables.{code_beside, codes_of_row, paper_of, shown_by}
 use Rattle.sg_forms.specs.declared.line.CodeLine.{CodeLine}
 use Rattle.sg_grammar.specs.Placed.{Placed}
@@ -32,12 +32,15 @@ use Rattle.sg_grammar.specs.Placed.Placed.{CodeAt, OverAt, PaperAt}
 use Rattle.sg_grammar.specs.declared.state.Block.{Block}
 use Rattle.sg_grammar.specs.declared.state.Block.TheVariants as block
 use Rattle.sg_record.specs.Places.{places_in}
-use Rattle.sg_record.specs.Tree.{as_place, code_leaf, paper_tree}
+use Rattle.sg_record.specs.Tree.{as_place, cast_place, code_leaf, paper_tree}
+use Rattle.sg_record.specs.declared.record.CastLine.{CastLine}
+use Rattle.sg_record.specs.declared.record.CastLine.TheVariants as cast
 use Rattle.sg_record.specs.declared.record.Record.{Record}
 use Rattle.sg_check.specs.Facts.{marks_ballot}
 use Rattle.sg_check.specs.Kinds.{bad_placed, has_repeat, shows_against}
 use Rattle.sg_check.specs.declared.judged.Kind.TheVariants as kind
 use Rattle.sg_post.proofs.MarkedCodes.{shows_mark}
+use Rattle.sg_post.proofs.Notes.{note_race}
 use Rattle.sg_post.proofs.OwnCodes.{HoldsOfOwn, marks-have}
 use Rattle.sg_post.proofs.StoryFits.{fits-later, fits_ballot}
 use Rattle.sg_post.specs.Fits.{fates_fit}
@@ -188,11 +191,18 @@ cast-count plan seed ballot race marks =
     ∙ (sum-filter (λ c. g (cast_code plan seed race ballot c)) p columns
     ∙ sum-same (λ c. cond (p c) (g (cast_code plan seed race ballot c)) 0) (λ c. one_if (p c)) columns (λ c. rw (eq-eqb ballot ballot refl, eq-eqb race race refl) refl))
 
-over-none : (plan : Plan) (seed : List ℕ) (ballot race : ℕ) (marks : List Mark) → is_over plan marks race ≡ true → marks_posted plan seed ballot race (fate.Cast marks) ≡ 0
-over-none plan seed ballot race marks over =
+audited-none : (plan : Plan) (seed : List ℕ) (ballot race : ℕ) (paper : List (List ℕ)) → marks_posted plan seed ballot race (fate.Audited paper) ≡ 0
+audited-none plan seed ballot race paper =
+    sum-of (λ line. one_if (marks_ballot ballot race line)) (told_codes plan seed race ballot (fate.Audited paper)) (audited-each (λ line. one_if (marks_ballot ballot race line) ≡ 0) plan seed race ballot (λ column. refl) paper)
+
+-- where a ballot marks nothing in a race, nothing is posted of it
+unmarked-none : (plan : Plan) (seed : List ℕ) (ballot race : ℕ) (what : Fate) → ((candidate : ℕ) → fate_marks plan race candidate what ≡ false) → marks_posted plan seed ballot race what ≡ 0
+unmarked-none plan seed ballot race (fate.Cast marks) none =
     cast-count plan seed ballot race marks
     ∙ sum-zero (λ column. one_if (shows_mark plan seed marks ballot race column && not (is_over plan marks race))) (numbers_below (candidates_of plan race))
-    (λ column. rw over (ap one_if (and-false (shows_mark plan seed marks ballot race column))))
+    (λ column. ap one_if (none (shown_by plan seed race (entry_at plan race ballot column))))
+unmarked-none plan seed ballot race (fate.Audited paper) none = audited-none plan seed ballot race paper
+unmarked-none plan seed ballot race other none = refl
 
 -- what is posted of a ballot is within its votes
 marks-within : (plan : Plan) (seed : List ℕ) (ballot race : ℕ) (what : Fate) → fits_ballot plan ballot what → marks_posted plan seed ballot race what ≤ votes_of plan race
@@ -222,7 +232,7 @@ marks-within plan seed ballot race (fate.Cast marks) fit =
               (λ shows. true≢false (sym (marks-have plan ballot race (shown_by plan seed race (entry_at plan race ballot column)) marks fits.0 shows) ∙ lacks))))
         ]
 marks-within plan seed ballot race (fate.Audited paper) fit =
-    let none = sum-of (λ line. one_if (marks_ballot ballot race line)) (told_codes plan seed race ballot (fate.Audited paper)) (audited-each (λ line. one_if (marks_ballot ballot race line) ≡ 0) plan seed race ballot (λ column. refl) paper) in
+    let none = audited-none plan seed ballot race paper in
     omega (arith, none)
 marks-within plan seed ballot race other fit = omega arith
 
@@ -284,6 +294,11 @@ module _ (plan : Plan) (seed : List ℕ) (fates : List Told) (draw : Draw) (clai
   plain-right (PaperAt ballot race list) is = cc
   plain-right line is = tt
 
+  note-right : (ballot race : ℕ) (line : CastLine) → race < length plan.races → note_race line ≡ Some race → marks_posted plan seed ballot race (told_fate fates ballot) ≡ 0
+      → BlockRight plan seed fates (cast_place ballot line)
+  note-right ballot race (cast.Code code) within of none = cc
+  note-right ballot race (cast.Over over) within of none = rw (same_Some over race of) (within, none)
+
   papers-right : (ballot : ℕ) (races : List ℕ) → EachOf (λ race. race < length plan.races) races
       → EachOf (BlockRight plan seed fates) (paper_tree as_place ballot races (map (λ race. codes_of_row plan seed race (ballot_row plan race ballot)) races))
   papers-right ballot [] all = tt
@@ -300,7 +315,7 @@ module _ (plan : Plan) (seed : List ℕ) (fates : List Told) (draw : Draw) (clai
       lines-of P posted plain-right
       (blocks-of P (λ ballot. tt) plan (flat_map (told_blocks plan seed) fates)
       (of-flat (HasBlock P plan) (λ (one : Told). (fits_ballot plan one.ballot one.fate × IsTrueFate plan seed one.ballot one.fate) × IsToldAt 0 fates one) (told_blocks plan seed) fates
-      (λ one is. told-lines P plan seed told.fine own one.ballot one.fate is.0.0 (λ marks cast race within over. (within, ap (marks_posted plan seed one.ballot race) (is.1.1 ∙ cast) ∙ over-none plan seed one.ballot race marks over))
+      (λ one is. told-lines P plan seed told.fine own one.ballot one.fate is.0.0 (λ race line within note. note-right one.ballot race line within note.of (ap (marks_posted plan seed one.ballot race) is.1.1 ∙ unmarked-none plan seed one.ballot race one.fate note.unmarked))
       (λ paper audited. true-paper one.ballot paper (subst (IsTrueFate plan seed one.ballot) audited is.0.1)))
       (of-both (λ (one : Told). fits_ballot plan one.ballot one.fate × IsTrueFate plan seed one.ballot one.fate) (IsToldAt 0 fates) fates
       (of-both (λ (one : Told). fits_ballot plan one.ballot one.fate) (λ (one : Told). IsTrueFate plan seed one.ballot one.fate) fates (fits-each plan 0 fates told.fit) told.papers) (told-is plan 0 fates told.fit))))

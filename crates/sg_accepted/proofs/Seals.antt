@@ -19,6 +19,8 @@ use Rattle.sg_record.specs.declared.record.Record.{Record}
 use Rattle.sg_record.specs.declared.record.BallotBlock.{BallotBlock}
 use Rattle.sg_record.specs.declared.record.BlockFate.{BlockFate}
 use Rattle.sg_record.specs.declared.record.BlockFate.TheVariants as blocked
+use Rattle.sg_record.specs.declared.record.CastLine.{CastLine}
+use Rattle.sg_record.specs.declared.record.CastLine.TheVariants as cast
 use Rattle.sg_check.specs.Kinds.{is_bad}
 use Rattle.sg_check.specs.declared.judged.Kind.TheVariants as kind
 use Rattle.sg_post.specs.Posted.{by_entry, by_row, code_commit_of, dispute_of, opened_row, posted_record, row_commit_of, seal_1, seal_2, seal_3, seal_over, told_blocks}
@@ -30,7 +32,7 @@ use Rattle.sg_accepted.proofs.Late.{Good, good-append}
 use Rattle.sg_accepted.proofs.Seal.{both-length, is_seal, posts-append, section-good, unsealed-good}
 use Rattle.sg_grammar.specs.declared.state.Block.TheVariants as block
 use Rattle.sg_record.specs.Places.{places_in, posts}
-use Rattle.sg_record.specs.Tree.{as_line, as_place, block_tree, cast_leaf, code_commit_leaf, code_leaf, dispute_tree, draw_leaf, fate_tree, flag_leaf, flag_tree, indexed, instance_row_commit_tree, instance_row_tree, paper_tree, place_leaf, place_tree, race_code_commit_tree, race_results_tree, race_row_commit_tree, race_row_tree, row_commit_leaf, row_leaf, total_leaf}
+use Rattle.sg_record.specs.Tree.{as_line, as_place, block_tree, cast_leaf, cast_place, code_commit_leaf, code_leaf, dispute_tree, draw_leaf, fate_tree, flag_leaf, flag_tree, indexed, instance_row_commit_tree, instance_row_tree, paper_tree, place_leaf, place_tree, race_code_commit_tree, race_results_tree, race_row_commit_tree, race_row_tree, row_commit_leaf, row_leaf, total_leaf}
 use Rattle.sg_plan.specs.Ballots.{races_of_ballot}
 
 -- LISTS PUT TOGETHER OTHERWISE
@@ -118,6 +120,10 @@ blocks-length plan (one ∷ blocks) =
 draw-no_seal : (draw : Draw) → not (is_seal (draw_leaf as_place draw)) ≡ true
 draw-no_seal drawn.Full = refl
 draw-no_seal (drawn.Public bytes) = refl
+
+cast-no_seal : (ballot : ℕ) (line : CastLine) → not (is_seal (cast_place ballot line)) ≡ true
+cast-no_seal ballot (cast.Code code) = refl
+cast-no_seal ballot line = refl
 
 -- no line but a seal is one
 abbrev IsNoSeal : Placed → Type 0
@@ -264,7 +270,7 @@ module _ (plan : Plan) (seed : List ℕ) (fates : List Told) (draw : Draw) (clai
 
   two_none : NoSeals two_places
   two_none =
-      of-append IsNoSeal block_places tally_places (ballots-of IsNoSeal (λ b. refl) (λ b r. refl) (λ b r l. refl) (λ b code. refl) (λ b code. refl) plan record_of.ballots)
+      of-append IsNoSeal block_places tally_places (ballots-of IsNoSeal (λ b. refl) cast-no_seal (λ b r l. refl) (λ b code. refl) plan record_of.ballots)
       (of-each IsNoSeal (race_results_tree as_place record_of) 0 (length plan.races) (λ race. race_results-of IsNoSeal record_of race (λ i f b. refl) (λ f b. refl) (λ c n is. refl)))
 
   three_none : NoSeals three_places

@@ -1,8 +1,8 @@
 -- The headline: what `audit` answers of the bytes that it reads, and what a yes promises of them.
-use Rattle.std.specs.Prelude.{◌≡◌, ℕ, List, None}
+use Rattle.std.specs.Prelude.{◌≡◌, ℕ, true, List}
 use Rattle.sg_outside.specs.Streams.{Seen}
 use Rattle.sg_outside.specs.TextLines.{lines_of}
-use Rattle.sg_plan.specs.Limits.{fault_of}
+use Rattle.sg_plan.specs.Limits.{plan_keeps}
 use Rattle.sg_plan.specs.declared.plan.Plan.{Plan}
 use Rattle.sg_keeper.specs.declared.setup.Setup.{Setup}
 use Rattle.sg_post.specs.Posted.{posted_text}
@@ -22,9 +22,12 @@ pub record Headline (lines : List (List ℕ)) (status : ℕ) (input input' out o
   -- codes;
   pub promise : Promise lines status input input' out out'
   -- every unaltered office run gets yes, with the votes as totals
-  pub unaltered : (setup : Setup) (history : List Entry) → fault_of setup.plan ≡ None → IsUnalteredHistory setup history
-      → lines ≡ lines_of (posted_text setup.plan setup.seed.0 (story_of setup history))
-      → IsAnsweredYes (told_totals setup.plan setup.seed.0 (story_of setup history).fates) status input input' out out'
-  -- so does what is posted of any unaltered story, whether or not an office's acts made it
-  pub unaltered_story : (plan : Plan) (seed : List ℕ) (story : Story) → fault_of plan ≡ None → IsUnaltered plan seed story
+  pub unaltered : (plan : Plan) (seed : List ℕ) (story : Story) → plan_keeps plan ≡ true → IsUnaltered plan seed story
       → lines ≡ lines_of (posted_text plan seed story) → IsAnsweredYes (told_totals plan seed story.fates) status input input' out out'
+
+-- so do the acts of an office: each unaltered history tells an unaltered run
+abbrev pub HistoriesGetYes : List (List ℕ) → ℕ → Seen → Seen → Seen → Seen → Type 0
+HistoriesGetYes lines status input input' out out' =
+    (setup : Setup) (history : List Entry) → plan_keeps setup.plan ≡ true → IsUnalteredHistory setup history
+    → lines ≡ lines_of (posted_text setup.plan setup.seed.0 (story_of setup history))
+    → IsAnsweredYes (told_totals setup.plan setup.seed.0 (story_of setup history).fates) status input input' out out'

@@ -4,7 +4,7 @@ ghost use Rattle.sg_outside.specs.Streams.{seen};
 ghost use Rattle.sg_outside.specs.TextLines.{lines_of};
 ghost use Rattle.sg_clerk.specs.Laws.{KeepsPosted};
 ghost use Rattle.sg_words.specs.Command.{command_in};
-ghost use Rattle.sg_app.specs.Headline.{Headline};
+ghost use Rattle.sg_app.specs.Headline.{Headline, HistoriesGetYes};
 ghost use Rattle.sg_app.specs.Says.{Ended};
 ghost use Rattle.sg_app.specs.Touches.{asks_keeper, is_report, reads_input, takes_links};
 ghost use Rattle.sg_words.specs.declared.command.Command.{Command as CommandSeen};
@@ -45,6 +45,9 @@ pub fn run<S: Source, K: Keeper, L: Links, O: Sink>(
     // opens no commitment twice, each R instance has at least as many rows altered in their unopened halves as any posted
     // total of its race differs from the count of posted codes; every unaltered office run gets yes.
     ensures headline { command_in words.now ≡ Some Command.Audit → IfSome (S.left input.old) (λ bytes. Headline (lines_of bytes) result (seen (S.left input.old) (S.faults input.old)) (seen (S.left input.new) (S.faults input.new))
+        (seen (O.written out.old) (O.faults out.old)) (seen (O.written out.new) (O.faults out.new))) }
+    // So do the acts of an office: each unaltered history tells an unaltered run.
+    ensures histories { command_in words.now ≡ Some Command.Audit → IfSome (S.left input.old) (λ bytes. HistoriesGetYes (lines_of bytes) result (seen (S.left input.old) (S.faults input.old)) (seen (S.left input.new) (S.faults input.new))
         (seen (O.written out.old) (O.faults out.old)) (seen (O.written out.new) (O.faults out.new))) }
     // The status says how the command ended, by a relation for each command: what was read, what the rows are, and what was
     // written. Where no count of faults rose, it tells no failure. What changes no rows, by that table, leaves them as they are.

@@ -2,11 +2,11 @@
 //! has no part that opens an office.
 #![tactic(auto)]
 
-mod causes;
-
-use causes::say_why;
 use sg_reports::run_reports;
-use sg_system::{Descriptors, StdSource, WordFault, ending, output, words_of};
+use sg_system::{
+    Descriptors, Detail, StdSource, WordFault, ending, output, say_why, stream_detail, words_of,
+};
+use sg_words::report_usage;
 use std::process::ExitCode;
 
 /// The status for words that are no command's.
@@ -26,6 +26,10 @@ fn main(rt: HostRuntime) -> ExitCode {
         Err(WordFault::NoMemory) => WANT_OF_MEMORY,
     };
     let status = ending(status, out.flush());
-    say_why(&rt, status, &input, &out);
+    let detail = match status {
+        BAD_WORDS => Some(Detail::Words(report_usage(rt.alloc()))),
+        _ => stream_detail(status, &input, &out),
+    };
+    say_why(&rt, status, detail);
     ExitCode::from(status)
 }

@@ -207,13 +207,11 @@ totals_bound lines totals walked accepted printing completion differ stands none
 
 pub totals_stand : TotalsStand
 totals_stand lines totals walked accepted race candidate race_in candidate_in =
-    let found = (whole_has_each lines walked accepted.walks (whole_is lines totals walked accepted)).total race candidate race_in candidate_in in
-    record {
-      count = found.count;
-      has =
-          subst (λ (l : List Total). Contains l (record { race = race; candidate = candidate; count = found.count })) (sym (totals_are lines totals walked accepted))
-          (among_total walked.posted race candidate found.count found.among.0 found.among.1 found.among.2);
-    }
+    let found = (whole_has_each lines walked accepted.walks (whole_is lines totals walked accepted)).total race candidate race_in candidate_in in (
+      found.count,
+      subst (λ (l : List Total). Contains l (record { race = race; candidate = candidate; count = found.count })) (sym (totals_are lines totals walked accepted))
+          (among_total walked.posted race candidate found.count found.among.0 found.among.1 found.among.2),
+    )
 
 pub full_draw_equals : FullDrawEquals
 full_draw_equals lines totals walked accepted full = equal lines totals walked accepted full

@@ -64,9 +64,9 @@ module _ (plan : Plan) (lines : List Placed) (opens : DoOpeningsOpen plan lines)
       (opens_all (commits_half side.Right race instance row) front (RowAt race instance row opening ∷ rest) (half_kind side.Right) race instance row o (opens.right front rest race instance row opening o is of))
 
   pub has_completion : HasCompletion plan lines
-  has_completion = record {
-    completion = λ on race instance row. posted_half lines on race instance row;
-    is_completion = record {
+  has_completion = (
+    λ on race instance row. posted_half lines on race instance row,
+    record {
       is_opening = λ on race instance row o within_plan there.
           let from = posted_row lines on race instance row o there in
           side_in_range on from.0 o (within (RowAt race instance row from.0) from.1).shown from.2;
@@ -74,9 +74,9 @@ module _ (plan : Plan) (lines : List Placed) (opens : DoOpeningsOpen plan lines)
           let from = posted_row lines on race instance row o there in
           side_opens on race instance row from.0 o from.1 from.2;
       has = λ on race instance row there. there;
-    };
-    none_twice = λ on race instance row posted e. e;
-  }
+    },
+    λ on race instance row posted e. e,
+  )
 
 pub completion_exists : CompletionExists
 completion_exists lines totals walked accepted =

@@ -267,16 +267,16 @@ module _ (plan : Plan) (lines : List Placed) (codes : AreCodesKnown plan lines) 
   made_printing race row candidate = chosen (placed_code plan lines race row) (candidates_of plan race) candidate
 
   pub has_printing : ((race : ℕ) → candidates_of plan race + candidates_of plan race ≤ codes_of plan.version) → HasPrinting plan lines
-  has_printing room = record {
-    printing = made_printing;
-    is_printing = record {
+  has_printing room = (
+    made_printing,
+    record {
       below = λ race row candidate in_row less. chosen_below (placed_code plan lines race row) (candidates_of plan race) (codes_of plan.version) candidate (placed_below race row candidate) less (room race);
       differ = λ race row candidate other in_row less other_less apart.
           chosen_differ (placed_code plan lines race row) (candidates_of plan race) candidate other less other_less apart
           (λ a b c d low high differ e f. codes_apart race row a b c d (places plan lines race row a c e) (places plan lines race row b d f) differ);
-    };
-    stands = stands;
-  }
+    },
+    stands,
+  )
     where
       placed_below : (race row candidate c : ℕ) → placed_code plan lines race row candidate ≡ Some c → c < codes_of plan.version
       placed_below race row candidate c e =

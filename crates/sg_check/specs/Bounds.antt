@@ -32,25 +32,18 @@ AreTotalsBound plan lines totals =
     → DifferByAtMost (altered_rows plan lines completion printing total.race instance) total.count (posted_count plan lines printing total.race total.candidate)
 
 -- there is a printing that stands with the record
-pub record HasPrinting (plan : Plan) (lines : List Placed) : Type 0 where
-  pub printing : Printing
-  pub is_printing : IsPrinting plan printing
-  pub stands : StandsWith plan lines printing
+abbrev pub HasPrinting : Plan → List Placed → Type 0
+HasPrinting plan lines = (printing : Printing) × IsPrinting plan printing × StandsWith plan lines printing
 
 -- there is a completion that opens no commitment twice
-pub record HasCompletion (plan : Plan) (lines : List Placed) : Type 0 where
-  pub completion : Completion
-  pub is_completion : IsCompletion plan lines completion
-  pub none_twice : OpensNoneTwice lines completion
-
--- the totals have one of this candidate
-pub record IsTotalled (totals : List Total) (race candidate : ℕ) : Type 0 where
-  pub count : ℕ
-  pub has : Contains totals (record { race = race; candidate = candidate; count = count })
+abbrev pub HasCompletion : Plan → List Placed → Type 0
+HasCompletion plan lines = (completion : Completion) × IsCompletion plan lines completion × OpensNoneTwice lines completion
 
 -- each candidate of each race has a total
 abbrev pub AreAllTotalled : Plan → List Total → Type 0
-AreAllTotalled plan totals = (race candidate : ℕ) → race < length plan.races → candidate < candidates_of plan race → IsTotalled totals race candidate
+AreAllTotalled plan totals =
+    (race candidate : ℕ) → race < length plan.races → candidate < candidates_of plan race
+    → (count : ℕ) × Contains totals (record { race = race; candidate = candidate; count = count })
 
 -- each total is the count of posted codes, for every printing that stands with the record
 abbrev pub AreTotalsEqual : Plan → List Placed → List Total → Type 0

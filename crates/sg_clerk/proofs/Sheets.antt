@@ -13,7 +13,7 @@ use Rattle.sg_outside.specs.Streams.{AppendsFront, PutAppends}
 use Rattle.sg_outside.proofs.StreamLemmas.{Appends-nil, Appends-trans, AppendsFront-more, AppendsFront-trans}
 use Rattle.sg_plan.specs.Ballots.{ballot_has, ballot_styles, candidates_of, races_of_ballot, races_of_style, style_of_ballot}
 use Rattle.sg_plan.specs.Limits.{fault_of}
-use Rattle.sg_record.proofs.BlockTests.{has_among}
+use Rattle.sg_plan.proofs.FateLists.{has_among}
 use Rattle.sg_tables.proofs.TableLaws.{code_laws}
 use Rattle.sg_tables.specs.Tables.{code_beside, codes_of_row}
 use Rattle.sg_plan.specs.declared.plan.Plan.{Plan}

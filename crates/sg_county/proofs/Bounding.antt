@@ -16,8 +16,8 @@ use Rattle.sg_check.specs.Laws.{IsAccepted}
 use Rattle.sg_check.specs.declared.judged.Total.{Total}
 use Rattle.sg_fronts.proofs.ByRecords.{whole-walk}
 use Rattle.sg_fronts.proofs.Promised.{bound_on, right_verdict}
-use Rattle.sg_fronts.specs.ByRecords.{posted_of, totals_on}
-use Rattle.sg_fronts.specs.Promised.{IsBound, IsWholeAndAgrees}
+use Rattle.sg_fronts.specs.ByRecords.{IsWholeAndAgrees, posted_of, totals_on}
+use Rattle.sg_fronts.specs.Promised.{IsBound}
 use Rattle.sg_county.proofs.PartLists.{AllParts}
 use Rattle.sg_county.proofs.PartRecords.{one_record}
 use Rattle.sg_county.specs.Bound.{AreSeen, IsSeen, Seen, SumsBound, altered_in, posted_in}
@@ -136,7 +136,7 @@ votes_bound : (seen : Seen) → IsGood seen → (race candidate : ℕ) → IsCan
     → DifferByAtMost (altered_in race seen) (votes_in race candidate (totals_on seen.posted)) (posted_in race candidate seen)
 votes_bound seen is race candidate within =
     let totalled = (bound_of seen is).totalled race candidate within.0 within.1 in
-    let found = votes_found (totals_on seen.posted) race candidate totalled.count totalled.has in
+    let found = votes_found (totals_on seen.posted) race candidate totalled.0 totalled.1 in
     let bound = total_bound seen is found.total found.has in
     subst (λ (n : ℕ). DifferByAtMost (altered_in race seen) n (posted_in race candidate seen)) (sym found.votes)
     (subst (λ (c : ℕ). DifferByAtMost (altered_in race seen) found.total.count (posted_in race c seen)) found.candidate_is

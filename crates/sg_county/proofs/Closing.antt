@@ -10,8 +10,7 @@ use Rattle.sg_check.specs.declared.judged.Judged.{Judged}
 use Rattle.sg_check.specs.declared.judged.Judged.TheVariants as judged
 use Rattle.sg_check.specs.declared.judged.Total.{Total}
 use Rattle.sg_fronts.proofs.ByRecords.{verdicts_say}
-use Rattle.sg_fronts.specs.ByRecords.{totals_on}
-use Rattle.sg_fronts.specs.Promised.{IsWholeAndAgrees}
+use Rattle.sg_fronts.specs.ByRecords.{IsWholeAndAgrees, totals_on}
 use Rattle.sg_judge.specs.FirstSeal.{first_seal}
 use Rattle.sg_judge.specs.Pass.{is_behind_plan}
 use Rattle.sg_county.proofs.PartRecords.{good_record, record_behind, record_races, record_seal}

@@ -6,8 +6,7 @@ use Rattle.sg_check.specs.declared.judged.Judged.TheVariants as judged
 use Rattle.sg_check.specs.declared.judged.Kind.{Kind}
 use Rattle.sg_fronts.proofs.ByRecords.{verdicts_say}
 use Rattle.sg_fronts.proofs.Promised.{right_verdict}
-use Rattle.sg_fronts.specs.ByRecords.{Says, totals_on}
-use Rattle.sg_fronts.specs.Promised.{IsWholeAndAgrees}
+use Rattle.sg_fronts.specs.ByRecords.{IsWholeAndAgrees, Says, totals_on}
 use Rattle.sg_county.proofs.PartLists.{AllParts}
 use Rattle.sg_county.proofs.PartRecords.{one_record}
 use Rattle.sg_county.specs.County.{Counts, HasTheRaces, IsFirstSettled, Settles, first_sealed, parts_of}

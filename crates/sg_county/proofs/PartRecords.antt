@@ -19,16 +19,13 @@ use Rattle.sg_record.specs.Lines.{lines_in, plan_lines, text_of}
 use Rattle.sg_record.specs.Places.{places_in}
 use Rattle.sg_record.specs.Tree.{as_place, code_commit_leaf, commit_tree, indexed, instance_row_commit_tree, race_code_commit_tree, race_row_commit_tree, row_commit_leaf, seal_tree}
 use Rattle.sg_record.specs.declared.record.Record.{Record}
-use Rattle.sg_check.proofs.Accepted.{yes_is_sound}
 use Rattle.sg_check.proofs.Fronts.{given-behind, given-stays}
 use Rattle.sg_check.specs.Facts.{first_given}
 use Rattle.sg_check.specs.Verdict.{IsVerdict}
 use Rattle.sg_check.specs.declared.judged.Judged.TheVariants as judged
 use Rattle.sg_check.specs.declared.judged.Total.{Total}
-use Rattle.sg_fronts.proofs.ByRecords.{whole-walk}
-use Rattle.sg_fronts.proofs.Promised.{right_on, sound_record, totals-are}
-use Rattle.sg_fronts.specs.ByRecords.{totals_on}
-use Rattle.sg_fronts.specs.Promised.{IsWholeAndAgrees}
+use Rattle.sg_fronts.proofs.ByRecords.{verdicts_say, whole-walk}
+use Rattle.sg_fronts.specs.ByRecords.{IsWholeAndAgrees, totals_on}
 use Rattle.sg_judge.specs.FirstSeal.{first_seal, first_seal_in, first_seal_on}
 use Rattle.sg_judge.specs.Pass.{is_behind_plan}
 use Rattle.sg_county.specs.County.{first_seal_of}
@@ -36,10 +33,7 @@ use Rattle.sg_county.specs.inside.Keeping.{races_of}
 
 -- a good part is a record
 pub good_record : (part : List (List ℕ)) (totals : List Total) → IsVerdict part (judged.Yes totals) → (posted : Record) × IsWholeAndAgrees part posted × (totals ≡ totals_on posted)
-good_record part totals good =
-    let sound = yes_is_sound part totals good in
-    let found = sound_record part totals sound in
-    (found.0, right_on part totals sound found.0 found.1, good.totals_are ∙ totals-are part found.0 found.1)
+good_record part totals good = (verdicts_say part (judged.Yes totals)).0 good
 
 -- and no other one
 pub one_record : (part : List (List ℕ)) (a b : Record) → AreLinesOf part a → AreLinesOf part b → a ≡ b

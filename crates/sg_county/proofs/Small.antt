@@ -17,8 +17,7 @@ use Rattle.sg_check.specs.Verdict.{IsVerdict}
 use Rattle.sg_check.specs.declared.judged.Judged.TheVariants as judged
 use Rattle.sg_check.specs.declared.judged.Total.{Total}
 use Rattle.sg_fronts.proofs.Promised.{right_verdict}
-use Rattle.sg_fronts.specs.ByRecords.{totals_on}
-use Rattle.sg_fronts.specs.Promised.{IsWholeAndAgrees}
+use Rattle.sg_fronts.specs.ByRecords.{IsWholeAndAgrees, totals_on}
 use Rattle.sg_county.specs.County.{Counts, summed, sums_of, votes_in}
 use Rattle.sg_county.specs.inside.Keeping.{AllCount, Fit, FitsBehind}
 use Rattle.sg_grammar.specs.Lines.{placed_of}

@@ -5,8 +5,7 @@ use Rattle.sg_commit.specs.declared.Digest.{Digest}
 use Rattle.sg_record.specs.declared.record.Record.{Record}
 use Rattle.sg_check.specs.declared.judged.Judged.TheVariants as judged
 use Rattle.sg_check.specs.declared.judged.Total.{Total}
-use Rattle.sg_fronts.specs.ByRecords.{Says, totals_on}
-use Rattle.sg_fronts.specs.Promised.{IsWholeAndAgrees}
+use Rattle.sg_fronts.specs.ByRecords.{IsWholeAndAgrees, Says, totals_on}
 use Rattle.sg_county.specs.declared.verdict.CountyVerdict.{CountyVerdict}
 use Rattle.sg_county.specs.declared.verdict.CountyVerdict.TheVariants.{Yes, No, Differs, Repeats, Parts}
 

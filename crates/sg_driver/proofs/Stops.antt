@@ -159,14 +159,17 @@ module _ {Answer : Type 0} (judging : Judging Answer) (Stands : List (List ℕ) 
 
   stop-fault : CutsFault old new before now → TookUnended judging.Unsettled first.bytes now.bytes
   stop-fault fault = record {
-    done = fed.done;
-    rest = new.ahead;
-    lines = fed.are_lines;
-    are = fed.unsettled;
-    short = fed.short;
+    took = record {
+      done = fed.done;
+      rest = new.ahead;
+      lines = fed.are_lines;
+      are = fed.unsettled;
+      short = fed.short;
+      few = omega (arith, fault.few, fault.limit, fed.limit);
+      taken = subst (λ (bytes : List ℕ). Consumes first.bytes now.bytes bytes) (ap (λ l. l ++ new.ahead) (append-nil (concat fed.done))) (taken-in_all [] fault.cut);
+    };
     unended = fault.unended;
-    few = omega (arith, fault.few, fault.limit, fed.limit);
-    taken = subst (λ (bytes : List ℕ). Consumes first.bytes now.bytes bytes) (ap (λ l. l ++ new.ahead) (append-nil (concat fed.done))) (taken-in_all [] fault.cut);
+    fewer = omega (arith, fault.few, fault.limit, fed.limit);
   }
 
   pub stop-cut : (IsSettled : List (List ℕ) → Type 0) (how : Stop) → Cuts (Some how) old new before now → Stops judging Stands IsSettled how first now

@@ -16,17 +16,11 @@ pub record TookLines (Are : List (List ℕ) → Type 0) (before now : Option (Li
   pub few : length rest ≤ longest_line
   pub taken : Consumes before now (concat done ++ rest)
 
--- of these bytes whole lines of this kind were taken, each at most as long as a line may be, and behind them fewer than 16,384
--- bytes, without a line feed
+-- the same, and behind the lines fewer than 16,384 bytes were taken, without a line feed
 pub record TookUnended (Are : List (List ℕ) → Type 0) (before now : Option (List ℕ)) : Type 0 where
-  pub done : List (List ℕ)
-  pub rest : List ℕ
-  pub lines : AreLines done
-  pub are : Are done
-  pub short : length (concat done) ≤ length done * longest_line
-  pub unended : HasNoFeed rest
-  pub few : length rest < longest_line
-  pub taken : Consumes before now (concat done ++ rest)
+  pub took : TookLines Are before now
+  pub unended : HasNoFeed took.rest
+  pub fewer : length took.rest < longest_line
 
 -- what was taken ends, where the bytes are told, fewer than 16,384 bytes behind the end of the line of this number; a
 -- number past the last line stands for that one

@@ -342,7 +342,7 @@ module _ (posted : Record) where
 
       in_line : (ballot : ℕ) (line : CastLine) → g (cast_place ballot line) ≡ cast_shown posted.plan race entry ballot line
       in_line ballot (cast.Code code) = refl
-      in_line ballot (cast.Over over) = refl
+      in_line ballot line = refl
 
       in_fate : (ballot : ℕ) (what : BlockFate) → first_given g (fate_tree as_place posted.plan ballot what) ≡ fate_mark posted.plan race entry ballot what
       in_fate ballot (fate.Cast lines) = given-map g (cast_leaf as_place ballot) (cast_shown posted.plan race entry ballot) lines (in_line ballot)
@@ -368,7 +368,7 @@ module _ (posted : Record) where
 
       in_line : (ballot : ℕ) (line : CastLine) → g (cast_place ballot line) ≡ cast_shown posted.plan race entry ballot line
       in_line ballot (cast.Code code) = refl
-      in_line ballot (cast.Over over) = refl
+      in_line ballot line = refl
 
       in_fate : (ballot : ℕ) (what : BlockFate) → first_given g (fate_tree as_place posted.plan ballot what) ≡ fate_code posted.plan race entry ballot what
       in_fate ballot (fate.Cast lines) = given-map g (cast_leaf as_place ballot) (cast_shown posted.plan race entry ballot) lines (in_line ballot)

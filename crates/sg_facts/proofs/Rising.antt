@@ -1,5 +1,5 @@
 -- The lines of a record rise from part to part: what only lines of one part say, and what the lines before a line say.
-use Rattle.std.proofs.Common.{◌≡◌, ◌≢◌, ℕ, ◌*◌, ◌<◌, ◌≤◌, Bool, true, false, ◌||◌, cond, List, [], ◌∷◌, ◌++◌, length, map, Option, Some, None, refl, sym, ap, ◌∙◌, append_assoc, arith}
+use Rattle.std.proofs.Common.{◌≡◌, ◌≢◌, ℕ, ◌*◌, ◌<◌, ◌≤◌, Bool, true, false, ◌||◌, not, cond, List, [], ◌∷◌, ◌++◌, length, map, Option, Some, None, refl, sym, ap, ◌∙◌, append_assoc, arith}
 use Rattle.std.specs.List.{flat_map, list_any}
 use Rattle.std.specs.Option.{is_some, option_map_or}
 use Rattle.std.specs.Prelude.{slice_get, slice_index_or}
@@ -11,12 +11,14 @@ use Rattle.sg_plan.specs.declared.plan.Plan.{Plan}
 use Rattle.sg_plan.specs.declared.plan.Side.{Side}
 use Rattle.sg_plan.specs.declared.plan.Side.TheVariants as side
 use Rattle.sg_forms.specs.declared.line.RowOpening.{RowOpening}
-use Rattle.sg_grammar.specs.Placed.{Placed}
-use Rattle.sg_grammar.specs.Placed.Placed.{Begun, CodeAt, CodeCommitAt, Disputed, DrawnFull, DrawnPublic, FlagsAt, OfPlan, OverAt, PaperAt, PlacesAt, RowAt, RowCommitAt, SealAt, TotalAt}
+use Rattle.sg_grammar.specs.Placed.{Placed, ballot_on}
+use Rattle.sg_grammar.specs.Placed.Placed.{CodeAt, CodeCommitAt, Disputed, DrawnFull, DrawnPublic, FlagsAt, OfPlan, PlacesAt, RowAt, RowCommitAt, SealAt, TotalAt}
 use Rattle.sg_grammar.specs.declared.state.Block.TheVariants as block
 use Rattle.sg_record.specs.Lines.{plan_lines}
 use Rattle.sg_record.specs.Places.{places_in}
-use Rattle.sg_record.specs.Tree.{as_place, block_tree, commit_tree, dispute_tree, draw_leaf, indexed, opening_tree, race_row_tree, result_tree, seal_tree}
+use Rattle.sg_record.specs.Tree.{as_place, block_tree, cast_place, commit_tree, dispute_tree, draw_leaf, indexed, opening_tree, race_row_tree, result_tree, seal_tree}
+use Rattle.sg_record.specs.declared.record.CastLine.{CastLine}
+use Rattle.sg_record.specs.declared.record.CastLine.TheVariants as cast
 use Rattle.sg_record.specs.declared.record.Record.{Record}
 use Rattle.sg_check.specs.Facts.{code_commitment, commits_code, commits_half, draws_digits, draws_full, first_given, flags_row, is_flagged, is_full_draw, is_marked, is_set, marks_entry, sets_place, half_commitment}
 use Rattle.sg_check.specs.Verdict.{late}
@@ -27,18 +29,16 @@ use Rattle.sg_facts.proofs.Sections.{ballots-of, commits-of, disputes-of, openin
 
 -- THE PARTS OF A RECORD
 
--- the part that a line is of: the plan, the commitments, the ballots, the results, the draw, the rows, the disputes
+-- the part that a line is of: the plan, the commitments, the ballots, the results, the draw, the rows, the disputes;
+-- a line that is of no other part is one of the ballots
 abbrev pub part_of : Placed → ℕ
 part_of (OfPlan said) = 0
 part_of (CodeCommitAt race entry digest) = 2
 part_of (RowCommitAt race instance row left right) = 2
 part_of (SealAt number digest) = 2 * number
-part_of (Begun ballot) = 3
 part_of (CodeAt block.Cast ballot race column code) = 3
 part_of (CodeAt block.Audited ballot race column code) = 3
 part_of (CodeAt block.Dispute ballot race column code) = 7
-part_of (OverAt ballot race) = 3
-part_of (PaperAt ballot race list) = 3
 part_of (FlagsAt race instance from bits) = 4
 part_of (PlacesAt race from bits) = 4
 part_of (TotalAt race candidate count) = 4
@@ -46,6 +46,7 @@ part_of DrawnFull = 5
 part_of (DrawnPublic digits) = 5
 part_of (RowAt race instance row opening) = 6
 part_of (Disputed ballot race code word) = 7
+part_of line = 3
 
 abbrev pub IsPart : ℕ → Placed → Type 0
 IsPart part line = part_of line ≡ part
@@ -67,6 +68,11 @@ rises-behind low part (x ∷ xs) ys less all rises = (omega (arith, less, all.0)
 rises-all : (low part : ℕ) (xs : List Placed) → low ≤ part → EachOf (IsPart part) xs → Rises low xs
 rises-all low part [] less all = tt
 rises-all low part (x ∷ xs) less all = (omega (arith, less, all.0), rises-all (part_of x) part xs (omega (arith, all.0)) all.1)
+
+-- a line of a cast ballot is one of the ballots
+cast-part : (ballot : ℕ) (line : CastLine) → part_of (cast_place ballot line) ≡ 3
+cast-part ballot (cast.Code code) = refl
+cast-part ballot line = refl
 
 draw-part : (draw : Draw) → part_of (draw_leaf as_place draw) ≡ 5
 draw-part drawn.Full = refl
@@ -99,7 +105,7 @@ module _ (posted : Record) where
   commits_are = commits-of (IsPart 2) posted (λ r e d. refl) (λ r i x a b. refl) (λ d. refl)
 
   pub blocks_are : EachOf (IsPart 3) blocks
-  blocks_are = ballots-of (IsPart 3) (λ b. refl) (λ b r. refl) (λ b r l. refl) (λ b code. refl) (λ b code. refl) posted.plan posted.ballots
+  blocks_are = ballots-of (IsPart 3) (λ b. refl) cast-part (λ b r l. refl) (λ b code. refl) posted.plan posted.ballots
 
   pub results_are : EachOf (IsPart 4) (result_tree as_place posted)
   results_are = results-of (IsPart 4) posted (λ r i f b. refl) (λ r f b. refl) (λ r c n low is. refl) (λ d. refl)
@@ -312,14 +318,11 @@ module _ (bad : List Placed → Placed → Bool) (P : Placed → Type 0) (posted
 
 -- A PROPERTY OF EACH LINE
 
--- a line that shows no code and no paper, and is no total and no row
+-- a line that is about no ballot, and is no total and no row
 abbrev pub is_plain : Placed → Bool
-is_plain (CodeAt kind ballot race column code) = false
-is_plain (OverAt ballot race) = false
-is_plain (PaperAt ballot race list) = false
 is_plain (TotalAt race candidate count) = false
 is_plain (RowAt race instance row opening) = false
-is_plain line = true
+is_plain line = not (is_some (ballot_on line))
 
 pub lines-of : (P : Placed → Type 0) (posted : Record) → ((line : Placed) → is_plain line ≡ true → P line) → EachOf P (flat_map (block_tree as_place posted.plan) posted.ballots)
     → ((race candidate count : ℕ) → race < length posted.plan.races → slice_get (slice_index_or posted.totals race []) candidate ≡ Some count → P (TotalAt race candidate count))

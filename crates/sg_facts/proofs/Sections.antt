@@ -15,7 +15,7 @@ use Rattle.sg_forms.specs.declared.line.CodeLine.{CodeLine}
 use Rattle.sg_forms.specs.declared.line.RowOpening.{RowOpening}
 use Rattle.sg_grammar.specs.Due.{lines_for}
 use Rattle.sg_grammar.specs.Placed.{Placed}
-use Rattle.sg_grammar.specs.Placed.Placed.{Begun, CodeAt, CodeCommitAt, Disputed, DrawnFull, DrawnPublic, FlagsAt, OfPlan, OverAt, PaperAt, PlacesAt, RowAt, RowCommitAt, SealAt, TotalAt}
+use Rattle.sg_grammar.specs.Placed.Placed.{Begun, CodeAt, CodeCommitAt, Disputed, DrawnFull, DrawnPublic, FlagsAt, OfPlan, PaperAt, PlacesAt, RowAt, RowCommitAt, SealAt, TotalAt}
 use Rattle.sg_grammar.specs.declared.state.Block.TheVariants as block
 use Rattle.sg_record.specs.Lines.{plan_lines}
 use Rattle.sg_record.specs.Tree.{as_place, block_tree, cast_leaf, cast_place, code_commit_leaf, code_leaf, commit_tree, dispute_tree, draw_leaf, fate_tree, flag_leaf, flag_tree, indexed, opening_tree, paper_tree, place_leaf, place_tree, race_code_commit_tree, race_results_tree, race_row_commit_tree, race_row_tree, result_tree, row_commit_leaf, row_leaf, seal_tree, total_leaf}
@@ -23,7 +23,6 @@ use Rattle.sg_record.specs.declared.record.BallotBlock.{BallotBlock}
 use Rattle.sg_record.specs.declared.record.BlockFate.{BlockFate}
 use Rattle.sg_record.specs.declared.record.BlockFate.TheVariants as fate
 use Rattle.sg_record.specs.declared.record.CastLine.{CastLine}
-use Rattle.sg_record.specs.declared.record.CastLine.TheVariants as cast
 use Rattle.sg_record.specs.declared.record.DisputeBlock.{DisputeBlock}
 use Rattle.sg_record.specs.declared.record.Record.{Record}
 use Rattle.sg_facts.specs.Items.{row_in}
@@ -69,16 +68,12 @@ module _ (P : Placed → Type 0) where
     blocks-of plan [] all = tt
     blocks-of plan (one ∷ blocks) all = of-append P (block_tree as_place plan one) (flat_map (block_tree as_place plan) blocks) (fate-of plan one.ballot one.fate all.0) (blocks-of plan blocks all.1)
 
-    pub ballots-of : ((ballot race : ℕ) → P (OverAt ballot race)) → ((ballot race : ℕ) (list : List ℕ) → P (PaperAt ballot race list)) → ((ballot : ℕ) (code : CodeLine) → P (code_leaf as_place block.Cast ballot code))
-        → ((ballot : ℕ) (code : CodeLine) → P (code_leaf as_place block.Audited ballot code)) → (plan : Plan) (blocks : List BallotBlock) → EachOf P (flat_map (block_tree as_place plan) blocks)
-    ballots-of over paper marked audited plan blocks = blocks-of plan blocks (of-every (λ (one : BallotBlock). HasLines plan one.ballot one.fate) blocks (λ one. of-lines one.ballot one.fate))
+    pub ballots-of : ((ballot : ℕ) (line : CastLine) → P (cast_place ballot line)) → ((ballot race : ℕ) (list : List ℕ) → P (PaperAt ballot race list)) → ((ballot : ℕ) (code : CodeLine) → P (code_leaf as_place block.Audited ballot code))
+        → (plan : Plan) (blocks : List BallotBlock) → EachOf P (flat_map (block_tree as_place plan) blocks)
+    ballots-of cast paper audited plan blocks = blocks-of plan blocks (of-every (λ (one : BallotBlock). HasLines plan one.ballot one.fate) blocks (λ one. of-lines one.ballot one.fate))
       where
         of-lines : (ballot : ℕ) (what : BlockFate) → HasLines plan ballot what
-        of-lines ballot (fate.Cast lines) = of-every (λ (line : CastLine). P (cast_place ballot line)) lines of-line
-          where
-            of-line : (line : CastLine) → P (cast_place ballot line)
-            of-line (cast.Code code) = marked ballot code
-            of-line (cast.Over race) = over ballot race
+        of-lines ballot (fate.Cast lines) = of-every (λ (line : CastLine). P (cast_place ballot line)) lines (cast ballot)
         of-lines ballot (fate.Audited papers codes) =
             (papers-of paper ballot (races_of_ballot plan ballot) papers, of-every (λ (code : CodeLine). P (code_leaf as_place block.Audited ballot code)) codes (audited ballot))
         of-lines ballot other = tt

@@ -16,11 +16,13 @@ use Rattle.sg_plan.specs.declared.plan.Plan.{Plan}
 use Rattle.sg_plan.specs.declared.plan.Race.{Race}
 use Rattle.sg_forms.specs.declared.line.CodeLine.{CodeLine}
 use Rattle.sg_grammar.specs.Walk.{follows_in_order, is_column, is_later}
-use Rattle.sg_record.proofs.BlockTests.{has_among}
+use Rattle.sg_plan.proofs.FateLists.{has_among}
 use Rattle.sg_record.proofs.CastLines.{first_cast}
-use Rattle.sg_record.proofs.Columns.{IsOfRaces, codes-own, race_codes-own}
+use Rattle.sg_record.proofs.Marks.{IsOfRaces, codes-own, race_codes-own}
 use Rattle.sg_plan.specs.Codes.{is_code}
-use Rattle.sg_record.specs.Formed.{are_blocks, are_cast, are_columns, are_papers, behind_cast, has_columns, is_dispute, is_fate}
+use Rattle.sg_plan.specs.Fates.{paper_fits}
+use Rattle.sg_record.specs.Formed.{are_blocks, are_cast, are_columns, has_columns, is_dispute, is_fate}
+use Rattle.sg_record.specs.Tree.{behind_cast}
 use Rattle.sg_record.specs.declared.record.BallotBlock.{BallotBlock}
 use Rattle.sg_record.specs.declared.record.BlockFate.TheVariants as fate
 use Rattle.sg_record.specs.declared.record.CastLine.{CastLine}
@@ -203,7 +205,7 @@ line_own plan ballot race column (cast.Code code) next e =
     let place = is_column plan ballot code.race code.column && follows_in_order race column code.race code.column in
     let stands = and_parts place (is_code plan code.code) (cond_some (place && is_code plan code.code) (code.race, code.column + 1) next e).0 in
     (and_parts (is_column plan ballot code.race code.column) (follows_in_order race column code.race code.column) stands.0).0
-line_own plan ballot race column (cast.Over over) next e = tt
+line_own plan ballot race column line next e = tt
 
 lines_own : (plan : Plan) (ballot race column : ℕ) (lines : List CastLine) → are_cast plan ballot race column lines ≡ true → EachOf (IsOwnLine plan ballot) lines
 lines_own plan ballot race column [] e = tt
@@ -224,7 +226,7 @@ cast_own plan ballot lines e = at_each (IsOwnLine plan ballot) lines (lines_own 
 pub audited_own : (plan : Plan) (ballot : ℕ) (papers : List (List ℕ)) (codes : List CodeLine) → is_fate plan ballot (fate.Audited papers codes) ≡ true → AreOwn plan ballot codes
 audited_own plan ballot papers codes e =
     columns_own plan ballot (races_of_ballot plan ballot) codes (λ race is. has_among plan ballot race ∙ is)
-    (codes-own plan (races_of_ballot plan ballot) codes (and_parts (are_papers plan (races_of_ballot plan ballot) papers) (are_columns plan (races_of_ballot plan ballot) codes) e).1)
+    (codes-own plan (races_of_ballot plan ballot) codes (and_parts (paper_fits plan (races_of_ballot plan ballot) papers) (are_columns plan (races_of_ballot plan ballot) codes) e).1)
 
 pub ruleset own_codes = (cast_own, audited_own)
 

@@ -33,7 +33,7 @@ code_shown plan race entry ballot code = (if code.race == race && entry_at plan 
 
 abbrev pub cast_shown : Plan → ℕ → ℕ → ℕ → CastLine → Option ℕ
 cast_shown plan race entry ballot (cast.Code code) = code_shown plan race entry ballot code
-cast_shown plan race entry ballot (cast.Over over) = None
+cast_shown plan race entry ballot line = None
 
 -- the code of the entry in the block of a cast ballot
 abbrev pub fate_mark : Plan → ℕ → ℕ → ℕ → BlockFate → Option ℕ

@@ -9,7 +9,7 @@ use sg_plan::{BallotIndex, Items, NoMemory};
 use std::alloc::Global;
 
 /// A table in which nothing stands yet.
-#[tactic(auto, using(sg_record::proofs::Bounds::few_races))]
+#[tactic(auto, using(sg_record::proofs::Limits::few_races))]
 pub(crate) fn blank_table(
     alloc: Global,
     index: &BallotIndex,

@@ -1,4 +1,4 @@
-//! The 23 forms of a line of the public record: their words, their one spelling, and how a line is read.
+//! The forms of a line of the public record: their words, their one spelling, and how a line is read.
 #![tactic(auto)]
 
 mod ballots;

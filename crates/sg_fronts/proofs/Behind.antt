@@ -16,10 +16,9 @@ use Rattle.sg_grammar.specs.declared.state.Head.TheVariants as head
 use Rattle.sg_grammar.specs.declared.state.Part.{Part}
 use Rattle.sg_grammar.specs.declared.state.Part.TheVariants as part
 use Rattle.sg_grammar.specs.declared.state.Slot.{Slot}
-use Rattle.sg_record.proofs.BodyOut.{commits-some, goes-commits, run_state}
 use Rattle.sg_record.proofs.BytesWalk.{Stays, said-walks}
 use Rattle.sg_record.proofs.Filling.{AreIn, AreIn-append}
-use Rattle.sg_record.proofs.SaidWalk.{Goes, goes-due, goes-open, goes-results, opens}
+use Rattle.sg_record.proofs.SaidWalk.{Goes, commits-some, goes-commits, goes-due, goes-open, goes-results, opens, run_state}
 use Rattle.sg_fronts.proofs.Filled.{CanFillAll, codes-some, commits-fill, filling, fillings-fill, fillings-in, results-fill}
 
 -- some lines make a whole record behind this state

@@ -5,7 +5,7 @@ use Rattle.std.proofs.lemmas.List.{take-append-le, take_all}
 use Rattle.std.proofs.lemmas.Option.{none-some}
 use Rattle.std.specs.Prelude.{IsSome}
 use Rattle.std.specs.Option.{option_map_or}
-use Rattle.sg_lists.proofs.Finding.{find-passes}
+use Rattle.sg_lists.proofs.Finding.{find-none, find-passes}
 use Rattle.sg_plan.specs.declared.plan.Plan.{Plan}
 use Rattle.sg_grammar.specs.Laws.{IsFront}
 use Rattle.sg_grammar.specs.Walk.{Posted, Walked, start, walk}
@@ -15,6 +15,7 @@ use Rattle.sg_record.specs.Laws.{AreLinesOf, AreWhole}
 use Rattle.sg_record.specs.Lines.{texts_in}
 use Rattle.sg_record.specs.Places.{walk_of}
 use Rattle.sg_record.specs.declared.record.Record.{Record}
+use Rattle.sg_check.proofs.AllKinds.{none_late}
 use Rattle.sg_check.proofs.Fine.{FrontWalk, all_good-fine, front-walk, none_bad_are_fine}
 use Rattle.sg_check.proofs.Judging.{unwalked-least, walked-least}
 use Rattle.sg_check.proofs.Late.{form_never}
@@ -28,15 +29,15 @@ use Rattle.sg_check.specs.declared.judged.Kind.{Kind}
 use Rattle.sg_check.specs.declared.judged.Kind.TheVariants as kind
 use Rattle.sg_check.specs.declared.judged.Total.{Total}
 use Rattle.sg_fronts.proofs.Fronts.{fronts_go_on}
-use Rattle.sg_fronts.specs.ByRecords.{BeginsWith, Breaks, IsFirstBroken, IsGoodFront, IsUnended, IsYes, Says, VerdictsSay, broken_in, posted_of}
+use Rattle.sg_fronts.specs.ByRecords.{BeginsWith, Breaks, IsFirstBroken, IsGoodFront, IsUnended, IsWholeAndAgrees, IsYes, Says, VerdictsSay, breaks_in, broken_in, posted_of}
 
 -- FRONTS OF RECORDS
 
 -- the walk over lines that a record begins with
 pub begun : (lines : List (List ℕ)) (posted : Record) → BeginsWith lines posted → FrontWalk start (texts_in posted) (walk_of posted) (length lines) × (take (length lines) (texts_in posted) ≡ lines)
 begun lines posted begins = (
-  front-walk start (texts_in posted) (walk_of posted) (length lines) (formed_are_walked posted begins.all.words begins.all.formed),
-  ap (take (length lines)) (sym begins.all.text) ∙ (take-append-le (length lines) lines begins.more (omega arith) ∙ take_all (length lines) lines (omega arith)),
+  front-walk start (texts_in posted) (walk_of posted) (length lines) (formed_are_walked posted begins.1.words begins.1.formed),
+  ap (take (length lines)) (sym begins.1.text) ∙ (take-append-le (length lines) lines begins.0 (omega arith) ∙ take_all (length lines) lines (omega arith)),
 )
 
 -- they may stand one after another
@@ -63,7 +64,7 @@ begin : (lines : List (List ℕ)) → IsFront lines → (posted : Record) × Beg
 begin lines front =
     let on = fronts_go_on lines front in
     let found = whole_are_formed (lines ++ on.0) on.1 in
-    (found.0, record { more = on.0; all = record { words = found.1; formed = found.2; text = found.3 } })
+    (found.0, (on.0, record { words = found.1; formed = found.2; text = found.3 }))
 
 is_front : (lines : List (List ℕ)) (w : Walked) → walk start lines ≡ Some w → IsFront lines
 is_front lines w e = subst (λ (o : Option Walked). IsSome o) (sym e) refl
@@ -134,20 +135,20 @@ good-yes : (lines : List (List ℕ)) (totals : List Total) → IsGood lines tota
 good-yes lines totals good =
     let found = record_of lines good.whole in
     let walks = whole-walk found.0 lines found.1 in
-    record {
-      posted = found.0;
-      are = found.1;
-      none_bad = sym (walked-least lines (walk_of found.0) walks) ∙ fine-all lines good.fine;
-      totals_are = good.totals_are ∙ ap (λ (o : Option Walked). option_map_or (λ (w : Walked). totals_in w.posted) o []) walks;
-    }
+    let agree = none_late found.0.plan (posted_of found.0) (sym (walked-least lines (walk_of found.0) walks) ∙ fine-all lines good.fine) in (
+      found.0,
+      record { whole = found.1; openings = agree kind.Opening; agree = agree },
+      good.totals_are ∙ ap (λ (o : Option Walked). option_map_or (λ (w : Walked). totals_in w.posted) o []) walks,
+    )
 
 yes-good : (lines : List (List ℕ)) (totals : List Total) → IsYes lines totals → IsGood lines totals
 yes-good lines totals answer =
-    let walks = whole-walk answer.posted lines answer.are in
+    let right : IsWholeAndAgrees lines answer.0 = answer.1 in
+    let walks = whole-walk answer.0 lines right.whole in
     record {
-      fine = all_good-fine lines (walk_of answer.posted) walks answer.none_bad;
-      whole = whole-are answer.posted lines answer.are;
-      totals_are = answer.totals_are ∙ ap (λ (o : Option Walked). option_map_or (λ (w : Walked). totals_in w.posted) o []) (sym walks);
+      fine = all_good-fine lines (walk_of answer.0) walks (find-none (breaks_in answer.0) later_kinds right.agree);
+      whole = whole-are answer.0 lines right.whole;
+      totals_are = answer.2 ∙ ap (λ (o : Option Walked). option_map_or (λ (w : Walked). totals_in w.posted) o []) (sym walks);
     }
 
 -- NO

@@ -2,7 +2,6 @@
 use Rattle.std.proofs.Common.{◌≡◌, ℕ, true, false, List, [], Option, Some, refl, sym, subst, ap, ◌∙◌}
 use Rattle.std.proofs.lemmas.Option.{same_Some}
 use Rattle.std.specs.Option.{option_map_or}
-use Rattle.sg_lists.proofs.Finding.{find-none}
 use Rattle.sg_plan.specs.declared.plan.Plan.{Plan}
 use Rattle.sg_grammar.specs.Lines.{placed_of}
 use Rattle.sg_grammar.specs.Placed.{Placed}
@@ -13,16 +12,15 @@ use Rattle.sg_record.specs.declared.record.Record.{Record}
 use Rattle.sg_check.proofs.Late.{form_never}
 use Rattle.sg_check.specs.Bounds.{AreAllTotalled, AreTotalsBound, AreTotalsEqual, HasCompletion, HasPrinting, IsSound}
 use Rattle.sg_check.specs.Facts.{is_full_draw}
-use Rattle.sg_check.specs.Judging.{later_kinds}
-use Rattle.sg_check.specs.Verdict.{IsVerdict, breaks, breaks_walked, totals_in, totals_of}
+use Rattle.sg_check.specs.Verdict.{IsVerdict, breaks, breaks_walked}
 use Rattle.sg_check.specs.declared.judged.Judged.TheVariants.{Yes}
 use Rattle.sg_check.specs.declared.judged.Kind.{Kind}
 use Rattle.sg_check.specs.declared.judged.Kind.TheVariants as kind
 use Rattle.sg_check.specs.declared.judged.Total.{Total}
 use Rattle.sg_fronts.proofs.ByRecords.{record_of, verdicts_say, whole-walk}
 use Rattle.sg_fronts.proofs.OfRecord.{placed}
-use Rattle.sg_fronts.specs.ByRecords.{breaks_in, posted_of, totals_on}
-use Rattle.sg_fronts.specs.Promised.{IsBound, IsWholeAndAgrees, SoundIsPromised}
+use Rattle.sg_fronts.specs.ByRecords.{IsWholeAndAgrees, breaks_in, posted_of, totals_on}
+use Rattle.sg_fronts.specs.Promised.{IsBound, SoundIsPromised}
 
 -- KINDS
 
@@ -34,10 +32,7 @@ broken-in lines posted walks k none = sym (ap (λ (o : Option Walked). option_ma
 -- a record that agrees has the verdict yes, with its totals
 pub right_verdict : (lines : List (List ℕ)) (posted : Record) → IsWholeAndAgrees lines posted → IsVerdict lines (Yes (totals_on posted))
 right_verdict lines posted right =
-    (verdicts_say lines (Yes (totals_on posted))).1 (record { posted = posted; are = right.whole; none_bad = find-none (breaks_in posted) later_kinds right.agree; totals_are = refl })
-
-pub totals-are : (lines : List (List ℕ)) (posted : Record) → AreLinesOf lines posted → totals_of lines ≡ totals_on posted
-totals-are lines posted are = ap (λ (o : Option Walked). option_map_or (λ (w : Walked). totals_in w.posted) o []) (whole-walk posted lines are)
+    (verdicts_say lines (Yes (totals_on posted))).1 (posted, right, refl)
 
 -- THE BOUND
 
@@ -73,10 +68,10 @@ module _ (lines : List (List ℕ)) (totals : List Total) (sound : IsSound lines 
   }
 
 -- sound lines are a whole record's
-pub sound_record : (lines : List (List ℕ)) (totals : List Total) → IsSound lines totals → (posted : Record) × AreLinesOf lines posted
+sound_record : (lines : List (List ℕ)) (totals : List Total) → IsSound lines totals → (posted : Record) × AreLinesOf lines posted
 sound_record lines totals sound = record_of lines (ap (λ (o : Option Walked). option_map_or (λ (w : Walked). is_whole w.next) o false) sound.walks ∙ sound.whole)
 
 pub sound_is_promised : SoundIsPromised
 sound_is_promised lines totals sound =
     let found = sound_record lines totals sound in
-    record { posted = found.0; right = right_on lines totals sound found.0 found.1; bound = bound_on lines totals sound found.0 found.1 }
+    (found.0, right_on lines totals sound found.0 found.1, bound_on lines totals sound found.0 found.1)

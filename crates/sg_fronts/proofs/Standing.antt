@@ -6,7 +6,8 @@ use Rattle.sg_plan.specs.Ballots.{ballot_has}
 use Rattle.sg_plan.specs.Limits.{most_claims}
 use Rattle.sg_plan.specs.declared.plan.Plan.{Plan}
 use Rattle.sg_forms.specs.Said.{Said}
-use Rattle.sg_forms.specs.Said.Said.{Audited, Ballots, Cast, Code, Dispute, Over, Spoiled, Voided}
+use Rattle.sg_forms.specs.Said.Said.{Audited, Ballots, Cast, Dispute, Spoiled, Voided}
+use Rattle.sg_grammar.proofs.CastLines.{cast-claim}
 use Rattle.sg_grammar.proofs.Claims.{if_then-claim}
 use Rattle.sg_grammar.proofs.FirstLines.{take_bytes-line, walk-first, walk-none}
 use Rattle.sg_grammar.proofs.Making.{complete-sizes, made-line, made-start}
@@ -14,8 +15,8 @@ use Rattle.sg_grammar.specs.Due.{commits, due_audit, race_codes, results}
 use Rattle.sg_grammar.specs.Head.{head_line}
 use Rattle.sg_grammar.specs.Made.{IsComplete, IsMade}
 use Rattle.sg_grammar.specs.Placed.{Placed}
-use Rattle.sg_grammar.specs.Placed.Placed.{Begun, CodeAt, Disputed, OverAt}
-use Rattle.sg_grammar.specs.Walk.{Next, Taken, Walked, after_block, after_dispute, after_run, begins, behind, body_line, first_taken, follows_in_order, headed, in_cast, in_head, is_column, is_later, is_race_left, place, start, take_at, take_line, took, walk}
+use Rattle.sg_grammar.specs.Placed.Placed.{Begun, Disputed}
+use Rattle.sg_grammar.specs.Walk.{Next, Taken, Walked, after_block, after_dispute, after_run, begins, behind, body_line, first_taken, headed, in_cast, in_head, is_later, place, start, take_at, take_line, took, walk}
 use Rattle.sg_grammar.specs.declared.state.Block.TheVariants as block
 use Rattle.sg_grammar.specs.declared.state.Head.{Head}
 use Rattle.sg_grammar.specs.declared.state.Head.TheVariants as head
@@ -66,14 +67,9 @@ block-stands plan last said t whole e = first-stands plan (results plan) said t 
 
 -- a line in the block of a cast ballot
 cast-stands : (plan : Plan) (ballot race column : ℕ) (said : Said) (t : Taken) → IsComplete plan → in_cast plan ballot race column said ≡ Some t → Leads t
-cast-stands plan ballot race column (Code code) t whole e =
-    if_then-claim Leads (is_column plan ballot code.race code.column && follows_in_order race column code.race code.column)
-    (took (CodeAt block.Cast ballot code.race code.column code) (behind plan [] (part.Cast ballot code.race (code.column + 1)))) t
-    (λ _. stand-behind plan [] (part.Cast ballot code.race (code.column + 1)) whole tt) e
-cast-stands plan ballot race column (Over next_race) t whole e =
-    if_then-claim Leads (is_race_left plan ballot race next_race) (took (OverAt ballot next_race) (behind plan [] (part.Cast ballot (next_race + 1) 0))) t
-    (λ _. stand-behind plan [] (part.Cast ballot (next_race + 1) 0) whole tt) e
-cast-stands plan ballot race column said t whole e = block-stands plan ballot said t whole e
+cast-stands plan ballot race column said t whole e =
+    cast-claim plan ballot race column said t Leads (block-stands plan ballot said t whole)
+    (λ line. stand-behind plan [] (part.Cast ballot line.next_race line.next_column) whole tt) e
 
 -- a dispute
 dispute-stands : (plan : Plan) (count : ℕ) (said : Said) (t : Taken) → IsComplete plan → after_dispute plan count said ≡ Some t → Leads t

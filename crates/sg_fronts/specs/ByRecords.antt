@@ -1,6 +1,6 @@
 -- The verdict on lines, said by whole records alone: by what their lists are and how each line is spelled, without the states
 -- between two lines and without a reader of lines. A law says that it is the verdict.
-use Rattle.std.specs.Prelude.{◌≡◌, ℕ, ◌+◌, ◌<◌, ◌≤◌, Bool, ◌⊎◌, ◌↔◌, List, [], ◌++◌, length, take, Option, Some, None}
+use Rattle.std.specs.Prelude.{◌≡◌, ℕ, ◌+◌, ◌<◌, ◌≤◌, Bool, false, ◌⊎◌, ◌↔◌, List, [], ◌++◌, length, take, Option, Some, None}
 use Rattle.sg_grammar.specs.Lines.{placed_of}
 use Rattle.sg_grammar.specs.Walk.{Posted}
 use Rattle.sg_record.specs.Laws.{AreLinesOf}
@@ -31,9 +31,8 @@ totals_on posted = totals_in (posted_of posted)
 -- A RECORD BEGINS SO
 
 -- the record's text begins with these lines
-pub record BeginsWith (lines : List (List ℕ)) (posted : Record) : Type 0 where
-  pub more : List (List ℕ)
-  pub all : AreLinesOf (lines ++ more) posted
+abbrev pub BeginsWith : List (List ℕ) → Record → Type 0
+BeginsWith lines posted = (more : List (List ℕ)) × AreLinesOf (lines ++ more) posted
 
 -- the first kind in which one of so many first lines of the record is bad, against those before it
 abbrev pub broken_in : Record → ℕ → Option Kind
@@ -56,12 +55,18 @@ Breaks lines k = (posted : Record) × BeginsWith lines posted × (broken_in post
 
 -- THE VERDICT
 
--- the lines are those of a whole record, none of which is bad, with these totals
-pub record IsYes (lines : List (List ℕ)) (totals : List Total) : Type 0 where
-  pub posted : Record
-  pub are : AreLinesOf lines posted
-  pub none_bad : first_late posted.plan (posted_of posted) ≡ None
-  pub totals_are : totals ≡ totals_on posted
+-- the lines are this whole record, whose openings match their commitments and whose opened halves agree
+pub record IsWholeAndAgrees (lines : List (List ℕ)) (posted : Record) : Type 0 where
+  -- a whole record
+  pub whole : AreLinesOf lines posted
+  -- whose openings match their commitments
+  pub openings : breaks_in posted kind.Opening ≡ false
+  -- and whose opened halves agree: no line is bad in any kind
+  pub agree : (k : Kind) → breaks_in posted k ≡ false
+
+-- the lines are such a record, with these totals
+abbrev pub IsYes : List (List ℕ) → List Total → Type 0
+IsYes lines totals = (posted : Record) × IsWholeAndAgrees lines posted × (totals ≡ totals_on posted)
 
 -- the shortest list of first lines that breaks a kind has so many lines, and this is the first kind that it breaks
 pub record IsFirstBroken (lines : List (List ℕ)) (number : ℕ) (first : Kind) : Type 0 where

@@ -1,23 +1,11 @@
 -- What a yes promises of a whole record, said by its lists: of the halves that it doesn't open, for each printing and each completion.
-use Rattle.std.specs.Prelude.{◌≡◌, ℕ, true, false, List}
-use Rattle.sg_record.specs.Laws.{AreLinesOf}
+use Rattle.std.specs.Prelude.{◌≡◌, ℕ, true, List}
 use Rattle.sg_record.specs.Places.{places_in}
 use Rattle.sg_record.specs.declared.record.Record.{Record}
 use Rattle.sg_check.specs.Bounds.{AreAllTotalled, AreTotalsBound, AreTotalsEqual, HasCompletion, HasPrinting, IsSound}
 use Rattle.sg_check.specs.Facts.{is_full_draw}
-use Rattle.sg_check.specs.declared.judged.Kind.{Kind}
-use Rattle.sg_check.specs.declared.judged.Kind.TheVariants as kind
 use Rattle.sg_check.specs.declared.judged.Total.{Total}
-use Rattle.sg_fronts.specs.ByRecords.{breaks_in}
-
--- the lines are this whole record, whose openings match their commitments and whose opened halves agree
-pub record IsWholeAndAgrees (lines : List (List ℕ)) (posted : Record) : Type 0 where
-  -- a whole record
-  pub whole : AreLinesOf lines posted
-  -- whose openings match their commitments
-  pub openings : breaks_in posted kind.Opening ≡ false
-  -- and whose opened halves agree: no line is bad in any kind
-  pub agree : (k : Kind) → breaks_in posted k ≡ false
+use Rattle.sg_fronts.specs.ByRecords.{IsWholeAndAgrees}
 
 -- then, for every printing and every completion that opens no commitment twice, each instance has at least as many rows altered
 -- in their unopened halves as any posted total of its race differs from the count of posted codes
@@ -33,10 +21,8 @@ pub record IsBound (posted : Record) (totals : List Total) : Type 0 where
   pub full : is_full_draw (places_in posted) ≡ true → AreTotalsEqual posted.plan (places_in posted) totals
 
 -- what a yes with these totals promises of lines: they are such a record, so bound
-pub record IsPromised (lines : List (List ℕ)) (totals : List Total) : Type 0 where
-  pub posted : Record
-  pub right : IsWholeAndAgrees lines posted
-  pub bound : IsBound posted totals
+abbrev pub IsPromised : List (List ℕ) → List Total → Type 0
+IsPromised lines totals = (posted : Record) × IsWholeAndAgrees lines posted × IsBound posted totals
 
 -- what is promised of lines by their walk is promised of their record
 abbrev pub SoundIsPromised : Type 0

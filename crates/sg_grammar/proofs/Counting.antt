@@ -7,25 +7,26 @@ use Rattle.sg_lists.proofs.Options.{cond_some-then, option_map-some}
 use Rattle.sg_plan.proofs.BallotLists.{count-push}
 use Rattle.sg_plan.proofs.LimitTests.{run_keeps-true}
 use Rattle.sg_plan.proofs.NameTests.{is_within-true}
-use Rattle.sg_plan.specs.Ballots.{ballot_has, ballots_of, candidates_of, r_rows}
+use Rattle.sg_plan.specs.Ballots.{ballot_has, ballots_of, r_rows}
 use Rattle.sg_plan.specs.Limits.{is_version, most_claims, most_instances, most_races, most_styles, race_head_keeps, races_have, run_keeps, style_keeps}
 use Rattle.sg_plan.specs.Names.{is_name_word, is_within, name_keeps}
 use Rattle.sg_plan.specs.declared.plan.Plan.{Plan}
 use Rattle.sg_plan.specs.declared.plan.Race.{Race as PlanRace}
 use Rattle.sg_forms.specs.Said.{Said}
-use Rattle.sg_forms.specs.Said.Said.{Audited, Ballots, Cand, Cast, Code, Dispute, Election, Instances, Over, Race, Spoiled, Style, Version, Voided}
-use Rattle.sg_grammar.proofs.Blocks.{due_audit-length, blocks-fall, blocks-length, codes-fall, overs-fall}
+use Rattle.sg_forms.specs.Said.Said.{Audited, Ballots, Cand, Cast, Dispute, Election, Instances, Race, Spoiled, Style, Version, Voided}
+use Rattle.sg_grammar.proofs.Blocks.{due_audit-length, blocks-fall, blocks-length}
+use Rattle.sg_grammar.proofs.CastLines.{cast-claim}
 use Rattle.sg_grammar.proofs.Claims.{if_then-claim}
 use Rattle.sg_grammar.proofs.FirstLines.{take_bytes-line, walk-first, walk-none}
-use Rattle.sg_grammar.proofs.Making.{candidates_within, complete-sizes, length-with_candidate, made-line, made-start}
+use Rattle.sg_grammar.proofs.Making.{complete-sizes, length-with_candidate, made-line, made-start}
 use Rattle.sg_grammar.proofs.Sections.{commits-length, race_codes-length, results-length}
 use Rattle.sg_grammar.specs.Due.{due_audit, commits, race_codes, results}
 use Rattle.sg_grammar.specs.Head.{Making, behind_candidate, head_line, last_candidates, made, take_run, take_style, with_cand, with_instances, with_name, with_race, with_run, with_style, with_version}
 use Rattle.sg_grammar.specs.Left.{block_left, blocks_left, body_left, disputes_left, left_at, lines_left, most_lines, part_left, results_left}
 use Rattle.sg_grammar.specs.Made.{HasSizes, IsComplete, IsMade}
 use Rattle.sg_grammar.specs.Placed.{Placed}
-use Rattle.sg_grammar.specs.Placed.Placed.{Begun, CodeAt, Disputed, OverAt}
-use Rattle.sg_grammar.specs.Walk.{Next, Taken, Walked, after_block, after_dispute, after_run, begins, behind, body_line, first_taken, headed, in_cast, in_head, follows_in_order, is_column, is_later, is_race_left, place, start, take_at, take_line, taking, took, walk}
+use Rattle.sg_grammar.specs.Placed.Placed.{Begun, Disputed}
+use Rattle.sg_grammar.specs.Walk.{Next, Taken, Walked, after_block, after_dispute, after_run, begins, behind, body_line, first_taken, headed, in_cast, in_head, is_later, place, start, take_at, take_line, taking, took, walk}
 use Rattle.sg_grammar.specs.declared.state.Block.TheVariants as block
 use Rattle.sg_grammar.specs.declared.state.Head.{Head}
 use Rattle.sg_grammar.specs.declared.state.Head.TheVariants as head
@@ -97,35 +98,11 @@ after_block-falls plan last said t e =
 abbrev cast_left : Plan → ℕ → ℕ → ℕ → ℕ
 cast_left plan ballot race column = block_left plan ballot race column + (blocks_left plan ballot + results_left plan)
 
-code-falls : (plan : Plan) (ballot race column next_race next_column : ℕ) (placed : Placed)
-    → (is_column plan ballot next_race next_column && follows_in_order race column next_race next_column) ≡ true
-    → Falls plan (cast_left plan ballot race column) (took placed (behind plan [] (part.Cast ballot next_race (next_column + 1))))
-code-falls plan ballot race column next_race next_column placed test =
-    let parts = and_parts (is_column plan ballot next_race next_column) (follows_in_order race column next_race next_column) test in
-    let columns = and_parts (ballot_has plan ballot next_race) (nat_lt next_column (candidates_of plan next_race)) parts.0 in
-    let below = ltb-true next_column (candidates_of plan next_race) columns.1 in
-    let within = candidates_within plan next_race (omega (arith, below)) in
-    let fewer = codes-fall plan ballot race column next_race next_column columns.0 within below parts.1 in
-    falls-took plan [] (part.Cast ballot next_race (next_column + 1)) (cast_left plan ballot race column) placed (omega (arith, fewer))
-
-over-falls : (plan : Plan) (ballot race column next_race : ℕ) → is_race_left plan ballot race next_race ≡ true
-    → Falls plan (cast_left plan ballot race column) (took (OverAt ballot next_race) (behind plan [] (part.Cast ballot (next_race + 1) 0)))
-over-falls plan ballot race column next_race test =
-    let parts = and_parts (nat_lt next_race (length plan.races) && ballot_has plan ballot next_race) (nat_le race next_race) test in
-    let there = and_parts (nat_lt next_race (length plan.races)) (ballot_has plan ballot next_race) parts.0 in
-    let fewer = overs-fall plan ballot race column next_race there.1 (ltb-true next_race (length plan.races) there.0) (leb-true race next_race parts.1) in
-    falls-took plan [] (part.Cast ballot (next_race + 1) 0) (cast_left plan ballot race column) (OverAt ballot next_race) (omega (arith, fewer))
-
 in_cast-falls : (plan : Plan) (ballot race column : ℕ) (said : Said) (t : Taken) → in_cast plan ballot race column said ≡ Some t → Falls plan (cast_left plan ballot race column) t
-in_cast-falls plan ballot race column (Code code) t e =
-    if_then-claim (λ x. Falls plan (cast_left plan ballot race column) x) (is_column plan ballot code.race code.column && follows_in_order race column code.race code.column)
-    (took (CodeAt block.Cast ballot code.race code.column code) (behind plan [] (part.Cast ballot code.race (code.column + 1)))) t
-    (code-falls plan ballot race column code.race code.column (CodeAt block.Cast ballot code.race code.column code)) e
-in_cast-falls plan ballot race column (Over next_race) t e =
-    if_then-claim (λ x. Falls plan (cast_left plan ballot race column) x) (is_race_left plan ballot race next_race)
-    (took (OverAt ballot next_race) (behind plan [] (part.Cast ballot (next_race + 1) 0))) t (over-falls plan ballot race column next_race) e
 in_cast-falls plan ballot race column said t e =
-    falls-more plan (blocks_left plan ballot + results_left plan) (cast_left plan ballot race column) t (omega arith) (after_block-falls plan ballot said t e)
+    cast-claim plan ballot race column said t (λ x. Falls plan (cast_left plan ballot race column) x)
+    (λ follows. falls-more plan (blocks_left plan ballot + results_left plan) (cast_left plan ballot race column) t (omega arith) (after_block-falls plan ballot said t follows))
+    (λ line. falls-took plan [] (part.Cast ballot line.next_race line.next_column) (cast_left plan ballot race column) line.placed (omega (arith, line.fewer))) e
 
 -- a further dispute
 dispute-falls : (plan : Plan) (count ballot race : ℕ) (placed : Placed) → HasSizes plan

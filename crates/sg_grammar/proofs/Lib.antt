@@ -1,5 +1,6 @@
 pub mod Adding
 pub mod Blocks
+pub mod CastLines
 pub mod Claims
 pub mod Counting
 pub mod Each

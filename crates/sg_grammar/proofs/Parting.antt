@@ -9,14 +9,15 @@ use Rattle.sg_plan.specs.Ballots.{ballot_has, candidates_of, entries_of}
 use Rattle.sg_plan.specs.declared.plan.ClaimWord.{ClaimWord}
 use Rattle.sg_plan.specs.declared.plan.Plan.{Plan}
 use Rattle.sg_forms.specs.Said.{Said}
-use Rattle.sg_forms.specs.Said.Said.{Audited, Ballots, Cast, Code, Dispute, Over, Spoiled, Voided}
+use Rattle.sg_forms.specs.Said.Said.{Audited, Ballots, Cast, Code, Dispute, Spoiled, Voided}
+use Rattle.sg_grammar.proofs.CastLines.{cast-claim}
 use Rattle.sg_grammar.proofs.Claims.{if_then-claim}
 use Rattle.sg_grammar.proofs.FirstLines.{take_bytes-line, walk-first}
 use Rattle.sg_grammar.specs.Due.{due_audit, ballot_codes, ballot_paper, code_commit, code_line, commits, each, instance_row_commits, race_code_commits, race_codes, race_row_commits, results, row_commit}
 use Rattle.sg_grammar.specs.Head.{head_line}
 use Rattle.sg_grammar.specs.Placed.{Placed}
-use Rattle.sg_grammar.specs.Placed.Placed.{Begun, CodeAt, Disputed, DrawnFull, DrawnPublic, OverAt, PlacesAt, RowAt, TotalAt}
-use Rattle.sg_grammar.specs.Walk.{Next, Taken, Walked, after_block, after_dispute, after_run, begins, behind, body_line, first_taken, headed, in_cast, in_head, follows_in_order, is_column, is_later, is_race_left, is_whole, is_whole_at, place, take_at, take_line, took, walk, walked_on}
+use Rattle.sg_grammar.specs.Placed.Placed.{Begun, CodeAt, Disputed, DrawnFull, DrawnPublic, PlacesAt, RowAt, TotalAt}
+use Rattle.sg_grammar.specs.Walk.{Next, Taken, Walked, after_block, after_dispute, after_run, begins, behind, body_line, first_taken, headed, in_cast, in_head, is_later, is_whole, is_whole_at, place, take_at, take_line, took, walk, walked_on}
 use Rattle.sg_grammar.specs.declared.state.Block.TheVariants as block
 use Rattle.sg_grammar.specs.declared.state.Head.{Head}
 use Rattle.sg_grammar.specs.declared.state.Head.TheVariants as head
@@ -289,13 +290,8 @@ after_block-steps plan last (Voided ballot) t e =
 after_block-steps plan last said t e = first_taken-steps plan (results plan) said t refl e
 
 in_cast-steps : (plan : Plan) (ballot race column : ℕ) (said : Said) (t : Taken) → in_cast plan ballot race column said ≡ Some t → Steps t
-in_cast-steps plan ballot race column (Code code) t e =
-    if_then-claim Steps (is_column plan ballot code.race code.column && follows_in_order race column code.race code.column)
-    (took (CodeAt block.Cast ballot code.race code.column code) (behind plan [] (part.Cast ballot code.race (code.column + 1)))) t (λ ok. inl ((refl, tt), (λ later. refl))) e
-in_cast-steps plan ballot race column (Over next_race) t e =
-    if_then-claim Steps (is_race_left plan ballot race next_race) (took (OverAt ballot next_race) (behind plan [] (part.Cast ballot (next_race + 1) 0))) t
-    (λ ok. inl ((refl, tt), (λ later. refl))) e
-in_cast-steps plan ballot race column said t e = after_block-steps plan ballot said t e
+in_cast-steps plan ballot race column said t e =
+    cast-claim plan ballot race column said t Steps (after_block-steps plan ballot said t) (λ line. inl ((refl, tt), line.free)) e
 
 begins-steps : (plan : Plan) (may_begin : Part) (said : Said) (t : Taken) → IsEarlyPart may_begin → begins plan may_begin said ≡ Some t → Steps t
 begins-steps plan (part.Ballots last) said t early e = after_block-steps plan last said t e

@@ -1,18 +1,16 @@
 -- The numbers of each line of a record are in its plan, and what it shows is in its range.
 use Rattle.std.proofs.Common.{◌≡◌, ℕ, zero, suc, ◌+◌, ◌-◌, ◌*◌, ◌<◌, ◌≤◌, ◌==◌, nat_le, nat_lt, Bool, true, false, ◌&&◌, cond, inl, inr, List, [], ◌∷◌, ◌++◌, length, Option, Some, None, refl, sym, subst, ap, ◌∙◌, arith}
-use Rattle.std.specs.Option.{option_map_or}
 use Rattle.std.proofs.lemmas.Bool.{and_parts, eqb-true, leb-true, ltb-true}
-use Rattle.std.proofs.lemmas.Option.{same_Some, slice_get_cases}
+use Rattle.std.proofs.lemmas.Option.{same_Some}
 use Rattle.sg_lists.proofs.Options.{option_map-some}
 use Rattle.sg_plan.specs.Limits.{most_claims}
-use Rattle.sg_plan.proofs.PlanLaws.{ballot_has-true}
 use Rattle.sg_plan.specs.Ballots.{ballot_has, ballots_of, candidates_of, entries_of}
 use Rattle.sg_plan.specs.declared.plan.Plan.{Plan}
-use Rattle.sg_plan.specs.declared.plan.Race.{Race as PlanRace}
 use Rattle.sg_forms.proofs.LineLaws.{lines_are_spelled}
 use Rattle.sg_forms.specs.Said.{Said}
-use Rattle.sg_forms.specs.Said.Said.{Audited, Ballots, Cast, Code, CodeCommit, Dispute, DrawFull, DrawPublic, Flags, Over, Paper, Places, Row, RowCommit, Seal, Spoiled, Total, Voided}
+use Rattle.sg_forms.specs.Said.Said.{Audited, Ballots, Cast, Code, CodeCommit, Dispute, DrawFull, DrawPublic, Flags, Paper, Places, Row, RowCommit, Seal, Spoiled, Total, Voided}
 use Rattle.sg_forms.specs.Spelling.{IsInRange}
+use Rattle.sg_grammar.proofs.CastLines.{cast-claim, race_of}
 use Rattle.sg_grammar.proofs.Claims.{if_then-claim}
 use Rattle.sg_grammar.proofs.FirstLines.{take_bytes-line, walk-first}
 use Rattle.sg_grammar.proofs.Walking.{take_line-behind, take_line-head, take_line-plan}
@@ -22,9 +20,8 @@ use Rattle.sg_grammar.specs.Laws.{LinesAreInPlan}
 use Rattle.sg_grammar.specs.Lines.{IsAmong, placed_of}
 use Rattle.sg_grammar.specs.Parting.{IsLineIn}
 use Rattle.sg_grammar.specs.Placed.{Placed}
-use Rattle.sg_grammar.specs.Placed.Placed.{Begun, CodeAt, CodeCommitAt, Disputed, DrawnFull, DrawnPublic, FlagsAt, OverAt, PaperAt, PlacesAt, RowAt, RowCommitAt, SealAt, TotalAt}
-use Rattle.sg_grammar.specs.Coordinates.{IsRaceOf}
-use Rattle.sg_grammar.specs.Walk.{Next, Taken, Walked, after_block, after_dispute, after_run, begins, behind, body_line, first_taken, headed, in_cast, in_head, follows_in_order, is_column, is_later, is_race_left, place, start, take_at, take_line, took, walk}
+use Rattle.sg_grammar.specs.Placed.Placed.{Begun, CodeAt, CodeCommitAt, Disputed, DrawnFull, DrawnPublic, FlagsAt, PaperAt, PlacesAt, RowAt, RowCommitAt, SealAt, TotalAt}
+use Rattle.sg_grammar.specs.Walk.{Next, Taken, Walked, after_block, after_dispute, after_run, begins, behind, body_line, first_taken, headed, in_cast, in_head, is_later, place, start, take_at, take_line, took, walk}
 use Rattle.sg_grammar.specs.declared.state.Block.{Block}
 use Rattle.sg_grammar.specs.declared.state.Block.TheVariants as block
 use Rattle.sg_grammar.specs.declared.state.Head.{Head}
@@ -101,19 +98,6 @@ results_in plan =
         (slots_append plan (race_places plan race) (race_totals plan race)
         (slots_each plan (due_places plan race) (lines_for (entries_of plan race)) (λ line c. ((a, bits_in (entries_of plan race) line c), tt)))
         (slots_each plan (due_totals race) (candidates_of plan race) (λ candidate c. ((a, c), tt))))
-
--- a race of a ballot
-race_of : (plan : Plan) (ballot race : ℕ) → race < length plan.races → ballot_has plan ballot race ≡ true → IsRaceOf plan ballot race
-race_of plan ballot race a has = let is = ballot_has-true plan ballot race has in (a, is.first, is.last, has)
-
--- a race with a candidate
-candidate_race : (plan : Plan) (race column : ℕ) → column < candidates_of plan race → race < length plan.races
-candidate_race plan race column within = elim (slice_get_cases plan.races race).1 [
-  | inl here ↦ here.1
-  | inr past ↦
-      let none : candidates_of plan race ≡ 0 = ap (λ (o : Option PlanRace). option_map_or (λ (r : PlanRace). length r.candidates) o 0) past.1 in
-      absurd (omega (arith, none, within))
-]
 
 codes_in : (plan : Plan) (kind : Block) (ballot race : ℕ) → race < length plan.races → ballot_has plan ballot race ≡ true → AreSlotsIn plan (race_codes plan kind ballot race)
 codes_in plan kind ballot race a has =
@@ -203,20 +187,8 @@ after_block-keeps plan last (Voided ballot) t range e =
 after_block-keeps plan last said t range e = first_taken-keeps plan (results plan) said t range (results_in plan) e
 
 in_cast-keeps : (plan : Plan) (ballot race column : ℕ) (said : Said) (t : Taken) → IsInRange plan.version said → in_cast plan ballot race column said ≡ Some t → Keeps plan t
-in_cast-keeps plan ballot race column (Code code) t range e =
-    if_then-claim (Keeps plan) (is_column plan ballot code.race code.column && follows_in_order race column code.race code.column)
-    (took (CodeAt block.Cast ballot code.race code.column code) (behind plan [] (part.Cast ballot code.race (code.column + 1)))) t
-    (λ ok.
-    let columns = and_parts (ballot_has plan ballot code.race) (nat_lt code.column (candidates_of plan code.race)) (and_parts (is_column plan ballot code.race code.column) (follows_in_order race column code.race code.column) ok).0 in
-    let within = ltb-true code.column (candidates_of plan code.race) columns.1 in
-    let of = race_of plan ballot code.race (candidate_race plan code.race code.column within) columns.0 in
-    (record { placed = (of.0, of.1, of.2, of.3, within); shown = range.3 }, tt)) e
-in_cast-keeps plan ballot race column (Over next_race) t range e =
-    if_then-claim (Keeps plan) (is_race_left plan ballot race next_race) (took (OverAt ballot next_race) (behind plan [] (part.Cast ballot (next_race + 1) 0))) t
-    (λ ok.
-    let parts = and_parts (nat_lt next_race (length plan.races)) (ballot_has plan ballot next_race) (and_parts (nat_lt next_race (length plan.races) && ballot_has plan ballot next_race) (nat_le race next_race) ok).0 in
-    (record { placed = race_of plan ballot next_race (ltb-true next_race (length plan.races) parts.0) parts.1; shown = tt }, tt)) e
-in_cast-keeps plan ballot race column said t range e = after_block-keeps plan ballot said t range e
+in_cast-keeps plan ballot race column said t range e =
+    cast-claim plan ballot race column said t (Keeps plan) (after_block-keeps plan ballot said t range) (λ line. (line.within range, tt)) e
 
 after_dispute-keeps : (plan : Plan) (count : ℕ) (said : Said) (t : Taken) → after_dispute plan count said ≡ Some t → Keeps plan t
 after_dispute-keeps plan count (Dispute ballot race code word) t e =

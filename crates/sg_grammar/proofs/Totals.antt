@@ -9,7 +9,8 @@ use Rattle.sg_plan.specs.Limits.{most_claims}
 use Rattle.sg_plan.specs.Ballots.{ballot_has, candidates_of, entries_of}
 use Rattle.sg_plan.specs.declared.plan.Plan.{Plan}
 use Rattle.sg_forms.specs.Said.{Said}
-use Rattle.sg_forms.specs.Said.Said.{Audited, Ballots, Cast, Code, CodeCommit, Dispute, DrawFull, DrawPublic, Flags, Over, Paper, Places, Row, RowCommit, Seal, Spoiled, Voided}
+use Rattle.sg_forms.specs.Said.Said.{Audited, Ballots, Cast, Code, CodeCommit, Dispute, DrawFull, DrawPublic, Flags, Paper, Places, Row, RowCommit, Seal, Spoiled, Voided}
+use Rattle.sg_grammar.proofs.CastLines.{cast-claim}
 use Rattle.sg_grammar.proofs.Claims.{if_then-claim}
 use Rattle.sg_grammar.proofs.Counting.{start-made, take_line-made}
 use Rattle.sg_grammar.proofs.FirstLines.{take_bytes-line, walk-first}
@@ -19,8 +20,8 @@ use Rattle.sg_grammar.specs.Head.{Making, head_line}
 use Rattle.sg_grammar.specs.Left.{is_total, is_total_line, most_totals, part_totals, totals_at, totals_left}
 use Rattle.sg_grammar.specs.Made.{HasSizes, IsMade}
 use Rattle.sg_grammar.specs.Placed.{Placed}
-use Rattle.sg_grammar.specs.Placed.Placed.{Begun, CodeAt, CodeCommitAt, Disputed, DrawnFull, DrawnPublic, FlagsAt, OverAt, PaperAt, PlacesAt, RowAt, RowCommitAt, SealAt}
-use Rattle.sg_grammar.specs.Walk.{Next, Posted, Taken, Walked, after_block, after_dispute, after_run, begins, behind, body_line, first_taken, headed, in_cast, in_head, follows_in_order, is_column, is_later, is_race_left, place, start, take_at, take_bytes, take_line, taking, took, walk}
+use Rattle.sg_grammar.specs.Placed.Placed.{Begun, CodeAt, CodeCommitAt, Disputed, DrawnFull, DrawnPublic, FlagsAt, PaperAt, PlacesAt, RowAt, RowCommitAt, SealAt}
+use Rattle.sg_grammar.specs.Walk.{Next, Posted, Taken, Walked, after_block, after_dispute, after_run, begins, behind, body_line, first_taken, headed, in_cast, in_head, is_later, place, start, take_at, take_bytes, take_line, taking, took, walk}
 use Rattle.sg_grammar.specs.declared.state.Block.{Block}
 use Rattle.sg_grammar.specs.declared.state.Block.TheVariants as block
 use Rattle.sg_grammar.specs.declared.state.Head.{Head}
@@ -193,15 +194,9 @@ after_block-keeps plan last (Voided ballot) t e =
 after_block-keeps plan last said t e = first_taken-keeps plan (results plan) said t e
 
 in_cast-keeps : (plan : Plan) (ballot race column : ℕ) (said : Said) (t : Taken) → in_cast plan ballot race column said ≡ Some t → Keeps (count_by is_total (results plan)) t
-in_cast-keeps plan ballot race column (Code code) t e =
-    if_then-claim (λ x. Keeps (count_by is_total (results plan)) x) (is_column plan ballot code.race code.column && follows_in_order race column code.race code.column)
-    (took (CodeAt block.Cast ballot code.race code.column code) (behind plan [] (part.Cast ballot code.race (code.column + 1)))) t
-    (λ ok. keeps-took plan [] (part.Cast ballot code.race (code.column + 1)) (count_by is_total (results plan)) (CodeAt block.Cast ballot code.race code.column code) (omega arith)) e
-in_cast-keeps plan ballot race column (Over next_race) t e =
-    if_then-claim (λ x. Keeps (count_by is_total (results plan)) x) (is_race_left plan ballot race next_race)
-    (took (OverAt ballot next_race) (behind plan [] (part.Cast ballot (next_race + 1) 0))) t
-    (λ ok. keeps-took plan [] (part.Cast ballot (next_race + 1) 0) (count_by is_total (results plan)) (OverAt ballot next_race) (omega arith)) e
-in_cast-keeps plan ballot race column said t e = after_block-keeps plan ballot said t e
+in_cast-keeps plan ballot race column said t e =
+    cast-claim plan ballot race column said t (λ x. Keeps (count_by is_total (results plan)) x) (after_block-keeps plan ballot said t)
+    (λ line. keeps-took plan [] (part.Cast ballot line.next_race line.next_column) (count_by is_total (results plan)) line.placed (rw line.no_total (omega arith))) e
 
 after_dispute-keeps : (plan : Plan) (count : ℕ) (said : Said) (t : Taken) → after_dispute plan count said ≡ Some t → Keeps 0 t
 after_dispute-keeps plan count (Dispute ballot race code word) t e =

@@ -9,7 +9,8 @@ use Rattle.sg_plan.specs.Limits.{fault_of, most_claims}
 use Rattle.sg_plan.specs.declared.plan.Plan.{Plan}
 use Rattle.sg_forms.specs.Reading.{line_of}
 use Rattle.sg_forms.specs.Said.{Said}
-use Rattle.sg_forms.specs.Said.Said.{Audited, Ballots, Cast, Code, Dispute, Over, Spoiled, Voided}
+use Rattle.sg_forms.specs.Said.Said.{Audited, Ballots, Cast, Dispute, Spoiled, Voided}
+use Rattle.sg_grammar.proofs.CastLines.{cast-claim}
 use Rattle.sg_grammar.proofs.FirstLines.{walk-first}
 use Rattle.sg_grammar.proofs.Making.{complete-sizes, runs-fault, whole-fault}
 use Rattle.sg_grammar.proofs.PlanCounts.{some_value}
@@ -18,8 +19,8 @@ use Rattle.sg_grammar.specs.Due.{due_audit, commits, race_codes, results}
 use Rattle.sg_grammar.specs.Head.{Making, has_runs, head_line, take_run}
 use Rattle.sg_grammar.specs.Made.{HasSizes, IsMade}
 use Rattle.sg_grammar.specs.Placed.{Placed}
-use Rattle.sg_grammar.specs.Placed.Placed.{Begun, CodeAt, Disputed, OfPlan, OverAt}
-use Rattle.sg_grammar.specs.Walk.{Next, Taken, Walked, after_block, after_dispute, after_run, begins, behind, body_line, first_taken, headed, in_cast, in_head, follows_in_order, is_column, is_later, is_race_left, place, read_next, take_at, take_bytes, take_line, taking, took, walk, walked_on}
+use Rattle.sg_grammar.specs.Placed.Placed.{Begun, Disputed}
+use Rattle.sg_grammar.specs.Walk.{Next, Taken, Walked, after_block, after_dispute, after_run, begins, behind, body_line, first_taken, headed, in_cast, in_head, is_later, place, read_next, take_at, take_bytes, take_line, taking, took, walk, walked_on}
 use Rattle.sg_grammar.specs.declared.state.Block.TheVariants as block
 use Rattle.sg_grammar.specs.declared.state.Head.{Head}
 use Rattle.sg_grammar.specs.declared.state.Head.TheVariants as head
@@ -109,10 +110,19 @@ block_behind plan last (Audited ballot) = if_then_claim (IsBehind plan) (is_late
 block_behind plan last (Voided ballot) = if_then_claim (IsBehind plan) (plan.version == 2 && is_later plan last ballot) (took (Begun ballot) (behind plan [] (part.Ballots ballot))) (λ _. (refl, refl))
 block_behind plan last said = first_behind plan (results plan) said
 
+-- what holds of each line that is taken holds of the one that may be
+each_taken : (o : Option Taken) (C : Taken → Type 0) → ((t : Taken) → o ≡ Some t → C t) → IfSome o C
+each_taken None C each = tt
+each_taken (Some t) C each = each t refl
+
+of_taken : (o : Option Taken) (C : Taken → Type 0) (t : Taken) → IfSome o C → o ≡ Some t → C t
+of_taken None C t holds e = cc
+of_taken (Some x) C t holds e = subst C (same_Some x t e) holds
+
 cast_behind : (plan : Plan) (ballot race column : ℕ) (said : Said) → IfSome (in_cast plan ballot race column said) (IsBehind plan)
-cast_behind plan ballot race column (Code code) = if_then_claim (IsBehind plan) (is_column plan ballot code.race code.column && follows_in_order race column code.race code.column) (took (CodeAt block.Cast ballot code.race code.column code) (behind plan [] (part.Cast ballot code.race (code.column + 1)))) (λ _. (refl, refl))
-cast_behind plan ballot race column (Over next_race) = if_then_claim (IsBehind plan) (is_race_left plan ballot race next_race) (took (OverAt ballot next_race) (behind plan [] (part.Cast ballot (next_race + 1) 0))) (λ _. (refl, refl))
-cast_behind plan ballot race column said = block_behind plan ballot said
+cast_behind plan ballot race column said =
+    each_taken (in_cast plan ballot race column said) (IsBehind plan) (λ t e.
+    cast-claim plan ballot race column said t (IsBehind plan) (λ follows. of_taken (after_block plan ballot said) (IsBehind plan) t (block_behind plan ballot said) follows) (λ line. (refl, refl)) e)
 
 dispute_behind : (plan : Plan) (count : ℕ) (said : Said) → IfSome (after_dispute plan count said) (IsBehind plan)
 dispute_behind plan count (Dispute ballot race code word) = if_then_claim (IsBehind plan) (nat_lt count most_claims && (nat_lt race (length plan.races) && ballot_has plan ballot race)) (took (Disputed ballot race code word) (behind plan (race_codes plan block.Dispute ballot race) (part.Disputes (count + 1)))) (λ _. (refl, refl))

@@ -20,7 +20,7 @@ use Rattle.sg_grammar.specs.declared.state.Slot.TheVariants as slot
 -- BEHIND THE PLAN
 
 -- the lines that the block of a ballot of the style may have in a race behind its first line: a code for each column,
--- and one for its paper, or which says that it is over; none where the style hasn't the race
+-- and one for its paper, or one note of it; none where the style hasn't the race
 abbrev pub lines_in : Plan → ℕ → ℕ → ℕ
 lines_in plan style race = (if style_has plan race style then candidates_of plan race + 1 else 0)
 
@@ -33,7 +33,7 @@ lines_before plan style (suc race) = lines_before plan style race + lines_in pla
 abbrev pub lines_of : Plan → ℕ → ℕ
 lines_of plan style = lines_before plan style (length plan.races)
 
--- from this race and column on: behind the last column one line of the race is left, which says that it is over
+-- from this race and column on: behind the last column one line of the race is left, a note of it
 abbrev pub lines_from : Plan → ℕ → ℕ → ℕ → ℕ
 lines_from plan race column style = lines_of plan style - (lines_before plan style race + min column (lines_in plan style race - 1))
 

@@ -1,5 +1,5 @@
 -- A line of the record with its place in it: the coordinates that the grammar gives it.
-use Rattle.std.specs.Prelude.{ℕ, List}
+use Rattle.std.specs.Prelude.{ℕ, List, Option, Some, None}
 use Rattle.sg_commit.specs.declared.Digest.{Digest}
 use Rattle.sg_plan.specs.declared.plan.ClaimWord.{ClaimWord}
 use Rattle.sg_forms.specs.Said.{Said}
@@ -33,3 +33,12 @@ pub data Placed : Type 0 where
   RowAt : (race instance row : ℕ) (opening : RowOpening) → Placed
   -- the first line of a dispute's block: the code that is claimed, and the office's answer
   Disputed : (ballot race code : ℕ) (word : ClaimWord) → Placed
+
+-- the ballot that the line is about, if any: it is of its block, or of the block of a dispute about it
+abbrev pub ballot_on : Placed → Option ℕ
+ballot_on (Begun ballot) = Some ballot
+ballot_on (CodeAt block ballot race column code) = Some ballot
+ballot_on (OverAt ballot race) = Some ballot
+ballot_on (PaperAt ballot race list) = Some ballot
+ballot_on (Disputed ballot race code word) = Some ballot
+ballot_on line = None

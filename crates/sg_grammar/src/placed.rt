@@ -1,4 +1,8 @@
 //! A line of a record in its place.
+ghost use Rattle.std.specs.Prelude.{◌≡◌};
+ghost use Rattle.sg_grammar.specs.Coordinates.{placed};
+ghost use Rattle.sg_grammar.specs.Placed.{ballot_on};
+
 use crate::state::Block;
 use sg_commit::Digest;
 use sg_forms::{CodeLine, RowOpening};
@@ -133,4 +137,29 @@ pub enum PlacedLine<'a> {
         /// The office's answer.
         word: ClaimWord,
     },
+}
+
+impl PlacedLine<'_> {
+    /// The ballot that the line is about: that of its block, or of the block of a dispute about it. None, if it is about
+    /// no ballot.
+    pub fn ballot(&self) -> Option<u32>
+        ensures { result ≡ ballot_on (placed self.now) }
+    {
+        match *self {
+            PlacedLine::CodeCommit { .. } => None,
+            PlacedLine::RowCommit { .. } => None,
+            PlacedLine::Seal { .. } => None,
+            PlacedLine::Begun { ballot } => Some(ballot),
+            PlacedLine::Code { ballot, .. } => Some(ballot),
+            PlacedLine::Over { ballot, .. } => Some(ballot),
+            PlacedLine::Paper { ballot, .. } => Some(ballot),
+            PlacedLine::Flags { .. } => None,
+            PlacedLine::Places { .. } => None,
+            PlacedLine::Total { .. } => None,
+            PlacedLine::DrawFull => None,
+            PlacedLine::DrawPublic { .. } => None,
+            PlacedLine::Row { .. } => None,
+            PlacedLine::Dispute { ballot, .. } => Some(ballot),
+        }
+    }
 }

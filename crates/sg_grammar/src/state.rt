@@ -115,7 +115,7 @@ pub enum Part {
         /// The last ballot that has a block, or 0.
         last: u32,
     },
-    /// A code of the block of a cast ballot, from this race and column on, or that such a race is over; or what
+    /// A code of the block of a cast ballot, from this race and column on, or a note of such a race; or what
     /// `Ballots` allows.
     Cast {
         /// The ballot.

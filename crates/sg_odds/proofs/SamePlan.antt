@@ -6,10 +6,9 @@ use Rattle.sg_forms.specs.Said.{Said}
 use Rattle.sg_grammar.specs.Placed.{Placed}
 use Rattle.sg_grammar.specs.Placed.Placed.{OfPlan}
 use Rattle.sg_grammar.specs.Walk.{Next, start}
-use Rattle.sg_record.proofs.BodyOut.{run_state}
 use Rattle.sg_record.proofs.FormedLaw.{has_form}
 use Rattle.sg_record.proofs.Placing.{as-goes, goes_as-plan}
-use Rattle.sg_record.proofs.SaidWalk.{Goes, goes-one}
+use Rattle.sg_record.proofs.SaidWalk.{Goes, goes-one, run_state}
 use Rattle.sg_record.specs.Formed.{is_formed}
 use Rattle.sg_record.specs.Laws.{HasWords}
 use Rattle.sg_record.specs.Lines.{plan_lines}

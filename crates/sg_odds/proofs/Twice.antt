@@ -85,9 +85,9 @@ module _ (posted : Record) (words : HasWords posted) (formed : is_formed posted 
       → opens_digest (half_commitment (places_in posted) on race instance row) (half_kind on) race instance row o ≡ true
   posted_opens on race instance row opening o among of =
       let has = (bound other accepted).completion in
-      let there = has.none_twice on race instance row o (posted_is lines (apart other accepted.words accepted.formed) on race instance row opening o among of) in
+      let there = has.2 on race instance row o (posted_is lines (apart other accepted.words accepted.formed) on race instance row opening o among of) in
       subst (λ (d : Option Digest). opens_digest d (half_kind on) race instance row o ≡ true) (commitment_is on race instance row)
-      (has.is_completion.opens on race instance row o (row_within race instance row opening among) there)
+      (has.1.opens on race instance row o (row_within race instance row opening among) there)
 
   -- a half is opened as the completion does, or otherwise
   at_half : (on : Side) (race instance row : ℕ) (opening : RowOpening) (o : Opening) → IsAmong lines (RowAt race instance row opening) → opened_on on opening ≡ Some o

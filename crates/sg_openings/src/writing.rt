@@ -6,32 +6,32 @@ ghost use Rattle.sg_plan.specs.Ballots.{entries_of};
 ghost use Rattle.sg_record.specs.Pens.{Writes};
 ghost use Rattle.sg_record.specs.Writing.{WriteEnds};
 ghost use Rattle.sg_openings.specs.Openings.{completion_line, openings_text};
-ghost use Rattle.sg_openings.specs.inside.Lines.{AreAt, all_lines, instance_lines, race_lines, row_line};
+ghost use Rattle.sg_post.specs.inside.Walks.{row_walk};
+ghost use Rattle.sg_openings.specs.inside.Lines.{all_lines, instance_lines, race_lines, row_line};
 
 use crate::counts::{count_instances, count_races, count_rows, version_of};
 use sg_outside::{Failed, Sink};
 use sg_record::{Pen, RowOpening, Wrote, put_row};
-use sg_tables::{LeftOpenings, RightOpenings, Tables};
+use sg_tables::{RowOpenings, Tables};
 use std::alloc::Global;
 
-/// Writes what opens both halves of the row that the walks have come to. The walks then go on by one.
+/// Writes what opens both halves of the row that the walk has come to. The walk then goes on by one.
 fn put_opened<O: Sink>(
     pen: &mut Pen,
     tables: &Tables,
-    lefts: &mut LeftOpenings<'_>,
-    rights: &mut RightOpenings<'_>,
+    walk: &mut RowOpenings<'_>,
     race: u32,
     instance: u32,
     row: u32,
     out: &mut O,
 ) -> Result<(), Failed>
     requires row { row < entries_of tables.now.plan race }
-    requires walks { AreAt tables.now race instance row lefts.old rights.old }
+    requires walk { walk.old ≡ row_walk tables.now race instance row }
     ensures writes { Writes O.written O.faults pen.old out.old pen.new out.new result (row_line tables.now.plan tables.now.seed race instance row) }
-    ensures walks { AreAt tables.now race instance (row + 1) lefts.new rights.new }
+    ensures walk { walk.new ≡ row_walk tables.now race instance (row + 1) }
 {
-    let opening = RowOpening::Both(lefts.next(), rights.next());
-    put_row(pen, &opening, out)
+    let (left, right) = walk.next();
+    put_row(pen, &RowOpening::Both(left, right), out)
 }
 
 /// Writes the openings of an instance's rows.
@@ -46,19 +46,9 @@ fn put_instance<O: Sink>(
     requires instance { instance < tables.now.plan.instances }
     ensures { Writes O.written O.faults pen.old out.old pen.new out.new result (instance_lines tables.now.plan tables.now.seed race instance) }
 {
-    let mut lefts = tables.left_openings(race, instance, 0);
-    let mut rights = tables.right_openings(race, instance, 0);
+    let mut walk = tables.row_openings(race, instance, 0);
     for row in 0..count_rows(tables, race) {
-        put_opened(
-            pen,
-            tables,
-            &mut lefts,
-            &mut rights,
-            race,
-            instance,
-            row,
-            out,
-        )?;
+        put_opened(pen, tables, &mut walk, race, instance, row, out)?;
     }
     Ok(())
 }

@@ -1,8 +1,8 @@
 -- Which lines of a record the page is shown, by where they stand.
 use Rattle.std.specs.Prelude.{◌≡◌, ℕ, ◌==◌, if◌then◌else◌, Bool, true, false, List, [], ◌∷◌, ◌++◌, Some}
 use Rattle.std.specs.Option.{option_map_or}
-use Rattle.sg_grammar.specs.Placed.{Placed}
-use Rattle.sg_grammar.specs.Placed.Placed.{OfPlan, SealAt, Begun, CodeAt, OverAt, PaperAt, Disputed}
+use Rattle.sg_grammar.specs.Placed.{Placed, ballot_on}
+use Rattle.sg_grammar.specs.Placed.Placed.{OfPlan, SealAt}
 use Rattle.sg_grammar.specs.Walk.{Next, Posted, Walked, start, take_bytes, walk}
 
 -- the line is one of the plan
@@ -17,12 +17,7 @@ is_seal line = false
 
 -- the line is about the ballot: one of its block, or of the block of a dispute about it
 abbrev pub is_about : ℕ → Placed → Bool
-is_about ballot (Begun of) = of == ballot
-is_about ballot (CodeAt block of race column code) = of == ballot
-is_about ballot (OverAt of race) = of == ballot
-is_about ballot (PaperAt of race list) = of == ballot
-is_about ballot (Disputed of race code word) = of == ballot
-is_about ballot line = false
+is_about ballot line = option_map_or (λ of. of == ballot) (ballot_on line) false
 
 -- the lines in their places, up to the first that may not stand where it does
 abbrev pub placed_front : Next → List (List ℕ) → List Posted

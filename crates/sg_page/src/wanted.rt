@@ -55,12 +55,8 @@ fn is_seal(line: &PlacedLine) -> bool
 fn is_about(ballot: u32, line: &PlacedLine) -> bool
     ensures { result ≡ is_about ballot (placed line.now) }
 {
-    match *line {
-        PlacedLine::Begun { ballot: of } => of == ballot,
-        PlacedLine::Code { ballot: of, .. } => of == ballot,
-        PlacedLine::Over { ballot: of, .. } => of == ballot,
-        PlacedLine::Paper { ballot: of, .. } => of == ballot,
-        PlacedLine::Dispute { ballot: of, .. } => of == ballot,
-        _ => false,
+    match line.ballot() {
+        Some(of) => of == ballot,
+        None => false,
     }
 }

@@ -1,6 +1,7 @@
 pub mod BallotLists
 pub mod FateLists
 pub mod IndexLists
+pub mod KeptPlans
 pub mod LimitLaws
 pub mod LimitTests
 pub mod Lists

@@ -6,8 +6,8 @@ use Rattle.sg_plan.proofs.Lists.{None-first_fault, first_fault-None}
 use Rattle.sg_plan.proofs.LimitTests.{is_version-true, races-true, runs-true, styles-true, true-is_version, true-races, true-runs, true-styles}
 use Rattle.sg_plan.proofs.NameTests.{is_name_word-true, is_within-true, true-is_name_word, true-is_within}
 use Rattle.sg_plan.specs.Ballots.{r_rows}
-use Rattle.sg_plan.specs.Limits.{KeepsLimits, PassesTests, fault_of, fault_unless, first_of, is_instance_count, is_version, race_fault, race_fits, run_fault, run_keeps, style_fault, style_fits}
-use Rattle.sg_plan.specs.Names.{is_name_word}
+use Rattle.sg_plan.specs.Limits.{KeepsLimits, PassesTests, fault_of, fault_unless, first_of, is_version, most_instances, race_fault, race_fits, run_fault, run_keeps, style_fault, style_fits}
+use Rattle.sg_plan.specs.Names.{is_name_word, is_within}
 use Rattle.sg_plan.specs.declared.limits.PlanFault.{PlanFault}
 use Rattle.sg_plan.specs.declared.limits.PlanFault.TheVariants as fault
 use Rattle.sg_plan.specs.declared.plan.Plan.{Plan}
@@ -51,7 +51,7 @@ passes_tests plan e =
     record {
       version = fault_unless-None (is_version plan.version) fault.Version one.0;
       name = fault_unless-None (is_name_word plan.name) fault.Name two.0;
-      instances = fault_unless-None (is_instance_count plan.instances) fault.Instances three.0;
+      instances = fault_unless-None (is_within 1 most_instances plan.instances) fault.Instances three.0;
       races = option_map-None fault.Race (race_fault plan.races) four.0;
       styles = option_map-None fault.Style (style_fault (length plan.races) plan.styles) five.0;
       runs = option_map-None fault.Run (run_fault (length plan.styles) plan.runs) six.0;
@@ -64,7 +64,7 @@ unfolding fault_of
 no_fault plan t =
     None-first_of _ _ (None-fault_unless (is_version plan.version) fault.Version t.version)
     (None-first_of _ _ (None-fault_unless (is_name_word plan.name) fault.Name t.name)
-    (None-first_of _ _ (None-fault_unless (is_instance_count plan.instances) fault.Instances t.instances)
+    (None-first_of _ _ (None-fault_unless (is_within 1 most_instances plan.instances) fault.Instances t.instances)
     (None-first_of _ _ (None-option_map fault.Race (race_fault plan.races) t.races)
     (None-first_of _ _ (None-option_map fault.Style (style_fault (length plan.races) plan.styles) t.styles)
     (None-first_of _ _ (None-option_map fault.Run (run_fault (length plan.styles) plan.runs) t.runs)

@@ -2,7 +2,7 @@
 -- (this project's rules for the record).
 use Rattle.std.specs.Prelude.{◌≡◌, ℕ, ◌/◌, ◌%◌, ◌<◌, ◌≤◌, ◌↔◌, true, length, None}
 use Rattle.sg_plan.specs.Ballots.{IsBallotOf, all_entries, ballot_has, ballot_row, ballots_of, candidates_of, entries_of, entry_at, entry_place, r_rows, row_place, rows_of, votes_of}
-use Rattle.sg_plan.specs.Limits.{KeepsLimits, fault_of, most_ballots, most_rows}
+use Rattle.sg_plan.specs.Limits.{KeepsLimits, fault_of, most_ballots, most_rows, plan_keeps}
 use Rattle.sg_plan.specs.declared.plan.Plan.{Plan}
 
 -- LIMITS
@@ -10,6 +10,10 @@ use Rattle.sg_plan.specs.declared.plan.Plan.{Plan}
 -- a plan has no fault exactly where it keeps its limits
 abbrev pub LimitsAreTold : Type 0
 LimitsAreTold = (plan : Plan) → (fault_of plan ≡ None) ↔ KeepsLimits plan
+
+-- and where it passes the tests of its parts
+abbrev pub KeepingIsTold : Type 0
+KeepingIsTold = (plan : Plan) → (plan_keeps plan ≡ true) ↔ (fault_of plan ≡ None)
 
 -- how large the numbers of a plan may be
 pub record Bounds (plan : Plan) : Type 0 where

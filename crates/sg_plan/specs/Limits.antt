@@ -92,10 +92,6 @@ most_fields = 64
 abbrev pub is_version : ℕ → Bool
 is_version version = version == 1 || version == 2
 
--- a number of instances of table R
-abbrev pub is_instance_count : ℕ → Bool
-is_instance_count instances = is_within 1 most_instances instances
-
 -- an earlier race has the name
 abbrev pub races_have : List Race → List ℕ → Bool
 races_have earlier name = list_any (λ race. bytes_eq race.name name) earlier
@@ -131,6 +127,10 @@ abbrev pub each_keeps : {X : Type 0} → (List X → X → Bool) → List X → 
 each_keeps keeps earlier [] = true
 each_keeps keeps earlier (x ∷ xs) = keeps earlier x && each_keeps keeps (earlier ++ x ∷ []) xs
 
+-- there is one item or more, and each passes the test of the items before it and itself
+abbrev pub some_keep : {X : Type 0} → (List X → X → Bool) → List X → Bool
+some_keep keeps items = nat_le 1 (length items) && each_keeps keeps [] items
+
 -- the place of the first of the items that does not
 abbrev pub first_bad : {X : Type 0} → (List X → X → Bool) → List X → List X → Option ℕ
 first_bad keeps earlier [] = None
@@ -153,6 +153,20 @@ race_fits earlier race = nat_lt (length earlier) most_races && race_keeps earlie
 abbrev pub style_fits : ℕ → List Style → Style → Bool
 style_fits races earlier style = nat_lt (length earlier) most_styles && style_keeps races earlier style
 
+-- THE LIMITS OF A PLAN
+
+-- a plan keeps its limits
+unfoldable pub plan_keeps : Plan → Bool
+plan_keeps plan =
+    (is_version plan.version && is_name_word plan.name)
+    && (is_within 1 most_instances plan.instances
+    && (some_keep race_fits plan.races
+    && (some_keep (style_fits (length plan.races)) plan.styles
+    && (some_keep (run_keeps (length plan.styles)) plan.runs
+    && nat_le (r_rows plan) most_rows))))
+
+-- THE FAULT OF A PLAN
+
 -- the first race at fault: race 32 is, where there are more than 32
 abbrev pub race_fault : List Race → Option ℕ
 race_fault races = first_fault race_fits races
@@ -164,8 +178,6 @@ style_fault races styles = first_fault (style_fits races) styles
 -- the first run at fault, where the plan has so many styles
 abbrev pub run_fault : ℕ → List Run → Option ℕ
 run_fault styles runs = first_fault (run_keeps styles) runs
-
--- THE FAULT OF A PLAN
 
 -- the fault, where the test failed
 abbrev pub fault_unless : Bool → PlanFault → Option PlanFault
@@ -182,7 +194,7 @@ unfoldable pub fault_of : Plan → Option PlanFault
 fault_of plan = first_of (
     fault_unless (is_version plan.version) fault.Version
     ∷ fault_unless (is_name_word plan.name) fault.Name
-    ∷ fault_unless (is_instance_count plan.instances) fault.Instances
+    ∷ fault_unless (is_within 1 most_instances plan.instances) fault.Instances
     ∷ option_map fault.Race (race_fault plan.races)
     ∷ option_map fault.Style (style_fault (length plan.races) plan.styles)
     ∷ option_map fault.Run (run_fault (length plan.styles) plan.runs)
@@ -193,7 +205,7 @@ fault_of plan = first_of (
 pub record PassesTests (plan : Plan) : Type 0 where
   pub version : is_version plan.version ≡ true
   pub name : is_name_word plan.name ≡ true
-  pub instances : is_instance_count plan.instances ≡ true
+  pub instances : is_within 1 most_instances plan.instances ≡ true
   pub races : race_fault plan.races ≡ None
   pub styles : style_fault (length plan.races) plan.styles ≡ None
   pub runs : run_fault (length plan.styles) plan.runs ≡ None

@@ -1,9 +1,14 @@
 //! Laws of plans: what follows from the definitions alone. Each function does nothing, and its contract is proved.
-ghost use Rattle.sg_plan.specs.Laws.{BoundsAreKept, EntryLaws, EntryPlaceLaws, LimitsAreTold, RowLaws, RowPlaceLaws};
+ghost use Rattle.sg_plan.specs.Laws.{BoundsAreKept, EntryLaws, EntryPlaceLaws, KeepingIsTold, LimitsAreTold, RowLaws, RowPlaceLaws};
 
 /// A plan has no fault exactly where it keeps its limits, said in plain form.
 pub fn limits_law()
     ensures { LimitsAreTold }
+{}
+
+/// A plan keeps its limits, by the tests of its parts, exactly where it has no fault.
+pub fn plan_keeps_law()
+    ensures { KeepingIsTold }
 {}
 
 /// How large the numbers of a plan without a fault may be.

@@ -19,12 +19,12 @@ use Rattle.sg_plan.specs.declared.plan.Fate.TheVariants as fate
 use Rattle.sg_plan.specs.declared.plan.Mark.{Mark}
 use Rattle.sg_plan.specs.declared.plan.Plan.{Plan}
 use Rattle.sg_plan.specs.declared.plan.Race.{Race}
-use Rattle.sg_tables.specs.Posts.{fate_marks, is_void}
-use Rattle.sg_record.proofs.BlockTests.{has_among}
+use Rattle.sg_tables.specs.Posts.{fate_marks}
+use Rattle.sg_plan.proofs.FateLists.{has_among}
 use Rattle.sg_record.proofs.Limits.{ballot_two}
 use Rattle.sg_post.specs.Fits.{claim_fits}
 use Rattle.sg_post.specs.declared.story.Claimed.{Claimed}
-use Rattle.sg_post.proofs.StoryFits.{mark-fits}
+use Rattle.sg_post.proofs.StoryFits.{fits_ballot, mark-fits}
 
 -- CLAIMS
 
@@ -58,11 +58,6 @@ unnamed plan ballot race (mark ∷ marks) fit lacks =
       )
     ]
 
--- a ballot posts nothing in a race that it does not have
-pub record PostsNothing (plan : Plan) (race : ℕ) (what : Fate) : Type 0 where
-  pub marks : (candidate : ℕ) → fate_marks plan race candidate what ≡ false
-  pub void : is_void plan what race ≡ false
-
 -- a race of no mark is not over
 pub none_over : (votes count : ℕ) → count ≡ 0 → nat_lt votes count ≡ false
 none_over votes count none = ap (nat_lt votes) none ∙ never votes
@@ -70,16 +65,12 @@ none_over votes count none = ap (nat_lt votes) none ∙ never votes
     never : (n : ℕ) → nat_lt n 0 ≡ false
     never n = grind (arith, nat_tests)
 
-pub posts-nothing : (plan : Plan) (ballot race : ℕ) (what : Fate) → fate_fits plan ballot what ≡ true → ballot_has plan ballot race ≡ false → PostsNothing plan race what
-posts-nothing plan ballot race (fate.Cast marks) fit lacks =
-    let tests = and_parts (list_all (mark_fits plan (races_of_ballot plan ballot)) marks) (marks_differ marks) (detail-of plan ballot (fate.Cast marks) fit) in
-    let none = unnamed plan ballot race marks tests.0 lacks in
-    let over : is_over plan marks race ≡ false = none_over (votes_of plan race) (marks_in race marks) none.1 in
-    record { marks = λ candidate. ap (λ (b : Bool). b && not (is_over plan marks race)) (none.0 candidate); void = over }
-posts-nothing plan ballot race fate.Unused fit lacks = record { marks = λ candidate. refl; void = refl }
-posts-nothing plan ballot race fate.Spoiled fit lacks = record { marks = λ candidate. refl; void = refl }
-posts-nothing plan ballot race (fate.Audited paper) fit lacks = record { marks = λ candidate. refl; void = refl }
-posts-nothing plan ballot race fate.Voided fit lacks = record { marks = λ candidate. refl; void = refl }
+-- a ballot marks nothing in a race that it does not have
+pub lacks-marks : (plan : Plan) (ballot race : ℕ) (what : Fate) → fits_ballot plan ballot what → ballot_has plan ballot race ≡ false → (candidate : ℕ) → fate_marks plan race candidate what ≡ false
+lacks-marks plan ballot race (fate.Cast marks) fit lacks candidate =
+    let tests = and_parts (list_all (mark_fits plan (races_of_ballot plan ballot)) marks) (marks_differ marks) fit in
+    ap (λ (b : Bool). b && not (is_over plan marks race)) ((unnamed plan ballot race marks tests.0 lacks).0 candidate)
+lacks-marks plan ballot race other fit lacks candidate = refl
 
 -- A RACE THAT A BALLOT HAS
 

@@ -16,7 +16,7 @@ use Rattle.sg_tables.proofs.TableLaws.{code_laws, opening_laws}
 use Rattle.sg_tables.proofs.Values.{code_beside-below, shown_by-below}
 use Rattle.sg_tables.specs.Tables.{code_beside, shown_by}
 use Rattle.sg_grammar.proofs.Making.{candidates_within}
-use Rattle.sg_record.proofs.BallotRaces.{ballot-each}
+use Rattle.sg_record.proofs.BlockLines.{ballot-each}
 use Rattle.sg_record.proofs.Limits.{ballot_two}
 use Rattle.sg_record.specs.Formed.{are_columns, each_passes, has_columns}
 use Rattle.sg_post.specs.Posted.{audited_codes, audited_race_codes, code_in_row, code_line_of, race_codes_of}

@@ -9,6 +9,7 @@ pub mod LineForms
 pub mod Made
 pub mod MarkedCodes
 pub mod Marking
+pub mod Notes
 pub mod Numbered
 pub mod OwnCodes
 pub mod PostedFormed

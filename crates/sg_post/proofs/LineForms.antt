@@ -4,7 +4,8 @@ use Rattle.std.specs.List.{flat_map}
 use Rattle.std.proofs.lemmas.List.{map-append}
 use Rattle.std.proofs.lemmas.List.Folds.{flat_map-map}
 use Rattle.sg_lists.proofs.Lists.{flat_map-same, map-flat_map, map-map, map-single}
-use Rattle.sg_plan.specs.Ballots.{ballot_row, candidates_of, entries_of, races_of_ballot}
+use Rattle.sg_plan.specs.Ballots.{ballot_has, ballot_row, candidates_of, entries_of, races_of_ballot}
+use Rattle.sg_plan.specs.Fates.{fate_fits}
 use Rattle.sg_plan.specs.declared.plan.Draw.{Draw}
 use Rattle.sg_plan.specs.declared.plan.Fate.{Fate}
 use Rattle.sg_plan.specs.declared.plan.Fate.TheVariants as fate
@@ -12,21 +13,23 @@ use Rattle.sg_plan.specs.declared.plan.Mark.{Mark}
 use Rattle.sg_plan.specs.declared.plan.Plan.{Plan}
 use Rattle.sg_streams.specs.Numbers.{numbers_below}
 use Rattle.sg_tables.proofs.Lists.{get_or-map_below}
-use Rattle.sg_tables.specs.Posts.{column_marked, is_void, marked_columns}
+use Rattle.sg_tables.specs.Posts.{column_marked, marked_columns}
 use Rattle.sg_forms.specs.Said.{Said}
-use Rattle.sg_forms.specs.Said.Said.{Audited, Cast, Code, Dispute, Over, Spoiled, Voided}
+use Rattle.sg_forms.specs.Said.Said.{Audited, Cast, Code, Dispute, Spoiled, Voided}
 use Rattle.sg_grammar.specs.Due.{each}
 use Rattle.sg_record.specs.Tree.{as_line, block_tree, cast_leaf, code_commit_leaf, dispute_tree, fate_tree, instance_row_commit_tree, instance_row_tree, race_code_commit_tree, row_commit_leaf, row_leaf}
 use Rattle.sg_record.specs.declared.record.BlockFate.TheVariants as block
 use Rattle.sg_record.specs.declared.record.CastLine.{CastLine}
 use Rattle.sg_record.specs.declared.record.CastLine.TheVariants as cast
 use Rattle.sg_record.specs.inside.Parts.{paper_lines}
-use Rattle.sg_post.specs.Posted.{audited_codes, audited_race_codes, by_entry, by_row, cast_lines, code_commit_of, code_in_row, dispute_of, marked_codes, opened_row, race_cast_lines, race_codes_of, row_commit_of, told_blocks}
-use Rattle.sg_post.specs.inside.Lines.{audited_block, audited_race, cast_block, cast_race, claim_lines, instance_openings, instance_row_commits, marked_code, marked_row_codes, race_commits, row_code, row_codes, told_lines, void_line}
+use Rattle.sg_post.specs.Marks.{is_audit_fate}
+use Rattle.sg_post.specs.Posted.{audited_codes, audited_race_codes, by_entry, by_row, cast_lines, code_commit_of, code_in_row, dispute_of, marked_codes, opened_row, race_cast_lines, race_codes_of, race_notes, row_commit_of, told_blocks}
+use Rattle.sg_post.specs.inside.Lines.{audited_block, audited_race, cast_block, cast_race, claim_lines, fate_race, instance_openings, instance_row_commits, marked_code, marked_row_codes, note_lines, race_commits, row_code, row_codes, told_lines}
 use Rattle.sg_post.specs.declared.story.Claimed.{Claimed}
 use Rattle.sg_post.specs.declared.story.Told.{Told}
-use Rattle.sg_post.proofs.Claims.{PostsNothing}
+use Rattle.sg_post.proofs.Claims.{detail-of, lacks-marks}
 use Rattle.sg_post.proofs.Made.{race-list}
+use Rattle.sg_post.proofs.Notes.{notes-none}
 use Rattle.sg_post.proofs.Numbered.{each-no, flat-numbers, flat-twice, indexed-numbers, map-passing}
 
 -- COMMITMENTS
@@ -67,13 +70,8 @@ cast_race-is : (plan : Plan) (seed : List ℕ) (ballot : ℕ) (what : Fate) (rac
 cast_race-is plan seed ballot what race =
     let line : CastLine → Said = cast_leaf as_line ballot in
     let codes = marked_codes plan seed ballot what race in
-    map-append line (map cast.Code codes) (cond (is_void plan what race) (cast.Over race ∷ []) [])
-    ∙ ap (λ l. l ++ map line (cond (is_void plan what race) (cast.Over race ∷ []) [])) (map-map line cast.Code codes ∙ marked-are plan seed ballot what race)
-    ∙ ap (λ l. marked_row_codes plan seed race (ballot_row plan race ballot) what ++ l) (at_void (is_void plan what race))
-  where
-    at_void : (b : Bool) → map (cast_leaf as_line ballot) (cond b (cast.Over race ∷ []) []) ≡ cond b (Over race ∷ []) []
-    at_void true = refl
-    at_void false = refl
+    map-append line (map cast.Code codes) (race_notes plan ballot what race)
+    ∙ ap (λ l. l ++ map line (race_notes plan ballot what race)) (map-map line cast.Code codes ∙ marked-are plan seed ballot what race)
 
 -- and race by race
 cast_races-are : (plan : Plan) (seed : List ℕ) (ballot : ℕ) (what : Fate) → map (cast_leaf as_line ballot) (cast_lines plan seed ballot what) ≡ each (cast_race plan seed ballot what) 0 (length plan.races)
@@ -107,20 +105,31 @@ audited-codes plan seed ballot =
     map-flat_map Code (audited_race_codes plan seed ballot) (numbers_below (length plan.races)) ∙ flat-numbers (audited_race plan seed ballot) (length plan.races)
 
 pub audited-is : (plan : Plan) (seed : List ℕ) (told : Told) (paper : List (List ℕ)) → told.fate ≡ fate.Audited paper
-    → told_lines plan seed told ≡ audited_block plan seed told.ballot paper
+    → told_lines plan seed told ≡ audited_block plan seed told.ballot told.fate paper
 unfolding told_lines
 audited-is plan seed told paper is =
     ap (λ (f : Fate). flat_map (block_tree as_line plan) (told_blocks plan seed (record told { fate = f }))) is
     ∙ append-nil _
     ∙ ap (λ l. Audited told.ballot ∷ (paper_lines (races_of_ballot plan told.ballot) paper ++ l)) (audited-codes plan seed told.ballot)
+    ∙ ap (λ (f : Fate). audited_block plan seed told.ballot f paper) (sym is)
 
 -- a race that the ballot does not have
-pub cast_race-none : (plan : Plan) (seed : List ℕ) (ballot race : ℕ) (what : Fate) → PostsNothing plan race what → cast_race plan seed ballot what race ≡ []
-cast_race-none plan seed ballot race what nothing =
+cast_race-none : (plan : Plan) (seed : List ℕ) (ballot race : ℕ) (what : Fate) → fate_fits plan ballot what ≡ true → race < length plan.races → ballot_has plan ballot race ≡ false
+    → cast_race plan seed ballot what race ≡ []
+cast_race-none plan seed ballot race what fit within lacks =
     let row = ballot_row plan race ballot in
-    ap (λ l. l ++ void_line plan what race)
-    (each-no (marked_code plan seed race row what) (candidates_of plan race) (λ column. ap (λ (b : Bool). cond b (row_code plan seed race row column) []) (nothing.marks _)))
-    ∙ ap (λ (b : Bool). cond b (Over race ∷ []) []) nothing.void
+    let fits = detail-of plan ballot what fit in
+    ap (λ l. l ++ note_lines plan ballot what race)
+    (each-no (marked_code plan seed race row what) (candidates_of plan race) (λ column. ap (λ (b : Bool). cond b (row_code plan seed race row column) []) (lacks-marks plan ballot race what fits lacks _)))
+    ∙ ap (map (cast_leaf as_line ballot)) (notes-none plan ballot race what fits within lacks)
+
+pub race-none : (plan : Plan) (seed : List ℕ) (ballot race : ℕ) (what : Fate) → fate_fits plan ballot what ≡ true → race < length plan.races → ballot_has plan ballot race ≡ false
+    → fate_race plan seed ballot what race ≡ []
+race-none plan seed ballot race what fit within lacks = at (is_audit_fate what)
+  where
+    at : (b : Bool) → cond b (audited_race plan seed ballot race) (cast_race plan seed ballot what race) ≡ []
+    at true = ap (λ (has : Bool). map Code (cond has (race_codes_of plan seed ballot race) [])) lacks
+    at false = cast_race-none plan seed ballot race what fit within lacks
 
 pub ballots-are : (plan : Plan) (seed : List ℕ) (fates : List Told) → flat_map (block_tree as_line plan) (flat_map (told_blocks plan seed) fates) ≡ flat_map (told_lines plan seed) fates
 unfolding told_lines

@@ -2,8 +2,8 @@
 use Rattle.std.proofs.Common.{◌≡◌, ℕ, ◌<◌, Bool, true, false, not, cond, List, [], ◌∷◌, length, map, None, refl, sym, ◌∙◌, arith}
 use Rattle.std.proofs.lemmas.Bool.{and_parts, true_from_ne_false, true≢false}
 use Rattle.std.specs.List.{list_all}
-use Rattle.sg_lists.proofs.Each.{EachOf, of-append, of-flat, of-map, of-passing, of-range}
-use Rattle.sg_plan.specs.Ballots.{ballot_has, ballot_row, candidates_of, is_over, marks_in, races_of_ballot, votes_of}
+use Rattle.sg_lists.proofs.Each.{EachOf, of-append, of-flat, of-into, of-map, of-passing, of-range}
+use Rattle.sg_plan.specs.Ballots.{ballot_has, ballot_row, candidates_of, is_over, races_of_ballot}
 use Rattle.sg_plan.specs.Fates.{has_mark, mark_fits}
 use Rattle.sg_plan.specs.Limits.{fault_of}
 use Rattle.sg_plan.specs.declared.plan.Fate.TheVariants as fate
@@ -14,19 +14,15 @@ use Rattle.sg_tables.specs.Posts.{column_marked, marked_columns}
 use Rattle.sg_forms.specs.declared.line.CodeLine.{CodeLine}
 use Rattle.sg_record.specs.declared.record.CastLine.{CastLine}
 use Rattle.sg_record.specs.declared.record.CastLine.TheVariants as cast
-use Rattle.sg_post.specs.Posted.{audited_codes, audited_race_codes, cast_lines, code_line_of, marked_codes, race_cast_lines, race_codes_of}
-use Rattle.sg_post.proofs.Claims.{has-within, none_over, unnamed}
+use Rattle.sg_post.specs.Posted.{audited_codes, audited_race_codes, cast_lines, code_line_of, marked_codes, race_cast_lines, race_codes_of, race_notes}
+use Rattle.sg_post.proofs.Claims.{has-within, unnamed}
 use Rattle.sg_post.proofs.MarkedCodes.{shows_mark}
+use Rattle.sg_post.proofs.Notes.{IsNote, notes-are}
 
 -- a ballot has the race of each of its marks
 pub marks-have : (plan : Plan) (ballot race candidate : ℕ) (marks : List Mark) → list_all (mark_fits plan (races_of_ballot plan ballot)) marks ≡ true → has_mark marks race candidate ≡ true → ballot_has plan ballot race ≡ true
 marks-have plan ballot race candidate marks fit found =
     true_from_ne_false (ballot_has plan ballot race) (λ lacks. true≢false (sym found ∙ (unnamed plan ballot race marks fit lacks).0 candidate))
-
--- and each that is over on it
-pub over-has : (plan : Plan) (ballot race : ℕ) (marks : List Mark) → list_all (mark_fits plan (races_of_ballot plan ballot)) marks ≡ true → is_over plan marks race ≡ true → ballot_has plan ballot race ≡ true
-over-has plan ballot race marks fit over =
-    true_from_ne_false (ballot_has plan ballot race) (λ lacks. true≢false (sym over ∙ none_over (votes_of plan race) (marks_in race marks) (unnamed plan ballot race marks fit lacks).1))
 
 -- what holds of the code of each column of each race that the ballot has
 abbrev pub HoldsOfOwn : (CodeLine → Type 0) → Plan → List ℕ → ℕ → Type 0
@@ -42,13 +38,14 @@ race_codes-of Q plan seed ballot race fine holds has =
     (λ column below. holds race column has (has-within plan ballot race fine has) (omega (arith, below))))
 
 pub cast_lines-of : (Q : CastLine → Type 0) (plan : Plan) (seed : List ℕ) (marks : List Mark) (ballot : ℕ) → HoldsOfOwn (λ (code : CodeLine). Q (cast.Code code)) plan seed ballot
-    → ((race : ℕ) → race < length plan.races → is_over plan marks race ≡ true → Q (cast.Over race)) → list_all (mark_fits plan (races_of_ballot plan ballot)) marks ≡ true
+    → ((race : ℕ) (line : CastLine) → race < length plan.races → IsNote plan ballot race (fate.Cast marks) line → Q line) → list_all (mark_fits plan (races_of_ballot plan ballot)) marks ≡ true
     → EachOf Q (cast_lines plan seed ballot (fate.Cast marks))
 unfolding cast_lines numbers_below
-cast_lines-of Q plan seed marks ballot holds over fit =
+cast_lines-of Q plan seed marks ballot holds noted fit =
     of-flat Q (λ race. race < length plan.races) (race_cast_lines plan seed ballot (fate.Cast marks)) (numbers_below (length plan.races))
-    (λ race within. of-append Q (map cast.Code (marked_codes plan seed ballot (fate.Cast marks) race)) (cond (is_over plan marks race) (cast.Over race ∷ []) []) (of_codes race within)
-    (at_over race (is_over plan marks race) refl within)) (of-range (λ race. race < length plan.races) 0 (length plan.races) (λ race within. omega (arith, within)))
+    (λ race within. of-append Q (map cast.Code (marked_codes plan seed ballot (fate.Cast marks) race)) (race_notes plan ballot (fate.Cast marks) race) (of_codes race within)
+    (of-into (IsNote plan ballot race (fate.Cast marks)) Q (race_notes plan ballot (fate.Cast marks) race) (λ line note. noted race line within note) (notes-are plan ballot race marks fit within)))
+    (of-range (λ race. race < length plan.races) 0 (length plan.races) (λ race within. omega (arith, within)))
   where
     of_codes : (race : ℕ) → race < length plan.races → EachOf Q (map cast.Code (marked_codes plan seed ballot (fate.Cast marks) race))
     of_codes race within =
@@ -58,10 +55,6 @@ cast_lines-of Q plan seed marks ballot holds over fit =
         (of-passing (λ column. Q (cast.Code (code_line_of plan seed ballot race column))) (column_marked plan seed race row (fate.Cast marks)) 0 (candidates_of plan race)
         (λ column below counts. holds race column (marks-have plan ballot race _ marks fit (and_parts (shows_mark plan seed marks ballot race column) (not (is_over plan marks race)) counts).0) within
         (omega (arith, below)))))
-
-    at_over : (race : ℕ) (b : Bool) → is_over plan marks race ≡ b → race < length plan.races → EachOf Q (cond b (cast.Over race ∷ []) [])
-    at_over race true is within = (over race within is, tt)
-    at_over race false is within = tt
 
 pub audited_codes-of : (Q : CodeLine → Type 0) (plan : Plan) (seed : List ℕ) (ballot : ℕ) → fault_of plan ≡ None → HoldsOfOwn Q plan seed ballot → EachOf Q (audited_codes plan seed ballot)
 unfolding audited_codes numbers_below

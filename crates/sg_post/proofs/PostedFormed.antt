@@ -4,6 +4,7 @@ use Rattle.std.proofs.lemmas.Bool.{and_from, and_parts, eq-eqb, le-leb, leb-true
 use Rattle.std.proofs.lemmas.List.{length-map}
 use Rattle.std.specs.List.{list_all, range_with_len}
 use Rattle.sg_lists.proofs.Tests.{list_all-range}
+use Rattle.sg_plan.proofs.KeptPlans.{faultless-keeps}
 use Rattle.sg_plan.specs.Ballots.{candidates_of, entries_of}
 use Rattle.sg_plan.specs.Limits.{fault_of, most_claims}
 use Rattle.sg_plan.specs.declared.plan.Draw.{Draw}
@@ -65,7 +66,7 @@ posted-formed plan seed fates draw claims fine fit fits claimed =
     let few = leb-true (length claims) most_claims parts.1 in
     let many : length (map (dispute_of plan seed) claims) ≡ length claims = length-map claims (dispute_of plan seed) in
     rw (
-      fine,
+      faultless-keeps plan fine,
       entries-are plan (code_commit_of plan seed),
       rows-are plan (row_commit_of plan seed),
       fates-blocks plan seed 0 fates fine fit,

@@ -1,5 +1,5 @@
 -- The numbers of the posted record are of their types, so its words are of their kinds.
-use Rattle.std.proofs.Common.{◌≡◌, ℕ, ◌%◌, ◌<◌, ◌≤◌, ◌==◌, nat_lt, ◌&&◌, Bool, true, false, cond, List, [], ◌∷◌, All, length, map, None, sym, subst, arith}
+use Rattle.std.proofs.Common.{◌≡◌, ℕ, ◌%◌, ◌<◌, ◌≤◌, ◌==◌, nat_lt, ◌&&◌, Bool, true, false, cond, List, [], ◌∷◌, All, length, map, Some, None, sym, subst, arith}
 use Rattle.std.proofs.lemmas.Bool.{and_parts}
 use Rattle.std.proofs.lemmas.List.Elements.{All-append, All-cons, All-nil}
 use Rattle.std.proofs.lemmas.List.Sums.{count_by-le-length}
@@ -30,12 +30,15 @@ use Rattle.sg_record.specs.Typed.{AreDigests, AreDrawn, BlockHasKeys, DisputeHas
 use Rattle.sg_record.specs.declared.record.BallotBlock.{BallotBlock}
 use Rattle.sg_record.specs.declared.record.BlockFate.{BlockFate}
 use Rattle.sg_record.specs.declared.record.BlockFate.TheVariants as blocked
+use Rattle.sg_record.specs.declared.record.CastLine.{CastLine}
+use Rattle.sg_record.specs.declared.record.CastLine.TheVariants as cast
 use Rattle.sg_post.specs.Fits.{claim_fits, fates_fit, stage_fits}
 use Rattle.sg_post.specs.Marks.{is_entry_audited, is_place_set, total_of}
 use Rattle.sg_post.specs.Posted.{both_sides, code_commit_of, code_in_row, dispute_of, fate_blocks, one_side, opened_row, posted_record, row_commit_of, seal_1, seal_2, seal_3, told_blocks}
 use Rattle.sg_post.specs.declared.story.Claimed.{Claimed}
 use Rattle.sg_post.specs.declared.story.Told.{Told}
 use Rattle.sg_post.proofs.Bytes.{digest-bytes, key-bytes}
+use Rattle.sg_post.proofs.Notes.{note_race}
 use Rattle.sg_post.proofs.OwnCodes.{HoldsOfOwn, audited_codes-of, cast_lines-of, race_codes-of}
 use Rattle.sg_post.proofs.PostedFormed.{posted-formed}
 use Rattle.sg_plan.specs.Fates.{fate_fits, mark_fits, marks_differ}
@@ -58,12 +61,17 @@ own-key : (plan : Plan) (seed : List ℕ) (ballot : ℕ) → HoldsOfOwn HasKey p
 unfolding code_in_row q_opening_of
 own-key plan seed ballot = λ race column has within below. key-bytes seed (stream_number 5 race 0) (entry_at plan race ballot column)
 
+-- a note has no key
+note-key : (race : ℕ) (line : CastLine) → note_race line ≡ Some race → HasCastKey line
+note-key race (cast.Code code) of = cc
+note-key race line of = tt
+
 fate-keys : (plan : Plan) (seed : List ℕ) (ballot : ℕ) (what : Fate) → fault_of plan ≡ None → fits_ballot plan ballot what
     → All BlockHasKeys (map (λ (w : BlockFate). let one : BallotBlock = record { ballot = ballot; fate = w } in one) (fate_blocks plan seed ballot what))
 fate-keys plan seed ballot fate.Unused fine fit = All-nil BlockHasKeys
 fate-keys plan seed ballot (fate.Cast marks) fine fit =
     let tests = and_parts (list_all (mark_fits plan (races_of_ballot plan ballot)) marks) (marks_differ marks) fit in
-    All-cons BlockHasKeys _ [] (each-all HasCastKey _ (cast_lines-of HasCastKey plan seed marks ballot (own-key plan seed ballot) (λ race within over. tt) tests.0)) (All-nil BlockHasKeys)
+    All-cons BlockHasKeys _ [] (each-all HasCastKey _ (cast_lines-of HasCastKey plan seed marks ballot (own-key plan seed ballot) (λ race line within note. note-key race line note.of) tests.0)) (All-nil BlockHasKeys)
 fate-keys plan seed ballot fate.Spoiled fine fit = All-cons BlockHasKeys _ [] tt (All-nil BlockHasKeys)
 fate-keys plan seed ballot (fate.Audited paper) fine fit =
     All-cons BlockHasKeys _ [] (each-all HasKey _ (audited_codes-of HasKey plan seed ballot fine (own-key plan seed ballot))) (All-nil BlockHasKeys)

@@ -10,7 +10,7 @@ use Rattle.sg_plan.specs.declared.plan.Stage.TheVariants as stage
 use Rattle.sg_record.specs.Formed.{is_draw}
 use Rattle.sg_record.specs.Lines.{stage_lines}
 use Rattle.sg_post.specs.Fits.{claim_fits, fates_fit, stage_fits, story_fits}
-use Rattle.sg_post.specs.Posted.{lines_at, posted_lines, posted_record}
+use Rattle.sg_post.specs.Posted.{lines_at, posted_record}
 use Rattle.sg_post.specs.inside.Ready.{draw_of}
 use Rattle.sg_post.specs.declared.story.Claimed.{Claimed}
 use Rattle.sg_post.specs.declared.story.Story.{Story}
@@ -49,5 +49,5 @@ lines-same plan seed fates claims stage.Closed = refl
 lines-same plan seed fates claims (stage.Drawn draw) = refl
 
 pub story-lines : (plan : Plan) (seed : List ℕ) (story : Story) (draw : Draw) → draw ≡ draw_of story.stage
-    → posted_lines plan seed story ≡ stage_lines story.stage (posted_record plan seed story.fates draw story.claims)
+    → lines_at plan seed story.fates story.claims story.stage ≡ stage_lines story.stage (posted_record plan seed story.fates draw story.claims)
 story-lines plan seed story draw is = rw is (lines-same plan seed story.fates story.claims story.stage)

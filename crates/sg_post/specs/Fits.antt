@@ -24,9 +24,8 @@ claim_fits plan claimed = ballot_has plan claimed.ballot claimed.race && is_code
 
 -- claims stand only once sides are drawn, and are few; public bytes are 1 to 4,096
 abbrev pub stage_fits : Stage → List Claimed → Bool
-stage_fits stage.Voting claims = length claims == 0
-stage_fits stage.Closed claims = length claims == 0
 stage_fits (stage.Drawn draw) claims = is_draw draw && nat_le (length claims) most_claims
+stage_fits other claims = length claims == 0
 
 -- the story may be posted
 abbrev pub story_fits : Plan → Story → Bool

@@ -76,9 +76,13 @@ race_codes_of plan seed ballot race = map (code_line_of plan seed ballot race) (
 abbrev pub marked_codes : Plan → List ℕ → ℕ → Fate → ℕ → List CodeLine
 marked_codes plan seed ballot what race = map (code_line_of plan seed ballot race) (marked_columns plan seed race (ballot_row plan race ballot) what)
 
--- the lines of its block, if it is cast, in a race: the codes that it marks, and that the race is over
+-- what is noted of a race on a ballot with this fate: that it is over, where it is
+unfoldable pub race_notes : Plan → ℕ → Fate → ℕ → List CastLine
+race_notes plan ballot what race = (if is_void plan what race then cast.Over race ∷ [] else [])
+
+-- the lines of its block, if it is cast, in a race: the codes that it marks, and what is noted
 abbrev pub race_cast_lines : Plan → List ℕ → ℕ → Fate → ℕ → List CastLine
-race_cast_lines plan seed ballot what race = map cast.Code (marked_codes plan seed ballot what race) ++ (if is_void plan what race then cast.Over race ∷ [] else [])
+race_cast_lines plan seed ballot what race = map cast.Code (marked_codes plan seed ballot what race) ++ race_notes plan ballot what race
 
 -- race by race
 unfoldable pub cast_lines : Plan → List ℕ → ℕ → Fate → List CastLine
@@ -91,17 +95,13 @@ audited_race_codes plan seed ballot race = (if ballot_has plan ballot race then 
 unfoldable pub audited_codes : Plan → List ℕ → ℕ → List CodeLine
 audited_codes plan seed ballot = flat_map (audited_race_codes plan seed ballot) (numbers_below (length plan.races))
 
--- a voided ballot's block is named so in version 2 alone
-abbrev pub voided_block : Plan → BlockFate
-voided_block plan = (if plan.version == 2 then block.Voided else block.Spoiled)
-
--- the block of a ballot with this fate: none, where it is unused
+-- the block of a ballot with this fate: none, where it is unused. A voided ballot's is named so in version 2 alone
 abbrev pub fate_blocks : Plan → List ℕ → ℕ → Fate → List BlockFate
 fate_blocks plan seed ballot fate.Unused = []
 fate_blocks plan seed ballot (fate.Cast marks) = block.Cast (cast_lines plan seed ballot (fate.Cast marks)) ∷ []
 fate_blocks plan seed ballot fate.Spoiled = block.Spoiled ∷ []
 fate_blocks plan seed ballot (fate.Audited paper) = block.Audited paper (audited_codes plan seed ballot) ∷ []
-fate_blocks plan seed ballot fate.Voided = voided_block plan ∷ []
+fate_blocks plan seed ballot fate.Voided = (if plan.version == 2 then block.Voided else block.Spoiled) ∷ []
 
 abbrev pub told_blocks : Plan → List ℕ → Told → List BallotBlock
 told_blocks plan seed told = map (λ (what : BlockFate). let one : BallotBlock = record { ballot = told.ballot; fate = what } in one) (fate_blocks plan seed told.ballot told.fate)
@@ -196,8 +196,5 @@ lines_at plan seed fates claims stage.Voting = first_lines (posted_record plan s
 lines_at plan seed fates claims stage.Closed = second_lines (posted_record plan seed fates drawn.Full claims)
 lines_at plan seed fates claims (stage.Drawn draw) = lines_in (posted_record plan seed fates draw claims)
 
-abbrev pub posted_lines : Plan → List ℕ → Story → List Said
-posted_lines plan seed story = lines_at plan seed story.fates story.claims story.stage
-
 unfoldable pub posted_text : Plan → List ℕ → Story → List ℕ
-posted_text plan seed story = text_in plan.version (posted_lines plan seed story)
+posted_text plan seed story = text_in plan.version (lines_at plan seed story.fates story.claims story.stage)

@@ -161,7 +161,7 @@ pub fn audited_ballots(
 }
 
 /// The ballot was audited.
-fn is_audit(fate: &Fate) -> bool
+pub fn is_audit(fate: &Fate) -> bool
     ensures { result ≡ is_audit_fate fate.now }
 {
     match fate {

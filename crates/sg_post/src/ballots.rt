@@ -5,12 +5,12 @@ ghost use Rattle.sg_plan.specs.Ballots.{ballots_of, candidates_of, races_of_ball
 ghost use Rattle.sg_plan.specs.Codes.{codes_of};
 ghost use Rattle.sg_plan.specs.Fates.{fate_fits, paper_fits};
 ghost use Rattle.sg_forms.specs.Said.Said.{Spoiled, Voided};
-ghost use Rattle.sg_grammar.specs.Due.{each};
 ghost use Rattle.sg_record.specs.Pens.{Writes};
 ghost use Rattle.sg_post.specs.Fits.{fates_fit};
 ghost use Rattle.sg_post.specs.Posted.{code_in_row};
-ghost use Rattle.sg_post.specs.inside.Lines.{audited_block, audited_race, cast_block, cast_race, marked_code, marked_row_codes, row_code, row_codes, told_lines, void_line};
+ghost use Rattle.sg_post.specs.inside.Lines.{audited_block, cast_block, fate_race, fate_races, marked_code, marked_row_codes, note_lines, row_code, row_codes, told_lines};
 
+use crate::ballot_marks::is_audit;
 use crate::counts::{count_races, has_race, row_in};
 use crate::story::Told;
 use sg_outside::{Failed, Sink};
@@ -119,43 +119,26 @@ fn put_marked_codes<O: Sink>(
     Ok(())
 }
 
-/// Writes that a race is void, where it is on a ballot with this fate.
-fn put_void<O: Sink>(
+/// Writes what is noted of a race on a ballot with this fate.
+fn put_notes<O: Sink>(
     pen: &mut Pen,
     tables: &Tables,
-    fate: &Fate,
+    told: &Told,
     race: u32,
     out: &mut O,
 ) -> Result<(), Failed>
     requires { race < length tables.now.plan.races }
-    ensures { Writes O.written O.faults pen.old out.old pen.new out.new result (void_line tables.now.plan fate.now race) }
+    ensures { Writes O.written O.faults pen.old out.old pen.new out.new result (note_lines tables.now.plan told.now.ballot told.now.fate race) }
 {
-    if !tables.is_void(fate, race) {
+    if !tables.is_void(&told.fate, race) {
         return Ok(());
     }
     pen.put_line(&Line::Over(race), out)
 }
 
-/// Writes what a cast ballot posts in its row of a race.
-fn put_cast_row<O: Sink>(
-    pen: &mut Pen,
-    tables: &Tables,
-    race: u32,
-    row: u32,
-    fate: &Fate,
-    out: &mut O,
-) -> Result<(), Failed>
-    requires version { pen.old.version ≡ tables.now.plan.version }
-    requires race { race < length tables.now.plan.races }
-    requires row { row < rows_of tables.now.plan race }
-    ensures { Writes O.written O.faults pen.old out.old pen.new out.new result (marked_row_codes tables.now.plan tables.now.seed race row fate.now ++ void_line tables.now.plan fate.now race) }
-{
-    put_marked_codes(pen, tables, race, row, fate, out)?;
-    put_void(pen, tables, fate, race, out)
-}
-
-/// Writes what a ballot posts in a race, where it has it.
-fn put_cast_race<O: Sink>(
+/// Writes what a ballot posts in a race, where it has it: all codes where it was audited, else those that it marks, and
+/// what is noted.
+fn put_race<O: Sink>(
     pen: &mut Pen,
     tables: &Tables,
     index: &BallotIndex,
@@ -167,17 +150,21 @@ fn put_cast_race<O: Sink>(
     requires index { index.now ≡ tables.now.plan }
     requires race { race < length tables.now.plan.races }
     requires fits { fate_fits tables.now.plan told.now.ballot told.now.fate ≡ true }
-    ensures { Writes O.written O.faults pen.old out.old pen.new out.new result (cast_race tables.now.plan tables.now.seed told.now.ballot told.now.fate race) }
+    ensures { Writes O.written O.faults pen.old out.old pen.new out.new result (fate_race tables.now.plan tables.now.seed told.now.ballot told.now.fate race) }
 {
     if !has_race(tables, index, told.ballot, race) {
         return Ok(());
     }
     let row = row_in(tables, index, race, told.ballot);
-    put_cast_row(pen, tables, race, row, &told.fate, out)
+    if is_audit(&told.fate) {
+        return put_row_codes(pen, tables, race, row, out);
+    }
+    put_marked_codes(pen, tables, race, row, &told.fate, out)?;
+    put_notes(pen, tables, told, race, out)
 }
 
-/// Writes what a cast ballot posts in all races.
-fn put_cast_races<O: Sink>(
+/// Writes what a ballot posts in all races.
+fn put_races<O: Sink>(
     pen: &mut Pen,
     tables: &Tables,
     index: &BallotIndex,
@@ -187,10 +174,10 @@ fn put_cast_races<O: Sink>(
     requires version { pen.old.version ≡ tables.now.plan.version }
     requires index { index.now ≡ tables.now.plan }
     requires fits { fate_fits tables.now.plan told.now.ballot told.now.fate ≡ true }
-    ensures { Writes O.written O.faults pen.old out.old pen.new out.new result (each (cast_race tables.now.plan tables.now.seed told.now.ballot told.now.fate) 0 (length tables.now.plan.races)) }
+    ensures { Writes O.written O.faults pen.old out.old pen.new out.new result (fate_races tables.now.plan tables.now.seed told.now.ballot told.now.fate) }
 {
     for race in 0..count_races(tables) {
-        put_cast_race(pen, tables, index, told, race, out)?;
+        put_race(pen, tables, index, told, race, out)?;
     }
     Ok(())
 }
@@ -209,46 +196,7 @@ fn put_cast<O: Sink>(
     ensures { Writes O.written O.faults pen.old out.old pen.new out.new result (cast_block tables.now.plan tables.now.seed told.now.ballot told.now.fate) }
 {
     pen.put_line(&Line::Cast(told.ballot), out)?;
-    put_cast_races(pen, tables, index, told, out)
-}
-
-/// Writes the codes of an audited ballot in a race, where it has it.
-fn put_audited_race<O: Sink>(
-    pen: &mut Pen,
-    tables: &Tables,
-    index: &BallotIndex,
-    ballot: u32,
-    race: u32,
-    out: &mut O,
-) -> Result<(), Failed>
-    requires version { pen.old.version ≡ tables.now.plan.version }
-    requires index { index.now ≡ tables.now.plan }
-    requires race { race < length tables.now.plan.races }
-    ensures { Writes O.written O.faults pen.old out.old pen.new out.new result (audited_race tables.now.plan tables.now.seed ballot race) }
-{
-    if !has_race(tables, index, ballot, race) {
-        return Ok(());
-    }
-    let row = row_in(tables, index, race, ballot);
-    put_row_codes(pen, tables, race, row, out)
-}
-
-/// Writes the codes of an audited ballot in all races.
-fn put_audited_races<O: Sink>(
-    pen: &mut Pen,
-    tables: &Tables,
-    index: &BallotIndex,
-    ballot: u32,
-    out: &mut O,
-) -> Result<(), Failed>
-    requires version { pen.old.version ≡ tables.now.plan.version }
-    requires index { index.now ≡ tables.now.plan }
-    ensures { Writes O.written O.faults pen.old out.old pen.new out.new result (each (audited_race tables.now.plan tables.now.seed ballot) 0 (length tables.now.plan.races)) }
-{
-    for race in 0..count_races(tables) {
-        put_audited_race(pen, tables, index, ballot, race, out)?;
-    }
-    Ok(())
+    put_races(pen, tables, index, told, out)
 }
 
 /// Writes the block of an audited ballot: the paper as it was read, and the ballot's codes.
@@ -256,21 +204,22 @@ fn put_audited<O: Sink>(
     pen: &mut Pen,
     tables: &Tables,
     index: &BallotIndex,
-    ballot: u32,
+    told: &Told,
     paper: &Paper,
     out: &mut O,
 ) -> Result<(), Failed>
     requires version { pen.old.version ≡ tables.now.plan.version }
     requires index { index.now ≡ tables.now.plan }
-    requires first { 1 ≤ ballot }
-    requires last { ballot ≤ ballots_of tables.now.plan }
-    requires fits { paper_fits tables.now.plan (races_of_ballot tables.now.plan ballot) paper.now ≡ true }
-    ensures { Writes O.written O.faults pen.old out.old pen.new out.new result (audited_block tables.now.plan tables.now.seed ballot paper.now) }
+    requires first { 1 ≤ told.now.ballot }
+    requires last { told.now.ballot ≤ ballots_of tables.now.plan }
+    requires fits { fate_fits tables.now.plan told.now.ballot told.now.fate ≡ true }
+    requires paper { paper_fits tables.now.plan (races_of_ballot tables.now.plan told.now.ballot) paper.now ≡ true }
+    ensures { Writes O.written O.faults pen.old out.old pen.new out.new result (audited_block tables.now.plan tables.now.seed told.now.ballot told.now.fate paper.now) }
 {
     let _ = count_races(tables);
-    pen.put_line(&Line::Audited(ballot), out)?;
-    put_papers(pen, index.races(ballot), paper, out)?;
-    put_audited_races(pen, tables, index, ballot, out)
+    pen.put_line(&Line::Audited(told.ballot), out)?;
+    put_papers(pen, index.races(told.ballot), paper, out)?;
+    put_races(pen, tables, index, told, out)
 }
 
 /// Writes the block of a voided ballot: in version 1 that of a spoiled one.
@@ -302,7 +251,7 @@ fn put_told<O: Sink>(
         Fate::Unused => Ok(()),
         Fate::Cast(_) => put_cast(pen, tables, index, told, out),
         Fate::Spoiled => pen.put_line(&Line::Spoiled(told.ballot), out),
-        Fate::Audited(paper) => put_audited(pen, tables, index, told.ballot, paper, out),
+        Fate::Audited(paper) => put_audited(pen, tables, index, told, paper, out),
         Fate::Voided => put_voided(pen, tables.plan().version, told.ballot, out),
     }
 }

@@ -4,14 +4,13 @@ ghost use Rattle.sg_plan.specs.Ballots.{entries_of};
 ghost use Rattle.sg_record.specs.Pens.{Writes};
 ghost use Rattle.sg_post.specs.Posted.{code_commit_of, row_commit_of};
 ghost use Rattle.sg_post.specs.inside.Lines.{entry_commit, instance_row_commits, race_commits, row_commit};
-ghost use Rattle.sg_post.specs.inside.Walks.{AreAt};
+ghost use Rattle.sg_post.specs.inside.Walks.{row_walk};
 
 use crate::counts::{count_entries, count_races};
-use crate::walks::RowOpenings;
 use sg_commit::{CommitKind, Digest, commit};
 use sg_outside::{Failed, Sink};
 use sg_record::{Pen, RowCommit, put_code_commit, put_row_commit};
-use sg_tables::{QOpenings, Tables};
+use sg_tables::{QOpenings, RowOpenings, Tables};
 
 /// The commitment to the code of the entry that the walk has come to. The walk then goes on by one.
 #[tactic(auto, unfolding(crate::specs::Posted::code_commit_of))]
@@ -63,11 +62,11 @@ pub fn put_race_commits<O: Sink>(
     Ok(())
 }
 
-/// The commitments to the pointers of the row that the walks have come to. The walks then go on by one.
+/// The commitments to the pointers of the row that the walk has come to. The walk then goes on by one.
 #[tactic(auto, unfolding(crate::specs::Posted::row_commit_of))]
 fn row_commits(
     tables: &Tables,
-    walks: &mut RowOpenings<'_>,
+    walk: &mut RowOpenings<'_>,
     race: u32,
     instance: u32,
     row: u32,
@@ -75,24 +74,23 @@ fn row_commits(
     requires race { race < length tables.now.plan.races }
     requires instance { instance < tables.now.plan.instances }
     requires row { row < entries_of tables.now.plan race }
-    requires walks { AreAt tables.now race instance row walks.old.lefts walks.old.rights }
+    requires walk { walk.old ≡ row_walk tables.now race instance row }
     ensures digests { result ≡ row_commit_of tables.now.plan tables.now.seed race instance row }
-    ensures walks { AreAt tables.now race instance (row + 1) walks.new.lefts walks.new.rights }
+    ensures walk { walk.new ≡ row_walk tables.now race instance (row + 1) }
 {
     let _ = count_races(tables);
-    let left = walks.lefts.next();
-    let right = walks.rights.next();
+    let (left, right) = walk.next();
     RowCommit {
         left: commit(CommitKind::L, race, instance, row, &left),
         right: commit(CommitKind::R, race, instance, row, &right),
     }
 }
 
-/// Writes the commitments to the pointers of the row that the walks have come to. The walks then go on by one.
+/// Writes the commitments to the pointers of the row that the walk has come to. The walk then goes on by one.
 fn put_row<O: Sink>(
     pen: &mut Pen,
     tables: &Tables,
-    walks: &mut RowOpenings<'_>,
+    walk: &mut RowOpenings<'_>,
     race: u32,
     instance: u32,
     row: u32,
@@ -101,11 +99,11 @@ fn put_row<O: Sink>(
     requires race { race < length tables.now.plan.races }
     requires instance { instance < tables.now.plan.instances }
     requires row { row < entries_of tables.now.plan race }
-    requires walks { AreAt tables.now race instance row walks.old.lefts walks.old.rights }
+    requires walk { walk.old ≡ row_walk tables.now race instance row }
     ensures writes { Writes O.written O.faults pen.old out.old pen.new out.new result (row_commit tables.now.plan tables.now.seed race instance row) }
-    ensures walks { AreAt tables.now race instance (row + 1) walks.new.lefts walks.new.rights }
+    ensures walk { walk.new ≡ row_walk tables.now race instance (row + 1) }
 {
-    let digests = row_commits(tables, walks, race, instance, row);
+    let digests = row_commits(tables, walk, race, instance, row);
     put_row_commit(pen, race, instance, &digests, out)
 }
 
@@ -121,9 +119,9 @@ pub fn put_instance_commits<O: Sink>(
     requires instance { instance < tables.now.plan.instances }
     ensures { Writes O.written O.faults pen.old out.old pen.new out.new result (instance_row_commits tables.now.plan tables.now.seed race instance) }
 {
-    let mut walks = RowOpenings::at(tables, race, instance);
+    let mut walk = tables.row_openings(race, instance, 0);
     for row in 0..count_entries(tables, race) {
-        put_row(pen, tables, &mut walks, race, instance, row, out)?;
+        put_row(pen, tables, &mut walk, race, instance, row, out)?;
     }
     Ok(())
 }

@@ -14,7 +14,6 @@ mod poster;
 mod posting;
 mod story;
 mod totals;
-mod walks;
 mod write;
 
 pub use posting::Posting;

@@ -21,23 +21,9 @@ pub fn flag_races(
     let count = count_races(tables);
     let mut flags = Items::with_room(alloc, count as usize)?;
     for race in 0..count {
-        flags.push(flag_race(alloc, tables, race, marks)?)?;
+        flags.push(flag_instances(alloc, tables, race, marks.get(race as usize))?)?;
     }
     Ok(flags)
-}
-
-/// The flags of a race's instances.
-fn flag_race(
-    alloc: Global,
-    tables: &Tables,
-    race: u32,
-    marks: &Items<Items<bool>>,
-) -> Result<Items<Items<bool>>, NoMemory>
-    requires race { race < length tables.now.plan.races }
-    requires marks { HaveEntries tables.now.plan marks.now }
-    ensures { IfOk result (λ flags. flags ≡ race_flags_by tables.now.plan tables.now.seed marks.now race) }
-{
-    flag_instances(alloc, tables, race, marks.get(race as usize))
 }
 
 /// The flags of the instances of a race with these marks.
@@ -93,23 +79,9 @@ pub fn place_races(
     let count = count_races(tables);
     let mut places = Items::with_room(alloc, count as usize)?;
     for race in 0..count {
-        places.push(place_race(alloc, tables, race, marks)?)?;
+        places.push(place_entries(alloc, tables, race, marks.get(race as usize))?)?;
     }
     Ok(places)
-}
-
-/// The places of a race.
-fn place_race(
-    alloc: Global,
-    tables: &Tables,
-    race: u32,
-    marks: &Items<Items<bool>>,
-) -> Result<Items<bool>, NoMemory>
-    requires race { race < length tables.now.plan.races }
-    requires marks { HaveEntries tables.now.plan marks.now }
-    ensures { IfOk result (λ places. places ≡ race_places_by tables.now.plan tables.now.seed marks.now race) }
-{
-    place_entries(alloc, tables, race, marks.get(race as usize))
 }
 
 /// The places to which the marked entries of a race lead.

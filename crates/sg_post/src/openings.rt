@@ -14,12 +14,11 @@ use crate::counts::count_entries;
 use crate::poster::Poster;
 use crate::posting::Posting;
 use crate::story::Story;
-use crate::walks::RowOpenings;
 use sg_outside::{Failed, Sink};
-use sg_plan::Draw;
+use sg_plan::{Draw, Side};
 use sg_record::{Pen, RowOpening, put_row};
 use sg_streams::{Coins, Seed, coin_key};
-use sg_tables::Tables;
+use sg_tables::{RowOpenings, Tables};
 
 /// The seed of the coins: of no use, where each row is opened whole.
 pub fn key_of(draw: &Draw) -> Seed
@@ -45,7 +44,7 @@ fn is_audited(tables: &Tables, posting: &Posting, story: &Story, race: u32, entr
     *posting.audited.get(ballot as usize)
 }
 
-/// Walks over the openings of an instance's rows, and over the coins that say which side is opened.
+/// A walk over the openings of an instance's rows, and one over the coins that say which side is opened.
 #[derive(Drop)]
 struct DrawnRows<'a> {
     openings: RowOpenings<'a>,
@@ -54,6 +53,8 @@ struct DrawnRows<'a> {
 
 /// What is opened of the row that the walks have come to: both sides where each row is opened whole or its entry is of
 /// an audited ballot, else the coin's side. The walks then go on by one.
+///
+/// Both sides are taken, as a block of keys is computed once for many rows.
 #[tactic(auto, unfolding(crate::specs::Posted::opened_row))]
 fn open_row(
     posted: &Poster<'_>,
@@ -67,19 +68,23 @@ fn open_row(
     requires race { race < length posted.now.tables.now.plan.races }
     requires instance { instance < posted.now.tables.now.plan.instances }
     requires row { row < entries_of posted.now.tables.now.plan race }
-    requires walks { AreDrawn posted.now.tables.now posted.now.key.0 race instance row walks.old.openings.lefts walks.old.openings.rights walks.old.coins }
+    requires walks { AreDrawn posted.now.tables.now posted.now.key.0 race instance row walks.old.openings walks.old.coins }
     ensures opening { result ≡ opened_row posted.now.tables.now.plan posted.now.tables.now.seed posted.now.story.now.fates posted.now.draw.now race instance row }
-    ensures walks { AreDrawn posted.now.tables.now posted.now.key.0 race instance (row + 1) walks.new.openings.lefts walks.new.openings.rights walks.new.coins }
+    ensures walks { AreDrawn posted.now.tables.now posted.now.key.0 race instance (row + 1) walks.new.openings walks.new.coins }
 {
     let side = walks.coins.next();
+    let (left, right) = walks.openings.next();
     match posted.draw {
-        Draw::Full => walks.openings.next_both(),
+        Draw::Full => RowOpening::Both(left, right),
         Draw::Public(_) => {
             let (entry, _) = posted.tables.r_row(race, instance, row);
             if is_audited(posted.tables, posted.posting, posted.story, race, entry) {
-                return walks.openings.next_both();
+                return RowOpening::Both(left, right);
             }
-            walks.openings.next_side(side)
+            match side {
+                Side::Left => RowOpening::Left(left),
+                Side::Right => RowOpening::Right(right),
+            }
         }
     }
 }
@@ -99,9 +104,9 @@ fn put_opening<O: Sink>(
     requires race { race < length posted.now.tables.now.plan.races }
     requires instance { instance < posted.now.tables.now.plan.instances }
     requires row { row < entries_of posted.now.tables.now.plan race }
-    requires walks { AreDrawn posted.now.tables.now posted.now.key.0 race instance row walks.old.openings.lefts walks.old.openings.rights walks.old.coins }
+    requires walks { AreDrawn posted.now.tables.now posted.now.key.0 race instance row walks.old.openings walks.old.coins }
     ensures writes { Writes O.written O.faults pen.old out.old pen.new out.new result (row_opening posted.now.tables.now.plan posted.now.tables.now.seed posted.now.story.now.fates posted.now.draw.now race instance row) }
-    ensures walks { AreDrawn posted.now.tables.now posted.now.key.0 race instance (row + 1) walks.new.openings.lefts walks.new.openings.rights walks.new.coins }
+    ensures walks { AreDrawn posted.now.tables.now posted.now.key.0 race instance (row + 1) walks.new.openings walks.new.coins }
 {
     let opening = open_row(posted, walks, race, instance, row);
     put_row(pen, &opening, out)
@@ -122,7 +127,7 @@ pub fn put_instance_rows<O: Sink>(
     ensures { Writes O.written O.faults pen.old out.old pen.new out.new result (instance_openings posted.now.tables.now.plan posted.now.tables.now.seed posted.now.story.now.fates posted.now.draw.now race instance) }
 {
     let mut walks = DrawnRows {
-        openings: RowOpenings::at(posted.tables, race, instance),
+        openings: posted.tables.row_openings(race, instance, 0),
         coins: Coins::at(&posted.key, race, instance, 0),
     };
     for row in 0..count_entries(posted.tables, race) {

@@ -4,7 +4,7 @@ ghost use Rattle.sg_outside.specs.Streams.{seen};
 ghost use Rattle.sg_record.specs.Pens.{IsSealOf, Writes};
 ghost use Rattle.sg_record.specs.Writing.{WriteEnds};
 ghost use Rattle.sg_post.specs.Fits.{story_fits};
-ghost use Rattle.sg_post.specs.Posted.{posted_lines, posted_text};
+ghost use Rattle.sg_post.specs.Posted.{lines_at, posted_text};
 ghost use Rattle.sg_post.specs.Posting.{IsPosting};
 ghost use Rattle.sg_post.specs.inside.Ready.{draw_of};
 
@@ -42,7 +42,7 @@ fn put_story<O: Sink>(
     requires fits { story_fits tables.now.plan story.now ≡ true }
     requires posting { IsPosting tables.now.plan tables.now.seed story.now.fates posting.now }
     requires seal { IsSealOf pen.old.seal [] }
-    ensures { Writes O.written O.faults pen.old out.old pen.new out.new result (posted_lines tables.now.plan tables.now.seed story.now) }
+    ensures { Writes O.written O.faults pen.old out.old pen.new out.new result (lines_at tables.now.plan tables.now.seed story.now.fates story.now.claims story.now.stage) }
 {
     let _ = tables.plan();
     let full = Draw::Full;

@@ -1,8 +1,8 @@
 -- Bits on lines of 64.
-use Rattle.std.proofs.Common.{◌≡◌, ℕ, zero, suc, ◌+◌, ◌-◌, ◌*◌, ◌≤◌, ◌⊎◌, min, Bool, inl, inr, List, [], ◌∷◌, ◌++◌, length, map, take, drop, refl, sym, ap, ◌∙◌, arith}
+use Rattle.std.proofs.Common.{◌≡◌, ℕ, zero, suc, ◌+◌, ◌-◌, ◌*◌, ◌≤◌, ◌⊎◌, min, Bool, inl, inr, List, [], ◌∷◌, ◌++◌, length, map, take, drop, refl, sym, ap, ◌∙◌, arith, ◌<◌, true, false, get_or}
 use Rattle.std.proofs.Math.Seq.{drop-append_seam, take-append_seam}
 use Rattle.std.proofs.lemmas.Bool.{cases_lt}
-use Rattle.std.proofs.lemmas.List.{append-nil, drop-drop, drop_all, length-append, length-drop, length-take, take-append-drop, take_all}
+use Rattle.std.proofs.lemmas.List.{append-nil, drop-drop, drop_all, length-append, length-drop, length-take, take-append-drop, take_all, length-map}
 use Rattle.sg_forms.specs.Said.{Said}
 use Rattle.sg_grammar.specs.Due.{bits_on, each, lines_for, numbered}
 use Rattle.sg_grammar.specs.Placed.{Placed}
@@ -10,6 +10,31 @@ use Rattle.sg_grammar.specs.declared.state.Slot.{Slot}
 use Rattle.sg_record.proofs.Filling.{Each, Spells, spells-change, spells-each, spells-lines}
 use Rattle.sg_record.proofs.SlotLines.{Counts}
 use Rattle.sg_record.specs.Tree.{bit_sign, indexed, signs_on}
+use Rattle.std.proofs.lemmas.List.Elements.{All-map}
+use Rattle.sg_forms.specs.Spelling.{AreFewBits}
+use Rattle.sg_lines.specs.Words.{IsBit}
+
+-- a line of the bits has a first one
+pub on_line : (line bits : ℕ) → line < lines_for bits → 64 * line < bits
+on_line line bits within = omega arith
+
+-- the sign of a bit
+is_sign : (bit : Bool) → IsBit (bit_sign bit)
+is_sign true = inr refl
+is_sign false = inl refl
+
+pub few_bits : (bits : List Bool) → 1 ≤ length bits → length bits ≤ 64 → AreFewBits (map bit_sign bits)
+few_bits bits some most =
+    let same = length-map bits bit_sign in
+    (omega (arith, same), omega (arith, same), (refl, All-map IsBit bit_sign bits (λ k d within. is_sign (get_or bits k d))))
+
+-- no more of them are taken than there are
+pub take_fitting : (n m : ℕ) (bits : List Bool) → m ≡ min n (length bits) → take m bits ≡ take n bits
+take_fitting n m bits e =
+    elim (cases_lt n (length bits)) [
+      | inl more ↦ let same : m ≡ n = omega arith in ap (λ k. take k bits) same
+      | inr few ↦ take_all m bits (omega arith) ∙ sym (take_all n bits few)
+    ]
 
 -- so many pieces of 64, the last one with what is left
 unfoldable pub cut : {A : Type 0} → ℕ → List A → List (List A)

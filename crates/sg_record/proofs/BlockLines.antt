@@ -1,32 +1,109 @@
 -- The papers and codes of audited ballots, and the codes of disputes: their lines are one to one with the lists of a block.
-use Rattle.std.proofs.Common.{◌≡◌, ℕ, zero, suc, ◌+◌, ◌-◌, ◌==◌, Bool, true, false, ◌&&◌, List, [], ◌∷◌, ◌++◌, All, length, take, drop, map, Some, None, refl, sym, ap, ◌∙◌, arith}
+use Rattle.std.proofs.Common.{◌≡◌, ℕ, zero, suc, ◌+◌, ◌-◌, ◌==◌, Bool, true, false, ◌&&◌, List, [], ◌∷◌, ◌++◌, All, length, take, drop, map, Some, None, refl, sym, ap, ◌∙◌, arith, ◌<◌, ◌≤◌, nat_lt, nat_le, not, cond, slice_get, Option}
 use Rattle.std.proofs.Math.Seq.{drop-append_seam, take-append_seam}
-use Rattle.std.proofs.lemmas.Bool.{and_from, and_parts, eq-eqb, eqb-true, lt-ltb}
+use Rattle.std.proofs.lemmas.Bool.{and_from, and_parts, eq-eqb, eqb-true, lt-ltb, leb-true, ltb-true, ne_eqb}
 use Rattle.std.proofs.lemmas.List.{map-append, take-append-drop}
 use Rattle.std.proofs.lemmas.List.Elements.{All-head, All-tail}
 use Rattle.std.proofs.lemmas.List.Folds.{list_all-append}
-use Rattle.std.specs.List.{flat_map, list_all}
-use Rattle.sg_plan.specs.Ballots.{candidates_of, races_of_ballot}
+use Rattle.std.specs.List.{flat_map, list_all, list_any}
+use Rattle.sg_plan.specs.Ballots.{candidates_of, races_of_ballot, ballot_has, races_of_style, style_of_ballot}
 use Rattle.sg_plan.specs.Codes.{codes_of, is_code}
-use Rattle.sg_plan.specs.Limits.{fault_of}
+use Rattle.sg_plan.specs.Limits.{fault_of, each_keeps, rises, style_fits, style_keeps, styles_have}
 use Rattle.sg_plan.specs.declared.plan.Plan.{Plan}
 use Rattle.sg_forms.specs.Said.{Said}
 use Rattle.sg_forms.specs.Said.Said.{Code, Paper}
 use Rattle.sg_forms.specs.Spelling.{IsCode, IsInRange}
 use Rattle.sg_forms.specs.declared.line.CodeLine.{CodeLine}
-use Rattle.sg_grammar.specs.Due.{due_audit, code_line, numbered, race_codes}
+use Rattle.sg_grammar.specs.Due.{due_audit, code_line, numbered, race_codes, each}
 use Rattle.sg_grammar.specs.Placed.{Placed}
 use Rattle.sg_grammar.specs.Placed.Placed.{CodeAt, PaperAt}
 use Rattle.sg_grammar.specs.declared.state.Block.{Block}
 use Rattle.sg_grammar.specs.declared.state.Block.TheVariants as block
 use Rattle.sg_grammar.specs.declared.state.Slot.{Slot}
 use Rattle.sg_grammar.specs.declared.state.Slot.TheVariants as slot
-use Rattle.sg_record.proofs.BallotRaces.{ballot-each}
 use Rattle.sg_record.proofs.EachItem.{Each-from_test, Each-length, test-from_Each}
 use Rattle.sg_record.proofs.Filling.{AreIn, Each, Fills, FillsAs, Found, Spells, fits, passed, spells-change, spells-each, spells-line, spells-lines, spells-pair}
-use Rattle.sg_record.specs.Formed.{are_columns, are_papers, has_columns}
+use Rattle.sg_plan.specs.Fates.{paper_fits}
+use Rattle.sg_record.specs.Formed.{are_columns, has_columns}
 use Rattle.sg_record.specs.Tree.{as_place, code_leaf, indexed, paper_tree}
 use Rattle.sg_record.specs.inside.Parts.{paper_lines}
+use Rattle.std.specs.Option.{option_map_or}
+use Rattle.sg_plan.proofs.LimitLaws.{passes_tests}
+use Rattle.sg_plan.proofs.Lists.{first_fault-None}
+use Rattle.sg_plan.specs.Names.{is_name_word}
+use Rattle.sg_plan.specs.declared.plan.Style.{Style}
+use Rattle.sg_grammar.proofs.Each.{each-empty, each-first, each-skip}
+use Rattle.sg_plan.proofs.FateLists.{has_among}
+
+pub numbered-same : {A : Type 0} (f g : ℕ → List A) (at count : ℕ) → ((k : ℕ) → at ≤ k → f k ≡ g k) → numbered f at count ≡ numbered g at count
+unfolding numbered
+numbered-same f g at zero same = refl
+numbered-same f g at (suc count) same =
+    ap (λ l. l ++ numbered f (at + 1) count) (same at (omega arith)) ∙ ap (λ l. g at ++ l) (numbered-same f g (at + 1) count (λ k after. same k (omega arith)))
+
+-- no rising number is below the least
+rises-none : (least end k : ℕ) (ns : List ℕ) → rises least end ns ≡ true → k < least → list_any (λ n. n == k) ns ≡ false
+rises-none least end k [] rise below = refl
+rises-none least end k (n ∷ ns) rise below =
+    let parts = and_parts (nat_le least n && nat_lt n end) (rises (n + 1) end ns) rise in
+    let first = leb-true least n (and_parts (nat_le least n) (nat_lt n end) parts.0).0 in
+    rw (ne_eqb n k (λ e. omega (arith, first, e)), rises-none (n + 1) end k ns parts.1 (omega (arith, first))) refl
+
+-- the list of a number that is among these
+among : {A : Type 0} → (ℕ → List A) → List ℕ → ℕ → List A
+among f races race = cond (list_any (λ r. r == race) races) (f race) []
+
+-- behind the first of them the others count
+among-behind : {A : Type 0} (f : ℕ → List A) (first : ℕ) (races : List ℕ) (k : ℕ) → first + 1 ≤ k → among f (first ∷ races) k ≡ among f races k
+unfolding among
+among-behind f first races k after = rw (ne_eqb first k (λ e. omega (arith, e))) refl
+
+among-rise : {A : Type 0} (f : ℕ → List A) (races : List ℕ) (at end : ℕ) → rises at end races ≡ true → numbered (among f races) at (end - at) ≡ flat_map f races
+unfolding among
+among-rise f [] at end rise = each-empty (among f []) at (end - at) end refl (λ k after before. refl)
+among-rise f (race ∷ races) at end rise =
+    let parts = and_parts (nat_le at race && nat_lt race end) (rises (race + 1) end races) rise in
+    let within = and_parts (nat_le at race) (nat_lt race end) parts.0 in
+    let low = leb-true at race within.0 in
+    let high = ltb-true race end within.1 in
+    let skip : numbered (among f (race ∷ races)) at (end - at) ≡ numbered (among f (race ∷ races)) race (end - race)
+    = each-skip (among f (race ∷ races)) at (race - at) race end (omega (arith, low)) (omega (arith, high))
+    (λ k after before. rw (ne_eqb race k (λ e. omega (arith, e)), rises-none (race + 1) end k races parts.1 (omega arith)) refl) in
+    let here : among f (race ∷ races) race ≡ f race = rw (eq-eqb race race refl) refl in
+    let rest : numbered (among f (race ∷ races)) (race + 1) (end - (race + 1)) ≡ flat_map f races
+    = numbered-same (among f (race ∷ races)) (among f races) (race + 1) (end - (race + 1)) (among-behind f race races) ∙ among-rise f races (race + 1) end parts.1 in
+    skip ∙ (each-first (among f (race ∷ races)) race end high
+    ∙ (ap (λ l. l ++ numbered (among f (race ∷ races)) (race + 1) (end - (race + 1))) here ∙ ap (λ l. f race ++ l) rest))
+
+-- the races of a style rise
+style_rises : (end : ℕ) (earlier styles : List Style) (k : ℕ) → each_keeps (style_fits end) earlier styles ≡ true
+    → rises 0 end (option_map_or (λ (s : Style). s.races) (slice_get styles k) []) ≡ true
+style_rises end earlier [] k kept = refl
+style_rises end earlier (style ∷ styles) zero kept =
+    let fits = and_parts (style_fits end earlier style) (each_keeps (style_fits end) (earlier ++ style ∷ []) styles) kept in
+    let keeps = and_parts (nat_lt (length earlier) 32) (style_keeps end earlier style) fits.0 in
+    let sides = and_parts (is_name_word style.name && not (styles_have earlier style.name)) (nat_le 1 (length style.races) && rises 0 end style.races) keeps.1 in
+    (and_parts (nat_le 1 (length style.races)) (rises 0 end style.races) sides.1).1
+style_rises end earlier (style ∷ styles) (suc k) kept =
+    style_rises end (earlier ++ style ∷ []) styles k (and_parts (style_fits end earlier style) (each_keeps (style_fits end) (earlier ++ style ∷ []) styles) kept).1
+
+-- and so do those of a ballot
+ballot_rises : (plan : Plan) (ballot : ℕ) → fault_of plan ≡ None → rises 0 (length plan.races) (races_of_ballot plan ballot) ≡ true
+ballot_rises plan ballot fine = at_style (style_of_ballot plan ballot)
+  where
+    at_style : (o : Option ℕ) → rises 0 (length plan.races) (option_map_or (races_of_style plan) o []) ≡ true
+    at_style None = refl
+    at_style (Some style) =
+        style_rises (length plan.races) [] plan.styles style (first_fault-None (style_fits (length plan.races)) plan.styles (passes_tests plan fine).styles).1
+
+-- what each race that a ballot has gives, race by race
+pub ballot-each : {A : Type 0} (plan : Plan) (ballot : ℕ) (f : ℕ → List A) → fault_of plan ≡ None
+    → each (λ race. cond (ballot_has plan ballot race) (f race) []) 0 (length plan.races) ≡ flat_map f (races_of_ballot plan ballot)
+unfolding among
+ballot-each plan ballot f fine =
+    numbered-same (λ race. cond (ballot_has plan ballot race) (f race) []) (among f (races_of_ballot plan ballot)) 0 (length plan.races - 0)
+    (λ race after. ap (λ b. cond b (f race) []) (has_among plan ballot race))
+    ∙ among-rise f (races_of_ballot plan ballot) 0 (length plan.races) (ballot_rises plan ballot fine)
 
 -- THE CODES OF A RACE
 
@@ -160,14 +237,14 @@ races-spells plan kind ballot (race ∷ races) =
 unfoldable pub paper_slots : Plan → ℕ → List ℕ → List Slot
 paper_slots plan ballot races = flat_map (λ race. slot.Paper ballot race (candidates_of plan race) ∷ []) races
 
-papers-as : (plan : Plan) (ballot : ℕ) (races : List ℕ) (papers : List (List ℕ)) → are_papers plan races papers ≡ true
+papers-as : (plan : Plan) (ballot : ℕ) (races : List ℕ) (papers : List (List ℕ)) → paper_fits plan races papers ≡ true
     → FillsAs (paper_slots plan ballot races) (paper_lines races papers) (paper_tree as_place ballot races papers)
 unfolding paper_slots
 papers-as plan ballot [] [] passes = tt
 papers-as plan ballot [] (list ∷ papers) passes = cc
 papers-as plan ballot (race ∷ races) [] passes = cc
 papers-as plan ballot (race ∷ races) (list ∷ papers) passes =
-    let parts = and_parts (length list == candidates_of plan race && list_all (is_code plan) list) (are_papers plan races papers) passes in
+    let parts = and_parts (length list == candidates_of plan race && list_all (is_code plan) list) (paper_fits plan races papers) passes in
     let tests = and_parts (length list == candidates_of plan race) (list_all (is_code plan) list) parts.0 in
     (rw (eq-eqb race race refl, tests.0) refl, papers-as plan ballot races papers parts.1)
 
@@ -178,7 +255,7 @@ are_codes plan (code ∷ list) all =
     (are_codes plan list (All-tail (IsCode plan.version) code list all))
 
 papers-back : (plan : Plan) (ballot : ℕ) (races : List ℕ) (lines : List Said) → Fills (paper_slots plan ballot races) lines → AreIn plan.version lines
-    → Found (λ (papers : List (List ℕ)). are_papers plan races papers ≡ true) (paper_lines races) lines
+    → Found (λ (papers : List (List ℕ)). paper_fits plan races papers ≡ true) (paper_lines races) lines
 unfolding paper_slots
 papers-back plan ballot [] [] fills all = record { item = []; passes = refl; is = refl }
 papers-back plan ballot [] (said ∷ lines) fills all = absurd fills
@@ -190,7 +267,7 @@ papers-back plan ballot (race ∷ races) (Paper named list ∷ lines) fills all 
     let same : named ≡ race = eqb-true named race tests.0 in
     record {
       item = list ∷ rest.item;
-      passes = and_from (length list == candidates_of plan race && list_all (is_code plan) list) (are_papers plan races rest.item)
+      passes = and_from (length list == candidates_of plan race && list_all (is_code plan) list) (paper_fits plan races rest.item)
           (and_from (length list == candidates_of plan race) (list_all (is_code plan) list) tests.1 (are_codes plan list all.0.1)) rest.passes;
       is = ap (λ r. Paper r list ∷ lines) same ∙ ap (λ l. Paper race list ∷ l) rest.is;
     }
@@ -199,7 +276,7 @@ papers-back plan ballot (race ∷ races) (said ∷ lines) fills all = absurd (no
     no_paper : false ≡ true → ⊥
     no_paper e = cc
 
-papers-one : (plan : Plan) (races : List ℕ) (xs ys : List (List ℕ)) → are_papers plan races xs ≡ true → are_papers plan races ys ≡ true → paper_lines races xs ≡ paper_lines races ys → xs ≡ ys
+papers-one : (plan : Plan) (races : List ℕ) (xs ys : List (List ℕ)) → paper_fits plan races xs ≡ true → paper_fits plan races ys ≡ true → paper_lines races xs ≡ paper_lines races ys → xs ≡ ys
 papers-one plan [] [] [] p q same = refl
 papers-one plan [] (x ∷ xs) ys p q same = cc
 papers-one plan [] [] (y ∷ ys) p q same = cc
@@ -208,12 +285,12 @@ papers-one plan (race ∷ races) (x ∷ xs) [] p q same = cc
 papers-one plan (race ∷ races) (x ∷ xs) (y ∷ ys) p q same =
     let first : x ≡ y = cc in
     let others : paper_lines races xs ≡ paper_lines races ys = cc in
-    let some = and_parts (length x == candidates_of plan race && list_all (is_code plan) x) (are_papers plan races xs) p in
-    let more = and_parts (length y == candidates_of plan race && list_all (is_code plan) y) (are_papers plan races ys) q in
+    let some = and_parts (length x == candidates_of plan race && list_all (is_code plan) x) (paper_fits plan races xs) p in
+    let more = and_parts (length y == candidates_of plan race && list_all (is_code plan) y) (paper_fits plan races ys) q in
     ap (λ z. z ∷ xs) first ∙ ap (λ l. y ∷ l) (papers-one plan races xs ys some.1 more.1 others)
 
 pub papers-spells : (plan : Plan) (ballot : ℕ) (races : List ℕ)
-    → Spells plan.version (λ (papers : List (List ℕ)). are_papers plan races papers ≡ true) (paper_lines races) (paper_tree as_place ballot races) (paper_slots plan ballot races)
+    → Spells plan.version (λ (papers : List (List ℕ)). paper_fits plan races papers ≡ true) (paper_lines races) (paper_tree as_place ballot races) (paper_slots plan ballot races)
 papers-spells plan ballot races = record { out = papers-as plan ballot races; back = papers-back plan ballot races; one = papers-one plan races }
 
 -- AN AUDITED BALLOT
@@ -223,7 +300,7 @@ abbrev pub Audit : Type 0
 Audit = List (List ℕ) × List CodeLine
 
 abbrev pub IsAudit : Plan → ℕ → Audit → Type 0
-IsAudit plan ballot a = (are_papers plan (races_of_ballot plan ballot) a.0 ≡ true) × AreColumns plan (races_of_ballot plan ballot) a.1
+IsAudit plan ballot a = (paper_fits plan (races_of_ballot plan ballot) a.0 ≡ true) × AreColumns plan (races_of_ballot plan ballot) a.1
 
 abbrev pub audit_lines : Plan → ℕ → Audit → List Said
 audit_lines plan ballot a = paper_lines (races_of_ballot plan ballot) a.0 ++ map Code a.1
@@ -244,7 +321,7 @@ audit-due plan ballot fine =
 pub due_audit-spells : (plan : Plan) (ballot : ℕ) → fault_of plan ≡ None → Spells plan.version (IsAudit plan ballot) (audit_lines plan ballot) (audit_places plan ballot) (due_audit plan ballot)
 due_audit-spells plan ballot fine =
     rw (audit-due plan ballot fine)
-    (spells-pair plan.version (λ (papers : List (List ℕ)). are_papers plan (races_of_ballot plan ballot) papers ≡ true) (AreColumns plan (races_of_ballot plan ballot))
+    (spells-pair plan.version (λ (papers : List (List ℕ)). paper_fits plan (races_of_ballot plan ballot) papers ≡ true) (AreColumns plan (races_of_ballot plan ballot))
     (paper_lines (races_of_ballot plan ballot)) (map Code) (paper_tree as_place ballot (races_of_ballot plan ballot)) (map (code_leaf as_place block.Audited ballot))
     (paper_slots plan ballot (races_of_ballot plan ballot)) (audit_codes plan ballot)
     (papers-spells plan ballot (races_of_ballot plan ballot)) (races-spells plan block.Audited ballot (races_of_ballot plan ballot)))

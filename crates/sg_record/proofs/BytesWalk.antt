@@ -1,5 +1,5 @@
 -- A walk over bytes is one over the lines that they spell.
-use Rattle.std.proofs.Common.{◌≡◌, ℕ, ◌+◌, ◌-◌, ◌*◌, Bool, true, false, ◌&&◌, ◌==◌, nat_le, nat_lt, cond, List, [], ◌∷◌, All, length, map, Some, refl, sym, subst, ap, ◌∙◌}
+use Rattle.std.proofs.Common.{◌≡◌, ℕ, ◌+◌, ◌-◌, ◌*◌, Bool, true, false, ◌&&◌, ◌==◌, nat_le, nat_lt, cond, List, [], ◌∷◌, All, length, map, Some, refl, sym, subst, ap, ◌∙◌, Option, None, is_some}
 use Rattle.std.proofs.lemmas.Option.{same_Some}
 use Rattle.std.proofs.lemmas.List.Elements.{All-cons, All-head, All-nil, All-tail}
 use Rattle.sg_lists.proofs.Options.{cond_some-then, option_map-some}
@@ -10,16 +10,15 @@ use Rattle.sg_plan.specs.declared.plan.Plan.{Plan}
 use Rattle.sg_forms.proofs.LineLaws.{lines_are_read, lines_are_spelled}
 use Rattle.sg_forms.specs.Reading.{line_of}
 use Rattle.sg_forms.specs.Said.{Said}
-use Rattle.sg_forms.specs.Said.Said.{Audited, Ballots, Cand, Cast, Code, CodeCommit, Dispute, DrawFull, DrawPublic, Election, Flags, Instances, Over, Paper, Places, Race, Row, RowCommit, Seal, Spoiled, Style, Total, Version, Voided}
+use Rattle.sg_forms.specs.Said.Said.{Audited, Ballots, Cand, Cast, Code, CodeCommit, Dispute, DrawFull, DrawPublic, Election, Flags, Instances, Paper, Places, Race, Row, RowCommit, Seal, Spoiled, Style, Total, Version, Voided}
 use Rattle.sg_forms.specs.Spelling.{IsInRange, spelling}
 use Rattle.sg_grammar.proofs.Claims.{if_then-claim}
 use Rattle.sg_grammar.proofs.FirstLines.{take_bytes-line, walk-first, walk-none}
 use Rattle.sg_grammar.specs.Due.{due_audit, commits, race_codes, results}
 use Rattle.sg_grammar.specs.Head.{Making, behind_candidate, head_line, last_candidates, made, no_plan, take_run, take_style, with_cand, with_instances, with_name, with_race, with_run, with_style, with_version}
 use Rattle.sg_grammar.specs.Placed.{Placed}
-use Rattle.sg_grammar.specs.Placed.Placed.{Begun, CodeAt, CodeCommitAt, Disputed, DrawnFull, DrawnPublic, FlagsAt, OfPlan, OverAt, PaperAt, PlacesAt, RowAt, RowCommitAt, SealAt, TotalAt}
-use Rattle.sg_grammar.specs.Walk.{Next, Taken, Walked, after_block, after_dispute, after_run, behind, body_line, first_taken, headed, in_cast, in_head, follows_in_order, is_column, is_later, is_race_left, place, start, take_at, take_bytes, take_line, taking, took, walk, walked_on}
-use Rattle.sg_grammar.specs.declared.state.Block.{Block}
+use Rattle.sg_grammar.specs.Placed.Placed.{Begun, CodeAt, CodeCommitAt, Disputed, DrawnFull, DrawnPublic, FlagsAt, OfPlan, PaperAt, PlacesAt, RowAt, RowCommitAt, SealAt, TotalAt}
+use Rattle.sg_grammar.specs.Walk.{Next, Taken, Walked, after_block, after_dispute, after_run, behind, body_line, first_taken, headed, in_cast, in_head, is_later, place, start, take_at, take_bytes, take_line, taking, took, walk, walked_on}
 use Rattle.sg_grammar.specs.declared.state.Block.TheVariants as block
 use Rattle.sg_grammar.specs.declared.state.Head.{Head}
 use Rattle.sg_grammar.specs.declared.state.Head.TheVariants as head
@@ -27,8 +26,12 @@ use Rattle.sg_grammar.specs.declared.state.Part.{Part}
 use Rattle.sg_grammar.specs.declared.state.Part.TheVariants as part
 use Rattle.sg_grammar.specs.declared.state.Slot.{Slot}
 use Rattle.sg_grammar.specs.declared.state.Slot.TheVariants as slot
+use Rattle.sg_record.proofs.CastLines.{cast-other, cast_of, cast_of-is, in_cast-line, may_stand, taken_of}
 use Rattle.sg_record.proofs.Filling.{AreIn}
 use Rattle.sg_record.proofs.SaidWalk.{Goes}
+use Rattle.sg_record.specs.Tree.{cast_place}
+use Rattle.sg_record.specs.declared.record.CastLine.{CastLine}
+use Rattle.sg_record.specs.declared.record.CastLine.TheVariants as cast
 
 -- THE VERSION STAYS
 
@@ -53,62 +56,19 @@ IsBody line = Unit {0}
 abbrev pub IsBehind : Plan → Taken → Type 0
 IsBehind plan taken = (taken.next.plan ≡ plan) × (taken.next.head ≡ head.Whole) × IsBody taken.placed
 
-code_commit-body : (race entry : ℕ) (said : Said) (line : Placed) → place (slot.CodeCommit race entry) said ≡ Some line → IsBody line
-code_commit-body race entry (CodeCommit named digest) line e = if_then-claim IsBody (named == race) (CodeCommitAt race entry digest) line (λ ok. tt) e
-code_commit-body race entry said line e = cc
-
-row_commit-body : (race instance at : ℕ) (said : Said) (line : Placed) → place (slot.RowCommit race instance at) said ≡ Some line → IsBody line
-row_commit-body race instance at (RowCommit named of left right) line e =
-    if_then-claim IsBody (named == race && of == instance) (RowCommitAt race instance at left right) line (λ ok. tt) e
-row_commit-body race instance at said line e = cc
-
-seal-body : (number : ℕ) (said : Said) (line : Placed) → place (slot.Seal number) said ≡ Some line → IsBody line
-seal-body number (Seal named digest) line e = if_then-claim IsBody (named == number) (SealAt number digest) line (λ ok. tt) e
-seal-body number said line e = cc
-
-paper-body : (ballot race count : ℕ) (said : Said) (line : Placed) → place (slot.Paper ballot race count) said ≡ Some line → IsBody line
-paper-body ballot race count (Paper named list) line e = if_then-claim IsBody (named == race && length list == count) (PaperAt ballot race list) line (λ ok. tt) e
-paper-body ballot race count said line e = cc
-
-code-body : (kind : Block) (ballot race column : ℕ) (said : Said) (line : Placed) → place (slot.Code kind ballot race column) said ≡ Some line → IsBody line
-code-body kind ballot race column (Code code) line e =
-    if_then-claim IsBody (code.race == race && code.column == column) (CodeAt kind ballot race column code) line (λ ok. tt) e
-code-body kind ballot race column said line e = cc
-
-flags-body : (race instance number count : ℕ) (said : Said) (line : Placed) → place (slot.Flags race instance number count) said ≡ Some line → IsBody line
-flags-body race instance number count (Flags named of bits) line e =
-    if_then-claim IsBody ((named == race && of == instance) && length bits == count) (FlagsAt race instance (64 * number) bits) line (λ ok. tt) e
-flags-body race instance number count said line e = cc
-
-places-body : (race number count : ℕ) (said : Said) (line : Placed) → place (slot.Places race number count) said ≡ Some line → IsBody line
-places-body race number count (Places named bits) line e =
-    if_then-claim IsBody (named == race && length bits == count) (PlacesAt race (64 * number) bits) line (λ ok. tt) e
-places-body race number count said line e = cc
-
-total-body : (race candidate : ℕ) (said : Said) (line : Placed) → place (slot.Total race candidate) said ≡ Some line → IsBody line
-total-body race candidate (Total named of count) line e = if_then-claim IsBody (named == race && of == candidate) (TotalAt race candidate count) line (λ ok. tt) e
-total-body race candidate said line e = cc
-
-draw-body : (said : Said) (line : Placed) → place slot.Draw said ≡ Some line → IsBody line
-draw-body DrawFull line e = subst IsBody (same_Some DrawnFull line e) tt
-draw-body (DrawPublic digits) line e = subst IsBody (same_Some (DrawnPublic digits) line e) tt
-draw-body said line e = cc
-
-row-body : (race instance at : ℕ) (said : Said) (line : Placed) → place (slot.Row race instance at) said ≡ Some line → IsBody line
-row-body race instance at (Row opening) line e = subst IsBody (same_Some (RowAt race instance at opening) line e) tt
-row-body race instance at said line e = cc
-
 slot-body : (first : Slot) (said : Said) (line : Placed) → place first said ≡ Some line → IsBody line
-slot-body (slot.CodeCommit race entry) said line e = code_commit-body race entry said line e
-slot-body (slot.RowCommit race instance at) said line e = row_commit-body race instance at said line e
-slot-body (slot.Seal number) said line e = seal-body number said line e
-slot-body (slot.Paper ballot race count) said line e = paper-body ballot race count said line e
-slot-body (slot.Code kind ballot race column) said line e = code-body kind ballot race column said line e
-slot-body (slot.Flags race instance number count) said line e = flags-body race instance number count said line e
-slot-body (slot.Places race number count) said line e = places-body race number count said line e
-slot-body (slot.Total race candidate) said line e = total-body race candidate said line e
-slot-body slot.Draw said line e = draw-body said line e
-slot-body (slot.Row race instance at) said line e = row-body race instance at said line e
+slot-body (slot.CodeCommit race entry) (CodeCommit named digest) line e = if_then-claim IsBody (named == race) (CodeCommitAt race entry digest) line (λ ok. tt) e
+slot-body (slot.RowCommit race instance at) (RowCommit named of left right) line e = if_then-claim IsBody (named == race && of == instance) (RowCommitAt race instance at left right) line (λ ok. tt) e
+slot-body (slot.Seal number) (Seal named digest) line e = if_then-claim IsBody (named == number) (SealAt number digest) line (λ ok. tt) e
+slot-body (slot.Paper ballot race count) (Paper named list) line e = if_then-claim IsBody (named == race && length list == count) (PaperAt ballot race list) line (λ ok. tt) e
+slot-body (slot.Code kind ballot race column) (Code code) line e = if_then-claim IsBody (code.race == race && code.column == column) (CodeAt kind ballot race column code) line (λ ok. tt) e
+slot-body (slot.Flags race instance number count) (Flags named of bits) line e = if_then-claim IsBody ((named == race && of == instance) && length bits == count) (FlagsAt race instance (64 * number) bits) line (λ ok. tt) e
+slot-body (slot.Places race number count) (Places named bits) line e = if_then-claim IsBody (named == race && length bits == count) (PlacesAt race (64 * number) bits) line (λ ok. tt) e
+slot-body (slot.Total race candidate) (Total named of count) line e = if_then-claim IsBody (named == race && of == candidate) (TotalAt race candidate count) line (λ ok. tt) e
+slot-body slot.Draw DrawFull line e = subst IsBody (same_Some DrawnFull line e) tt
+slot-body slot.Draw (DrawPublic digits) line e = subst IsBody (same_Some (DrawnPublic digits) line e) tt
+slot-body (slot.Row race instance at) (Row opening) line e = subst IsBody (same_Some (RowAt race instance at opening) line e) tt
+slot-body first said line e = cc
 
 slot-behind : (plan : Plan) (first : Slot) (due : List Slot) (may_begin : Part) (said : Said) (t : Taken) → taking plan due may_begin (place first said) ≡ Some t → IsBehind plan t
 slot-behind plan first due may_begin said t e =
@@ -128,13 +88,18 @@ after_block-behind plan last (Voided ballot) t e =
     if_then-claim (IsBehind plan) (plan.version == 2 && is_later plan last ballot) (took (Begun ballot) (behind plan [] (part.Ballots ballot))) t (λ ok. (refl, refl, tt)) e
 after_block-behind plan last said t e = first_taken-behind plan (results plan) said t e
 
+cast-body : (ballot : ℕ) (line : CastLine) → IsBody (cast_place ballot line)
+cast-body ballot (cast.Code code) = tt
+cast-body ballot line = tt
+
 in_cast-behind : (plan : Plan) (ballot race column : ℕ) (said : Said) (t : Taken) → in_cast plan ballot race column said ≡ Some t → IsBehind plan t
-in_cast-behind plan ballot race column (Code code) t e =
-    if_then-claim (IsBehind plan) (is_column plan ballot code.race code.column && follows_in_order race column code.race code.column)
-    (took (CodeAt block.Cast ballot code.race code.column code) (behind plan [] (part.Cast ballot code.race (code.column + 1)))) t (λ ok. (refl, refl, tt)) e
-in_cast-behind plan ballot race column (Over next) t e =
-    if_then-claim (IsBehind plan) (is_race_left plan ballot race next) (took (OverAt ballot next) (behind plan [] (part.Cast ballot (next + 1) 0))) t (λ ok. (refl, refl, tt)) e
-in_cast-behind plan ballot race column said t e = after_block-behind plan ballot said t e
+in_cast-behind plan ballot race column said t e = by_line (cast_of said) refl
+  where
+    by_line : (o : Option CastLine) → cast_of said ≡ o → IsBehind plan t
+    by_line None is = after_block-behind plan ballot said t (sym (cast-other plan ballot race column said (ap is_some is)) ∙ e)
+    by_line (Some line) is =
+        if_then-claim (IsBehind plan) (may_stand plan ballot race column line) (taken_of plan ballot line) t (λ ok. (refl, refl, cast-body ballot line))
+        (sym (in_cast-line plan ballot race column line) ∙ (ap (in_cast plan ballot race column) (sym (cast_of-is said line is)) ∙ e))
 
 after_dispute-behind : (plan : Plan) (count : ℕ) (said : Said) (t : Taken) → after_dispute plan count said ≡ Some t → IsBehind plan t
 after_dispute-behind plan count (Dispute ballot race code word) t e =

@@ -4,10 +4,10 @@ use Rattle.std.proofs.lemmas.Bool.{and_parts, eqb-true}
 use Rattle.std.proofs.lemmas.Option.{get_or_from_slice_get}
 use Rattle.std.specs.List.{list_all}
 use Rattle.std.specs.Option.{is_none}
-use Rattle.sg_lists.proofs.Options.{is_none-true}
+use Rattle.sg_plan.proofs.KeptPlans.{keeps-faultless}
 use Rattle.sg_plan.proofs.PlanLaws.{bounds}
 use Rattle.sg_plan.specs.Ballots.{candidates_of, entries_of}
-use Rattle.sg_plan.specs.Limits.{fault_of, most_claims}
+use Rattle.sg_plan.specs.Limits.{fault_of, most_claims, plan_keeps}
 use Rattle.sg_plan.specs.declared.plan.Plan.{Plan}
 use Rattle.sg_record.specs.Formed.{are_blocks, each_passes, has_candidates, has_entries, has_rows, is_dispute, is_draw, is_formed}
 use Rattle.sg_record.specs.inside.Parts.{HasRaces}
@@ -38,8 +38,8 @@ formed_parts posted e =
     let behind_blocks = has_rows plan posted.flags && behind_flags in
     let behind_commits = are_blocks plan 0 posted.ballots && behind_blocks in
     let behind_codes = has_rows plan posted.row_commits && behind_commits in
-    let whole = and_parts (is_none (fault_of plan) && length posted.seals == 3) (has_entries plan posted.code_commits && behind_codes) e in
-    let limits = and_parts (is_none (fault_of plan)) (length posted.seals == 3) whole.0 in
+    let whole = and_parts (plan_keeps plan && length posted.seals == 3) (has_entries plan posted.code_commits && behind_codes) e in
+    let limits = and_parts (plan_keeps plan) (length posted.seals == 3) whole.0 in
     let codes = and_parts (has_entries plan posted.code_commits) behind_codes whole.1 in
     let commits = and_parts (has_rows plan posted.row_commits) behind_commits codes.1 in
     let blocks = and_parts (are_blocks plan 0 posted.ballots) behind_blocks commits.1 in
@@ -50,7 +50,7 @@ formed_parts posted e =
     let rows = and_parts (has_rows plan posted.rows) behind_rows draw.1 in
     let disputes = and_parts (nat_le (length posted.disputes) most_claims) (list_all (is_dispute plan) posted.disputes) rows.1 in
     record {
-      plan = is_none-true (fault_of plan) limits.0;
+      plan = keeps-faultless plan limits.0;
       code_commits = codes.0;
       row_commits = commits.0;
       blocks = blocks.0;

@@ -3,10 +3,10 @@ use Rattle.std.proofs.Common.{◌≡◌, ℕ, ◌-◌, ◌≤◌, ◌==◌, nat_
 use Rattle.std.proofs.lemmas.Bool.{and_from, and_parts, eq-eqb, eqb-true, le-leb, leb-true}
 use Rattle.std.specs.List.{list_all}
 use Rattle.std.specs.Option.{is_none}
-use Rattle.sg_lists.proofs.Options.{is_none-true}
+use Rattle.sg_plan.proofs.KeptPlans.{faultless-keeps, keeps-faultless}
 use Rattle.sg_commit.specs.declared.Digest.{Digest}
 use Rattle.sg_plan.specs.Ballots.{candidates_of, entries_of}
-use Rattle.sg_plan.specs.Limits.{fault_of, most_claims}
+use Rattle.sg_plan.specs.Limits.{fault_of, most_claims, plan_keeps}
 use Rattle.sg_plan.specs.declared.plan.Plan.{Plan}
 use Rattle.sg_forms.specs.Spelling.{IsInRange}
 use Rattle.sg_record.proofs.EachItem.{Each-any, Each-from_all, Each-from_test, Each-length, all-from_Each, test-from_Each}
@@ -109,7 +109,7 @@ unfolding is_formed
 form-from posted formed draw =
     let plan : Plan = posted.plan in
     let one = and_parts _ _ formed in
-    let front = and_parts (is_none (fault_of plan)) (length posted.seals == 3) one.0 in
+    let front = and_parts (plan_keeps plan) (length posted.seals == 3) one.0 in
     let two = and_parts _ _ one.1 in
     let three_of = and_parts _ _ two.1 in
     let four = and_parts _ _ three_of.1 in
@@ -125,7 +125,7 @@ form-from posted formed draw =
       second = seals.1;
       third = seals.2;
       is = record {
-        fine = is_none-true (fault_of plan) front.0;
+        fine = keeps-faultless plan front.0;
         seals = seals.3;
         commits = (
           lists-from (length plan.races) (entries_of plan) (λ race items. Each (λ (k : ℕ) (x : Digest). Any x) 0 (entries_of plan race - 0) items) posted.code_commits
@@ -168,7 +168,7 @@ form-to posted first second third is =
     let plan : Plan = posted.plan in
     let commits = is.commits in
     let results = is.results in
-    let front : (is_none (fault_of plan) && length posted.seals == 3) ≡ true = rw (is.fine, is.seals) refl in
+    let front : (plan_keeps plan && length posted.seals == 3) ≡ true = rw (faultless-keeps plan is.fine, is.seals) refl in
     and_from _ _ front
     (and_from (has_entries plan posted.code_commits) _
     (lists-to (length plan.races) (entries_of plan) (λ race items. Each (λ (k : ℕ) (x : Digest). Any x) 0 (entries_of plan race - 0) items) posted.code_commits

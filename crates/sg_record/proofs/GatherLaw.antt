@@ -1,5 +1,5 @@
 -- The lines of a formed record's text give its lists, and lines that are a whole record give those of a formed record.
-use Rattle.std.proofs.Common.{◌≡◌, ℕ, ◌+◌, true, false, List, [], ◌∷◌, ◌++◌, map, drop, Option, Some, None, refl, sym, subst, ap, ◌∙◌}
+use Rattle.std.proofs.Common.{◌≡◌, ℕ, true, false, List, [], ◌∷◌, ◌++◌, map, drop, Option, Some, None, refl, sym, subst, ap, ◌∙◌}
 use Rattle.std.proofs.lemmas.Option.{same_Some}
 use Rattle.std.specs.List.{flat_map}
 use Rattle.std.specs.Option.{is_some, option_map, option_map_or}
@@ -19,13 +19,12 @@ use Rattle.sg_grammar.specs.Placed.{Placed}
 use Rattle.sg_grammar.specs.Placed.Placed.{OfPlan}
 use Rattle.sg_grammar.specs.Walk.{Next, Taken, Walked, behind, headed, is_whole, start, took, take_line, walk, walked_on}
 use Rattle.sg_grammar.specs.declared.state.Part.TheVariants as part
-use Rattle.sg_record.proofs.BodyOut.{run_state}
+use Rattle.sg_record.proofs.SaidWalk.{run_state}
 use Rattle.sg_record.proofs.BytesWalk.{AreIn-from_All, Stays, first_line, take_line-stays}
 use Rattle.sg_record.proofs.Filling.{AreIn, filled}
 use Rattle.sg_record.proofs.FormedLaw.{formed_behind, has_form, later_lines, later_places, lines_in-are}
 use Rattle.sg_record.proofs.FormedParts.{IsFormed, commits_of, results_of}
-use Rattle.sg_record.proofs.GatheredBlocks.{blocks-made, disputes-made}
-use Rattle.sg_record.proofs.GatheredLines.{Gathers, as-gathers, bare, blank-bare, commits-put, committed, gathers-commits, made_of, made_of-due, results-put, resulted}
+use Rattle.sg_record.proofs.GatheredLines.{Gathers, as-gathers, bare, blank-bare, blocks-made, commits-put, committed, disputes-made, gathers-commits, made_of, made_of-due, resulted, results-put}
 use Rattle.sg_record.proofs.Placing.{GoesAs, goes_as-plan, walk-step}
 use Rattle.sg_record.proofs.SectionLines.{Commits, Results, commits-spells, lines_of_commits, lines_of_results, places_of_commits, places_of_results, results-spells}
 use Rattle.sg_record.proofs.WholeLaw.{whole_are_formed}

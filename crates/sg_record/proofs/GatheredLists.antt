@@ -11,17 +11,18 @@ use Rattle.sg_plan.specs.declared.plan.Plan.{Plan}
 use Rattle.sg_forms.specs.Said.{Said}
 use Rattle.sg_forms.specs.Said.Said.{Flags, Places}
 use Rattle.sg_forms.specs.declared.line.RowOpening.{RowOpening}
-use Rattle.sg_grammar.specs.Due.{bits_on, code_commit, each, due_flags, instance_flags, instance_row_commits, instance_rows, lines_for, numbered, due_places, race_code_commits, race_places, race_results, race_row_commits, race_rows, race_totals, row_commit, row_opening, due_totals}
+use Rattle.sg_grammar.specs.Due.{bits_on, code_commit, each, due_flags, instance_flags, lines_for, numbered, due_places, race_code_commits, race_places, race_results, race_row_commits, race_rows, race_totals, row_commit, row_opening, due_totals}
+use Rattle.sg_grammar.specs.Placed.{Placed}
 use Rattle.sg_grammar.specs.Placed.Placed.{FlagsAt}
 use Rattle.sg_grammar.specs.Walk.{place}
 use Rattle.sg_grammar.specs.declared.state.Slot.{Slot}
 use Rattle.sg_record.proofs.BitLines.{Piece, bits-spells, cut, cut-lines, cut-pieces, joined}
 use Rattle.sg_record.proofs.EachItem.{zipped, zipped-length}
-use Rattle.sg_record.proofs.Filling.{Each, Fills, filled, spells-each}
+use Rattle.sg_record.proofs.Filling.{Each, Fills, Spells, filled, spells-each}
 use Rattle.sg_record.proofs.SectionLines.{AreTallies, HasEntries, HasFlags, HasPlaces, HasRows, HasTotals, IsTally, Tallies, Tally, by_race, flags_all-spells, lines_of_tallies, places_all-spells, tallies-each, tallies-into, tallies-lengths, tally-spells, tally_lines}
 use Rattle.sg_record.proofs.SlotLines.{Any, Counts, code_commit-spells, flags-spells, places-spells, row-spells, row_commit-spells, signs_length, total-spells}
 use Rattle.sg_record.specs.inside.Gathering.{added, append_at, append_in, bits_of}
-use Rattle.sg_record.specs.Tree.{as_line, as_place, bit_sign, code_commit_leaf, flag_tree, indexed, instance_row_commit_tree, instance_row_tree, place_tree, race_code_commit_tree, race_row_commit_tree, race_row_tree, row_commit_leaf, row_leaf, signs_on, total_leaf}
+use Rattle.sg_record.specs.Tree.{as_line, as_place, bit_sign, code_commit_leaf, flag_tree, indexed, place_tree, race_code_commit_tree, race_row_commit_tree, race_row_tree, row_commit_leaf, row_leaf, signs_on, total_leaf}
 use Rattle.sg_record.specs.declared.record.Record.{Record}
 use Rattle.sg_record.specs.declared.record.RowCommit.{RowCommit as RowDigests}
 
@@ -91,6 +92,34 @@ append_in-seam before after race done rest at list items some many =
     (rw (get_or-append_seam before (done ++ list ∷ rest) after [], append_at-seam done rest at list items many)
     (set-append_seam before (done ++ list ∷ rest) after (done ++ (list ++ items) ∷ rest)))
 
+-- the items of each instance of each race, which grow one by one
+tables-put : {A : Type 0} (version : ℕ) (plan : Plan) (L : List (List (List A)) → Record) (line : ℕ → ℕ → ℕ → A → List Said) (stands : ℕ → ℕ → ℕ → A → List Placed) (due : ℕ → ℕ → ℕ → List Slot)
+    → ((race instance row : ℕ) → Spells version (λ (x : A). Any x) (line race instance row) (stands race instance row) (due race instance row))
+    → ((race instance row : ℕ) (x : A) (before after : List (List (List A))) (done rest : List (List A)) (list : List A) → length before ≡ race → length done ≡ instance
+    → put plan (due race instance row) (line race instance row x) (L (before ++ (done ++ list ∷ rest) ∷ after)) ≡ L (before ++ (done ++ (list ++ x ∷ []) ∷ rest) ∷ after))
+    → (lists : List (List (List A))) → HasRows plan lists
+    → put plan (each (λ race. each (λ instance. each (due race instance) 0 (entries_of plan race)) 0 plan.instances) 0 (length plan.races))
+    (indexed (λ race. indexed (λ instance. indexed (line race instance) 0) 0) 0 lists)
+    (L (replicate (length plan.races - 0) (replicate (plan.instances - 0) []))) ≡ L lists
+tables-put {A} version plan L line stands due spells step lists all =
+    put-lists plan (λ (race : ℕ). Each (λ (instance : ℕ). Each (λ (row : ℕ) (x : A). Any x) 0 (entries_of plan race - 0)) 0 (plan.instances - 0))
+    (λ race. indexed (λ instance. indexed (line race instance) 0) 0) (λ race. each (λ instance. each (due race instance) 0 (entries_of plan race)) 0 plan.instances)
+    (λ race. filled (spells-each version (λ (instance : ℕ). Each (λ (row : ℕ) (x : A). Any x) 0 (entries_of plan race - 0)) (λ instance. indexed (line race instance) 0) (λ instance. indexed (stands race instance) 0)
+    (λ instance. each (due race instance) 0 (entries_of plan race)) (λ instance. of_instance race instance) 0 (plan.instances - 0)))
+    L (replicate (plan.instances - 0) [])
+    (λ race instances before after passes some.
+    put-lists plan (λ (instance : ℕ). Each (λ (row : ℕ) (x : A). Any x) 0 (entries_of plan race - 0)) (λ instance. indexed (line race instance) 0) (λ instance. each (due race instance) 0 (entries_of plan race))
+    (λ instance. filled (of_instance race instance)) (λ (l : List (List A)). L (before ++ l ∷ after)) []
+    (λ instance items done rest all_items many.
+    put-items plan (λ (row : ℕ) (x : A). Any x) (line race instance) (due race instance) (λ row. filled (spells race instance row)) (λ (list : List A). L (before ++ (done ++ list ∷ rest) ∷ after))
+    (λ row x list any. step race instance row x before after done rest list some many) 0 (entries_of plan race - 0) items [] all_items)
+    0 (plan.instances - 0) instances [] passes refl)
+    0 (length plan.races - 0) lists [] all refl
+  where
+    of_instance : (race instance : ℕ)
+        → Spells version (Each (λ (row : ℕ) (x : A). Any x) 0 (entries_of plan race - 0)) (indexed (line race instance) 0) (indexed (stands race instance) 0) (each (due race instance) 0 (entries_of plan race))
+    of_instance race instance = spells-each version (λ (row : ℕ) (x : A). Any x) (line race instance) (stands race instance) (due race instance) (spells race instance) 0 (entries_of plan race - 0)
+
 -- COMMITMENTS
 
 abbrev pub with_code_commits : Record → List (List Digest) → Record
@@ -119,72 +148,27 @@ code_commits-put version plan made lists all =
 abbrev pub with_row_commits : Record → List (List (List RowDigests)) → Record
 with_row_commits made lists = record made { row_commits = lists }
 
--- the digests of an instance
-instance_row_commits-put : (version : ℕ) (plan : Plan) (made : Record) (race instance : ℕ) (items : List RowDigests) (before after : List (List (List RowDigests))) (done rest : List (List RowDigests))
-    → Each (λ (row : ℕ) (x : RowDigests). Any x) 0 (entries_of plan race - 0) items → length before ≡ race → length done ≡ instance
-    → put plan (instance_row_commits plan race instance) (instance_row_commit_tree as_line race instance items) (with_row_commits made (before ++ (done ++ [] ∷ rest) ∷ after))
-    ≡ with_row_commits made (before ++ (done ++ items ∷ rest) ∷ after)
-instance_row_commits-put version plan made race instance items before after done rest all some many =
-    put-items plan (λ (row : ℕ) (x : RowDigests). Any x) (row_commit_leaf as_line race instance) (row_commit race instance) (λ row. filled (row_commit-spells version race instance row))
-    (λ (list : List RowDigests). with_row_commits made (before ++ (done ++ list ∷ rest) ∷ after))
-    (λ row digests list any.
-    put-one plan _ _ _
-    ∙ rw (eq-eqb race race refl, eq-eqb instance instance refl) (ap (with_row_commits made) (append_in-seam before after race done rest instance list (digests ∷ []) some many)))
-    0 (entries_of plan race - 0) items [] all
-
 pub row_commits-put : (version : ℕ) (plan : Plan) (made : Record) (lists : List (List (List RowDigests))) → HasRows plan lists
     → put plan (each (race_row_commits plan) 0 (length plan.races)) (indexed (race_row_commit_tree as_line) 0 lists)
     (with_row_commits made (replicate (length plan.races - 0) (replicate (plan.instances - 0) []))) ≡ with_row_commits made lists
 row_commits-put version plan made lists all =
-    put-lists plan (λ (race : ℕ). Each (λ (instance : ℕ). Each (λ (row : ℕ) (x : RowDigests). Any x) 0 (entries_of plan race - 0)) 0 (plan.instances - 0))
-    (race_row_commit_tree as_line) (race_row_commits plan)
-    (λ race. filled (spells-each version (λ (instance : ℕ). Each (λ (row : ℕ) (x : RowDigests). Any x) 0 (entries_of plan race - 0)) (instance_row_commit_tree as_line race) (instance_row_commit_tree as_place race)
-    (instance_row_commits plan race)
-    (λ instance. spells-each version (λ (row : ℕ) (x : RowDigests). Any x) (row_commit_leaf as_line race instance) (row_commit_leaf as_place race instance) (row_commit race instance)
-    (row_commit-spells version race instance) 0 (entries_of plan race - 0))
-    0 (plan.instances - 0)))
-    (with_row_commits made) (replicate (plan.instances - 0) [])
-    (λ race instances before after passes some.
-    put-lists plan (λ (instance : ℕ). Each (λ (row : ℕ) (x : RowDigests). Any x) 0 (entries_of plan race - 0)) (instance_row_commit_tree as_line race) (instance_row_commits plan race)
-    (λ instance. filled (spells-each version (λ (row : ℕ) (x : RowDigests). Any x) (row_commit_leaf as_line race instance) (row_commit_leaf as_place race instance) (row_commit race instance)
-    (row_commit-spells version race instance) 0 (entries_of plan race - 0)))
-    (λ (l : List (List RowDigests)). with_row_commits made (before ++ l ∷ after)) []
-    (λ instance items done rest all_items many. instance_row_commits-put version plan made race instance items before after done rest all_items some many)
-    0 (plan.instances - 0) instances [] passes refl)
-    0 (length plan.races - 0) lists [] all refl
+    tables-put version plan (with_row_commits made) (row_commit_leaf as_line) (row_commit_leaf as_place) row_commit (row_commit-spells version)
+    (λ race instance row digests before after done rest list some many.
+    put-one plan _ _ _
+    ∙ rw (eq-eqb race race refl, eq-eqb instance instance refl) (ap (with_row_commits made) (append_in-seam before after race done rest instance list (digests ∷ []) some many))) lists all
 
 -- ROWS
 
 abbrev pub with_rows : Record → List (List (List RowOpening)) → Record
 with_rows made lists = record made { rows = lists }
 
-instance_rows-put : (version : ℕ) (plan : Plan) (made : Record) (race instance : ℕ) (items : List RowOpening) (before after : List (List (List RowOpening))) (done rest : List (List RowOpening))
-    → Each (λ (row : ℕ) (x : RowOpening). Any x) 0 (entries_of plan race - 0) items → length before ≡ race → length done ≡ instance
-    → put plan (instance_rows plan race instance) (instance_row_tree as_line race instance items) (with_rows made (before ++ (done ++ [] ∷ rest) ∷ after))
-    ≡ with_rows made (before ++ (done ++ items ∷ rest) ∷ after)
-instance_rows-put version plan made race instance items before after done rest all some many =
-    put-items plan (λ (row : ℕ) (x : RowOpening). Any x) (row_leaf as_line race instance) (row_opening race instance) (λ row. filled (row-spells version race instance row))
-    (λ (list : List RowOpening). with_rows made (before ++ (done ++ list ∷ rest) ∷ after))
-    (λ row opening list any. put-one plan _ _ _ ∙ ap (with_rows made) (append_in-seam before after race done rest instance list (opening ∷ []) some many))
-    0 (entries_of plan race - 0) items [] all
-
 pub rows-put : (version : ℕ) (plan : Plan) (made : Record) (lists : List (List (List RowOpening))) → HasRows plan lists
     → put plan (each (race_rows plan) 0 (length plan.races)) (indexed (race_row_tree as_line) 0 lists)
     (with_rows made (replicate (length plan.races - 0) (replicate (plan.instances - 0) []))) ≡ with_rows made lists
 rows-put version plan made lists all =
-    put-lists plan (λ (race : ℕ). Each (λ (instance : ℕ). Each (λ (row : ℕ) (x : RowOpening). Any x) 0 (entries_of plan race - 0)) 0 (plan.instances - 0))
-    (race_row_tree as_line) (race_rows plan)
-    (λ race. filled (spells-each version (λ (instance : ℕ). Each (λ (row : ℕ) (x : RowOpening). Any x) 0 (entries_of plan race - 0)) (instance_row_tree as_line race) (instance_row_tree as_place race) (instance_rows plan race)
-    (λ instance. spells-each version (λ (row : ℕ) (x : RowOpening). Any x) (row_leaf as_line race instance) (row_leaf as_place race instance) (row_opening race instance) (row-spells version race instance) 0 (entries_of plan race - 0))
-    0 (plan.instances - 0)))
-    (with_rows made) (replicate (plan.instances - 0) [])
-    (λ race instances before after passes some.
-    put-lists plan (λ (instance : ℕ). Each (λ (row : ℕ) (x : RowOpening). Any x) 0 (entries_of plan race - 0)) (instance_row_tree as_line race) (instance_rows plan race)
-    (λ instance. filled (spells-each version (λ (row : ℕ) (x : RowOpening). Any x) (row_leaf as_line race instance) (row_leaf as_place race instance) (row_opening race instance) (row-spells version race instance) 0 (entries_of plan race - 0)))
-    (λ (l : List (List RowOpening)). with_rows made (before ++ l ∷ after)) []
-    (λ instance items done rest all_items many. instance_rows-put version plan made race instance items before after done rest all_items some many)
-    0 (plan.instances - 0) instances [] passes refl)
-    0 (length plan.races - 0) lists [] all refl
+    tables-put version plan (with_rows made) (row_leaf as_line) (row_leaf as_place) row_opening (row-spells version)
+    (λ race instance row opening before after done rest list some many.
+    put-one plan _ _ _ ∙ ap (with_rows made) (append_in-seam before after race done rest instance list (opening ∷ []) some many)) lists all
 
 -- BITS
 

@@ -23,8 +23,7 @@ use Rattle.sg_grammar.specs.Walk.{Next, headed, start, take_line}
 use Rattle.sg_grammar.specs.declared.state.Head.{Head}
 use Rattle.sg_grammar.specs.declared.state.Head.TheVariants as head
 use Rattle.sg_grammar.specs.declared.state.Part.TheVariants as part
-use Rattle.sg_record.proofs.BodyOut.{run_state}
-use Rattle.sg_record.proofs.SaidWalk.{Goes}
+use Rattle.sg_record.proofs.SaidWalk.{Goes, run_state}
 use Rattle.sg_record.specs.Lines.{plan_lines, race_lines, run_line, style_line}
 
 -- the plan so far, and which of its lines stand

@@ -11,9 +11,18 @@ use Rattle.sg_plan.specs.Ballots.{candidates_of, races_of_style}
 use Rattle.sg_plan.specs.Limits.{KeepsLimits, KeepsRace, KeepsStyle, fault_of, rises}
 use Rattle.sg_plan.specs.declared.plan.Plan.{Plan}
 use Rattle.sg_plan.specs.declared.plan.Style.{Style}
-use Rattle.sg_record.proofs.Bounds.{few_races}
+use Rattle.sg_forms.specs.Spelling.{FitsForm}
+use Rattle.sg_record.specs.Lines.{style_line}
 use Rattle.sg_record.specs.Writing.{IsVersion}
 use Rattle.sg_record.specs.inside.Parts.{StyleFits}
+
+-- there are few races
+pub few_races : (plan : Plan) → fault_of plan ≡ None → length plan.races ≤ 32
+few_races plan e = (bounds plan e).few_races
+
+-- and few candidates
+pub few_candidates : (plan : Plan) (race : ℕ) → fault_of plan ≡ None → candidates_of plan race ≤ 16
+few_candidates plan race e = (bounds plan e).few_candidates race
 
 -- the limits of the plan
 pub limits_of : (plan : Plan) → fault_of plan ≡ None → KeepsLimits plan
@@ -43,6 +52,10 @@ style_fits_line count style few keeps =
 
 pub styles_of : (plan : Plan) → fault_of plan ≡ None → All StyleFits plan.styles
 styles_of plan e = λ k d within. style_fits_line (length plan.races) (get_or plan.styles k d) (limits_of plan e).most_races ((limits_of plan e).styles k d within)
+
+-- the line of each style fits
+pub styles_told : (version : ℕ) (styles : List Style) → All StyleFits styles → All (λ (style : Style). FitsForm version (style_line style)) styles
+styles_told version styles fit = λ k d within. let it = fit k d within in (it.name, it.some, it.most)
 
 pub races_of : (plan : Plan) → fault_of plan ≡ None → All KeepsRace plan.races
 races_of plan e = (limits_of plan e).races

@@ -1,50 +1,81 @@
 -- What the tests of a record's blocks say of their codes and papers.
-use Rattle.std.proofs.Common.{◌≡◌, ℕ, ◌+◌, ◌<◌, ◌≤◌, ◌==◌, ◌&&◌, true, false, List, [], ◌∷◌, ◌++◌, length, nat_lt, nat_le, get_or, All, None, refl, sym, arith}
-use Rattle.std.proofs.lemmas.Bool.{and_parts, eqb-true, leb-true, ltb-true, true≢false}
+use Rattle.std.proofs.Common.{◌≡◌, ℕ, ◌<◌, ◌≤◌, ◌==◌, ◌&&◌, true, List, [], ◌∷◌, ◌++◌, length, nat_lt, nat_le, get_or, All, None, refl, sym, arith, ◌+◌, take, drop, subst}
+use Rattle.std.proofs.lemmas.Bool.{and_parts, eqb-true, leb-true, ltb-true, true≢false, eq-eqb, or_left, or_right}
 use Rattle.std.proofs.lemmas.List.Sums.{AllPass-from_list_all}
-use Rattle.std.proofs.lemmas.List.Elements.{All-head, All-tail}
-use Rattle.std.specs.List.{list_all}
+use Rattle.std.proofs.lemmas.List.Elements.{All-cons, All-head, All-nil, All-tail, All-append}
+use Rattle.std.specs.List.{list_all, list_any}
 use Rattle.sg_plan.specs.Ballots.{ballot_has, ballots_of, candidates_of, races_of_ballot, style_of_ballot}
 use Rattle.sg_plan.specs.Codes.{codes_of, is_code}
 use Rattle.sg_plan.specs.Limits.{fault_of}
 use Rattle.sg_plan.specs.declared.plan.Plan.{Plan}
 use Rattle.sg_forms.specs.declared.line.CodeLine.{CodeLine}
-use Rattle.sg_forms.specs.Said.Said.{Paper}
-use Rattle.sg_forms.specs.Spelling.{IsCode}
+use Rattle.sg_forms.specs.Said.Said.{Code, Paper}
+use Rattle.sg_forms.specs.Spelling.{FitsForm, IsCode}
 use Rattle.sg_grammar.specs.Walk.{is_later}
-use Rattle.sg_record.proofs.Bounds.{few_candidates}
 use Rattle.sg_record.proofs.CastLines.{first_cast}
-use Rattle.sg_record.proofs.Columns.{IsOfRaces, codes-own, race_codes-own}
-use Rattle.sg_record.proofs.Limits.{ballot_two}
-use Rattle.sg_record.specs.Formed.{are_blocks, are_cast, are_columns, are_papers, has_columns, is_dispute, is_fate}
+use Rattle.sg_record.proofs.Limits.{ballot_two, few_candidates}
+use Rattle.sg_plan.specs.Fates.{paper_fits}
+use Rattle.sg_record.specs.Formed.{are_blocks, are_cast, are_columns, has_columns, is_dispute, is_fate}
+use Rattle.sg_record.specs.Tree.{cast_said}
 use Rattle.sg_record.specs.declared.record.BallotBlock.{BallotBlock}
 use Rattle.sg_record.specs.declared.record.BlockFate.TheVariants as fate
 use Rattle.sg_record.specs.declared.record.CastLine.{CastLine}
 use Rattle.sg_record.specs.declared.record.DisputeBlock.{DisputeBlock}
 use Rattle.sg_record.specs.Writing.{HaveCodes}
-use Rattle.sg_record.specs.inside.Parts.{ArePapers, HasCastCode, HaveCastCodes, HaveClaims, HaveFates, paper_lines}
+use Rattle.sg_record.specs.inside.Parts.{ArePapers, HaveClaims, HaveFates, paper_lines}
+use Rattle.std.proofs.lemmas.List.{drop_more, take-append-drop}
+use Rattle.sg_record.proofs.FormedLists.{each_passes-at}
 
--- THE FIRST OF THEM
+-- the code is of a column of one of these races
+pub record IsOfRaces (plan : Plan) (races : List ℕ) (code : CodeLine) : Type 0 where
+  pub race : list_any (λ carried. carried == code.race) races ≡ true
+  pub column : code.column < candidates_of plan code.race
+  pub is : is_code plan code.code ≡ true
 
--- the first of the codes, and the others
-pub first_code : (version : ℕ) (xs : List CodeLine) (x : CodeLine) (ys : List CodeLine) → xs ≡ x ∷ ys → HaveCodes version xs → IsCode version x.code × HaveCodes version ys
-first_code version xs x ys e have = rw e at have
+pub race_codes-own : (plan : Plan) (race : ℕ) (races : List ℕ) (codes : List CodeLine) → has_columns plan race codes ≡ true → All (IsOfRaces plan (race ∷ races)) codes
+race_codes-own plan race races codes passes = λ k d within.
+    let parts = and_parts (length codes == candidates_of plan race) _ passes in
+    let many = eqb-true (length codes) (candidates_of plan race) parts.0 in
+    let test = λ (column : ℕ) (code : CodeLine). (code.race == race && code.column == column) && is_code plan code.code in
+    let code = get_or codes k d in
+    let is = and_parts (code.race == race && code.column == 0 + k) (is_code plan code.code) (each_passes-at test 0 codes parts.1 k d within) in
+    let names = and_parts (code.race == race) (code.column == 0 + k) is.0 in
+    let in_race = eqb-true code.race race names.0 in
+    let in_column = eqb-true code.column (0 + k) names.1 in
+    record {
+      race = or_left (race == code.race) (list_any (λ carried. carried == code.race) races) (eq-eqb race code.race (sym in_race));
+      column = subst (λ (r : ℕ). code.column < candidates_of plan r) (sym in_race) (omega (arith, in_column, many));
+      is = is.1;
+    }
 
--- the first of the lines of a cast ballot, and the others
-pub first_line : (version : ℕ) (xs : List CastLine) (x : CastLine) (ys : List CastLine) → xs ≡ x ∷ ys → HaveCastCodes version xs → HasCastCode version x × HaveCastCodes version ys
-first_line version xs x ys e have = rw e at have
+pub codes-own : (plan : Plan) (races : List ℕ) (codes : List CodeLine) → are_columns plan races codes ≡ true → All (IsOfRaces plan races) codes
+codes-own plan [] [] passes = All-nil (IsOfRaces plan [])
+codes-own plan [] (code ∷ codes) passes = absurd (omega (arith, eqb-true (length (code ∷ codes)) 0 passes))
+codes-own plan (race ∷ races) codes passes =
+    let count = candidates_of plan race in
+    let parts = and_parts (has_columns plan race (take count codes)) (are_columns plan races (drop count codes)) passes in
+    let others = codes-own plan races (drop count codes) parts.1 in
+    subst (All (IsOfRaces plan (race ∷ races))) (take-append-drop count codes)
+    (All-append (IsOfRaces plan (race ∷ races)) (take count codes) (drop count codes) (race_codes-own plan race races (take count codes) parts.0) (λ k d within.
+    let it = others k d within in
+    record { race = or_right (race == (get_or (drop count codes) k d).race) _ it.race; column = it.column; is = it.is }))
 
 -- FROM THE TESTS
 
 pub code_passes : (plan : Plan) (code : ℕ) → is_code plan code ≡ true → IsCode plan.version code
 code_passes plan code e = ltb-true code (codes_of plan.version) e
 
--- the lines of a cast ballot
-pub cast_have : (plan : Plan) (ballot race column : ℕ) (lines : List CastLine) → are_cast plan ballot race column lines ≡ true → HaveCastCodes plan.version lines
-cast_have plan ballot race column [] pass = tt
+-- the lines of a cast ballot fit
+pub cast_have : (plan : Plan) (ballot race column : ℕ) (lines : List CastLine) → are_cast plan ballot race column lines ≡ true → All (λ (line : CastLine). FitsForm plan.version (cast_said line)) lines
+cast_have plan ballot race column [] pass = All-nil (λ (line : CastLine). FitsForm plan.version (cast_said line))
 cast_have plan ballot race column (line ∷ lines) pass =
     let first = first_cast plan ballot race column line lines pass in
-    (first.code, cast_have plan ballot first.next.0 first.next.1 lines first.others)
+    All-cons (λ (l : CastLine). FitsForm plan.version (cast_said l)) line lines first.code (cast_have plan ballot first.next.0 first.next.1 lines first.others)
+
+-- and those of codes of the version
+pub codes_fit : (version : ℕ) (codes : List CodeLine) → HaveCodes version codes → All (λ (code : CodeLine). FitsForm version (Code code)) codes
+codes_fit version [] have = All-nil (λ (code : CodeLine). FitsForm version (Code code))
+codes_fit version (code ∷ codes) have = All-cons (λ (c : CodeLine). FitsForm version (Code c)) code codes have.0 (codes_fit version codes have.1)
 
 -- codes of columns are of the version
 pub own_codes : (plan : Plan) (races : List ℕ) (codes : List CodeLine) → All (IsOfRaces plan races) codes → HaveCodes plan.version codes
@@ -54,22 +85,15 @@ own_codes plan races (code ∷ codes) own =
 
 -- PAPERS
 
-pub papers_step : (race : ℕ) (list : List ℕ) (races : List ℕ) (papers : List (List ℕ)) (rs : List ℕ) (ps : List (List ℕ)) → rs ≡ race ∷ races → ps ≡ list ∷ papers
-    → paper_lines rs ps ≡ (Paper race list ∷ []) ++ paper_lines races papers
-papers_step race list races papers rs ps e f = rw (e, f) refl
+-- the line of the next of them, and those of the others
+pub papers_step : (races : List ℕ) (papers : List (List ℕ)) (at : ℕ) (list : List ℕ) → at < length races → drop at papers ≡ list ∷ drop (at + 1) papers
+    → paper_lines (drop at races) (drop at papers) ≡ (Paper (get_or races at 0) list ∷ []) ++ paper_lines (drop (at + 1) races) (drop (at + 1) papers)
+papers_step races papers at list more split = rw (drop_more races at 0 more, split) refl
 
--- the first of the papers, and the others
-pub record FirstPaper (version : ℕ) (list : List ℕ) (races : List ℕ) (papers : List (List ℕ)) : Type 0 where
-  pub codes : All (IsCode version) list
-  pub some : 1 ≤ length list
-  pub most : length list ≤ 16
-  pub rest : ArePapers version races papers
-
-pub first_paper : (version race : ℕ) (list : List ℕ) (races : List ℕ) (papers : List (List ℕ)) (rs : List ℕ) (ps : List (List ℕ)) → rs ≡ race ∷ races → ps ≡ list ∷ papers
-    → ArePapers version rs ps → FirstPaper version list races papers
-first_paper version race list races papers rs ps e f are =
-    let parts : ArePapers version (race ∷ races) (list ∷ papers) = rw (e, f) at are in
-    record { codes = parts.0; some = parts.1; most = parts.2; rest = parts.3 }
+-- the next of the papers, and the others
+pub first_paper : (version : ℕ) (races : List ℕ) (papers : List (List ℕ)) (at : ℕ) (list : List ℕ) → at < length races → drop at papers ≡ list ∷ drop (at + 1) papers
+    → ArePapers version (drop at races) (drop at papers) → ArePapers version (get_or races at 0 ∷ drop (at + 1) races) (list ∷ drop (at + 1) papers)
+first_paper version races papers at list more split are = rw (drop_more races at 0 more, split) at are
 
 -- each of the codes of a list that passes
 pub codes_pass : (plan : Plan) (list : List ℕ) → list_all (is_code plan) list ≡ true → All (IsCode plan.version) list
@@ -80,13 +104,13 @@ pub record Papers (plan : Plan) (races : List ℕ) (papers : List (List ℕ)) : 
   pub len : length papers ≡ length races
   pub each : ArePapers plan.version races papers
 
-pub papers_pass : (plan : Plan) (races : List ℕ) (papers : List (List ℕ)) → ((race : ℕ) → candidates_of plan race ≤ 16) → All (λ race. 2 ≤ candidates_of plan race) races → are_papers plan races papers ≡ true
+pub papers_pass : (plan : Plan) (races : List ℕ) (papers : List (List ℕ)) → ((race : ℕ) → candidates_of plan race ≤ 16) → All (λ race. 2 ≤ candidates_of plan race) races → paper_fits plan races papers ≡ true
     → Papers plan races papers
 papers_pass plan [] [] most some e = record { len = refl; each = tt }
 papers_pass plan [] (list ∷ papers) most some e = absurd (true≢false (sym e))
 papers_pass plan (race ∷ races) [] most some e = absurd (true≢false (sym e))
 papers_pass plan (race ∷ races) (list ∷ papers) most some e =
-    let whole = and_parts (length list == candidates_of plan race && list_all (is_code plan) list) (are_papers plan races papers) e in
+    let whole = and_parts (length list == candidates_of plan race && list_all (is_code plan) list) (paper_fits plan races papers) e in
     let here = and_parts (length list == candidates_of plan race) (list_all (is_code plan) list) whole.0 in
     let count = eqb-true (length list) (candidates_of plan race) here.0 in
     let first = All-head (λ r. 2 ≤ candidates_of plan r) race races some in
@@ -106,21 +130,13 @@ audit_papers plan ballot papers codes fine e =
 pub audit_have : (plan : Plan) (ballot : ℕ) (papers : List (List ℕ)) (codes : List CodeLine) → is_fate plan ballot (fate.Audited papers codes) ≡ true → HaveCodes plan.version codes
 audit_have plan ballot papers codes e =
     own_codes plan (races_of_ballot plan ballot) codes
-    (codes-own plan (races_of_ballot plan ballot) codes (and_parts (are_papers plan (races_of_ballot plan ballot) papers) (are_columns plan (races_of_ballot plan ballot) codes) e).1)
+    (codes-own plan (races_of_ballot plan ballot) codes (and_parts (paper_fits plan (races_of_ballot plan ballot) papers) (are_columns plan (races_of_ballot plan ballot) codes) e).1)
 
 -- BLOCKS
 
 -- the first of the blocks, and the others
-pub record FirstFate (plan : Plan) (last : ℕ) (one : BallotBlock) (blocks : List BallotBlock) : Type 0 where
-  pub later : last < one.ballot
-  pub within : one.ballot ≤ ballots_of plan
-  pub fate : is_fate plan one.ballot one.fate ≡ true
-  pub rest : HaveFates plan one.ballot blocks
-
-pub first_fate : (plan : Plan) (last : ℕ) (xs : List BallotBlock) (one : BallotBlock) (blocks : List BallotBlock) → xs ≡ one ∷ blocks → HaveFates plan last xs → FirstFate plan last one blocks
-first_fate plan last xs one blocks e have =
-    let parts : HaveFates plan last (one ∷ blocks) = rw e at have in
-    record { later = parts.0; within = parts.1; fate = parts.2; rest = parts.3 }
+pub first_fate : (plan : Plan) (last : ℕ) (xs : List BallotBlock) (one : BallotBlock) (blocks : List BallotBlock) → xs ≡ one ∷ blocks → HaveFates plan last xs → HaveFates plan last (one ∷ blocks)
+first_fate plan last xs one blocks e have = rw e at have
 
 pub blocks_pass : (plan : Plan) (last : ℕ) (blocks : List BallotBlock) → are_blocks plan last blocks ≡ true → HaveFates plan last blocks
 blocks_pass plan last [] e = tt
@@ -138,15 +154,9 @@ fates_behind plan least last (one ∷ blocks) before have = (omega (arith, befor
 
 -- DISPUTES
 
-pub record FirstClaim (version : ℕ) (one : DisputeBlock) (disputes : List DisputeBlock) : Type 0 where
-  pub code : IsCode version one.code
-  pub codes : HaveCodes version one.codes
-  pub rest : HaveClaims version disputes
-
-pub first_claim : (version : ℕ) (xs : List DisputeBlock) (one : DisputeBlock) (disputes : List DisputeBlock) → xs ≡ one ∷ disputes → HaveClaims version xs → FirstClaim version one disputes
-first_claim version xs one disputes e have =
-    let parts : HaveClaims version (one ∷ disputes) = rw e at have in
-    record { code = parts.0; codes = parts.1; rest = parts.2 }
+-- the first of the claims, and the others
+pub first_claim : (version : ℕ) (xs : List DisputeBlock) (one : DisputeBlock) (disputes : List DisputeBlock) → xs ≡ one ∷ disputes → HaveClaims version xs → HaveClaims version (one ∷ disputes)
+first_claim version xs one disputes e have = rw e at have
 
 pub claims_pass : (plan : Plan) (disputes : List DisputeBlock) → list_all (is_dispute plan) disputes ≡ true → HaveClaims plan.version disputes
 claims_pass plan [] e = tt

@@ -19,11 +19,10 @@ use Rattle.sg_grammar.specs.declared.state.Head.TheVariants as head
 use Rattle.sg_grammar.specs.declared.state.Part.{Part}
 use Rattle.sg_grammar.specs.declared.state.Part.TheVariants as part
 use Rattle.sg_grammar.specs.declared.state.Slot.{Slot}
-use Rattle.sg_record.proofs.BodyOut.{commits-some, run-other, run_state}
 use Rattle.sg_record.proofs.BytesWalk.{IsBehind, Stays, body-behind, first_line, take_line-stays}
 use Rattle.sg_record.proofs.Filling.{AreIn, FillsAs}
 use Rattle.sg_record.proofs.HeadOut.{plan-out}
-use Rattle.sg_record.proofs.SaidWalk.{Goes, fits-block, fits-no_run, block-other, results-some}
+use Rattle.sg_record.proofs.SaidWalk.{Goes, block-other, commits-some, fitting, results-some, run-other, run_state}
 use Rattle.sg_record.specs.Lines.{plan_lines}
 use Rattle.sg_record.specs.Places.{posts}
 
@@ -82,7 +81,7 @@ goes_as-commits plan lines rest places others end fills goes = from (commits pla
     from (d ∷ due) [] ps are some filled on = absurd filled
     from (d ∷ due) (s ∷ front) [] are some filled on = absurd filled
     from (d ∷ due) (s ∷ front) (p ∷ ps) are some filled on =
-        (on.0, run-other plan s (fits-no_run d s (ap is_some filled.0)) ∙ (ap (λ l. body_line plan l (part.Ballots 0) s) are ∙ on.1), on.2)
+        (on.0, run-other plan s (fitting d s (ap is_some filled.0)).no_run ∙ (ap (λ l. body_line plan l (part.Ballots 0) s) are ∙ on.1), on.2)
 
 -- THE RESULTS, behind the last ballot
 
@@ -98,7 +97,7 @@ goes_as-results plan last lines rest places others end fills goes =
     from (d ∷ due) [] ps are some filled on = absurd filled
     from (d ∷ due) (s ∷ front) [] are some filled on = absurd filled
     from (d ∷ due) (s ∷ front) (p ∷ ps) are some filled on =
-        (on.0, block-other plan last s (fits-block d s (ap is_some filled.0)) ∙ (ap (λ l. first_taken plan l s) are ∙ on.1), on.2)
+        (on.0, block-other plan last s (fitting d s (ap is_some filled.0)).no_block ∙ (ap (λ l. first_taken plan l s) are ∙ on.1), on.2)
 
 -- THE PLAN'S LINES
 

@@ -114,12 +114,6 @@ puts_same before now result lines same e puts = rw e puts
 pub puts_as : {S T E F : Type 0} (before now : Moment) (value : T) (other : S) (lines : List Said) → Puts {E = E} before now (Ok value) lines → Puts {E = F} before now (Ok other) lines
 puts_as before now value other lines puts = record { bytes = puts.bytes; cause = record { later = puts.cause.later; failed = tt }; version = puts.version; seal = puts.seal }
 
--- the sink failed in the last of the lines
-pub puts_fault : {S T E F : Type 0} (before now : Moment) (fault : E) (result : Result S F) (lines : List Said)
-    → IsErr result → Puts {T = T} before now (Err fault) lines → Puts before now result lines
-puts_fault before now fault (Ok value) lines is puts = absurd (true≢false (sym is))
-puts_fault before now fault (Err other) lines is puts = record { bytes = puts.bytes; cause = record { later = puts.cause.later; failed = puts.cause.failed }; version = puts.version; seal = tt }
-
 -- a front of the lines was appended, and these are left
 pub record Left (before now : Moment) (lines rest : List Said) : Type 0 where
   pub done : List Said
@@ -163,6 +157,12 @@ indexed-step f at xs x ys e = rw e refl
 indexed-end : {A : Type 0} (f : ℕ → A → List Said) (at : ℕ) (xs : List A) → length xs ≤ at → indexed f at (drop at xs) ≡ []
 unfolding indexed
 indexed-end f at xs end = rw (drop_all at xs end) refl
+
+-- the lines of items that don't tell their numbers
+pub indexed-map : {A : Type 0} (f : A → Said) (at : ℕ) (xs : List A) → indexed (λ k x. f x ∷ []) at xs ≡ map f xs
+unfolding indexed
+indexed-map f at [] = refl
+indexed-map f at (x ∷ xs) = ap (λ l. f x ∷ l) (indexed-map f (at + 1) xs)
 
 -- the items of a list from a number on are left
 abbrev pub LeftFrom : {A : Type 0} → Moment → Moment → (ℕ → A → List Said) → List A → ℕ → Type 0

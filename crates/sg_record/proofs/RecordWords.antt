@@ -24,11 +24,11 @@ use Rattle.sg_forms.specs.declared.line.CodeLine.{CodeLine}
 use Rattle.sg_forms.specs.declared.line.RowOpening.{RowOpening}
 use Rattle.sg_grammar.specs.Due.{each, lines_for, numbered}
 use Rattle.sg_grammar.specs.Walk.{is_later}
-use Rattle.sg_record.proofs.Bits.{few_bits, on_line}
+use Rattle.sg_record.proofs.BitLines.{few_bits, on_line}
 use Rattle.sg_record.proofs.BytesWalk.{All-from_AreIn}
 use Rattle.sg_grammar.proofs.Making.{candidates_within}
 use Rattle.sg_record.proofs.CastLines.{cast-in_range, first_cast}
-use Rattle.sg_record.proofs.Columns.{IsOfRaces, codes-own, race_codes-own}
+use Rattle.sg_record.proofs.Marks.{IsOfRaces, codes-own, race_codes-own}
 use Rattle.sg_record.proofs.Filling.{AreIn, AreIn-append, Each}
 use Rattle.sg_record.proofs.FormedLists.{formed_parts}
 use Rattle.sg_record.proofs.FormedParts.{form-from}
@@ -36,7 +36,8 @@ use Rattle.sg_record.proofs.Limits.{ballot_two, limits_of, styles_of}
 use Rattle.sg_record.proofs.EachItem.{Each-get}
 use Rattle.sg_record.proofs.SectionLines.{HasFlags, HasTotals, HasEntries, HasRows}
 use Rattle.sg_record.proofs.SlotLines.{Any, Counts}
-use Rattle.sg_record.specs.Formed.{are_blocks, are_cast, are_columns, are_papers, has_columns, is_dispute, is_draw, is_fate, is_formed}
+use Rattle.sg_plan.specs.Fates.{paper_fits}
+use Rattle.sg_record.specs.Formed.{are_blocks, are_cast, are_columns, has_columns, is_dispute, is_draw, is_fate, is_formed}
 use Rattle.sg_record.specs.Laws.{TypedHaveWords}
 use Rattle.sg_record.specs.Lines.{lines_in, plan_lines, race_lines, run_line, style_line}
 use Rattle.sg_record.specs.Tree.{as_line, block_tree, cast_said, code_commit_leaf, commit_tree, dispute_tree, draw_leaf, fate_tree, flag_tree, indexed, instance_row_commit_tree, instance_row_tree, opening_tree, place_tree, race_code_commit_tree, race_results_tree, race_row_commit_tree, race_row_tree, result_tree, row_commit_leaf, row_leaf, signs_on, total_leaf}
@@ -176,12 +177,12 @@ cast-in plan ballot race column (line ∷ lines) fine pass keys =
       cast-in plan ballot first.next.0 first.next.1 lines fine first.others (All-tail HasCastKey line lines keys),
     )
 
-papers-in : (plan : Plan) (races : List ℕ) (papers : List (List ℕ)) → fault_of plan ≡ None → All (λ race. 2 ≤ candidates_of plan race) races → are_papers plan races papers ≡ true
+papers-in : (plan : Plan) (races : List ℕ) (papers : List (List ℕ)) → fault_of plan ≡ None → All (λ race. 2 ≤ candidates_of plan race) races → paper_fits plan races papers ≡ true
     → AreIn plan.version (paper_lines races papers)
 papers-in plan [] papers fine two are = tt
 papers-in plan (race ∷ races) [] fine two are = cc
 papers-in plan (race ∷ races) (list ∷ papers) fine two are =
-    let parts = and_parts (length list == candidates_of plan race && list_all (is_code plan) list) (are_papers plan races papers) are in
+    let parts = and_parts (length list == candidates_of plan race && list_all (is_code plan) list) (paper_fits plan races papers) are in
     let tests = and_parts (length list == candidates_of plan race) (list_all (is_code plan) list) parts.0 in
     let many : length list ≡ candidates_of plan race = eqb-true (length list) (candidates_of plan race) tests.0 in
     let some : 2 ≤ candidates_of plan race = All-head (λ r. 2 ≤ candidates_of plan r) race races two in
@@ -201,7 +202,7 @@ fate-in : (plan : Plan) (ballot : ℕ) (what : BlockFate) → fault_of plan ≡ 
 fate-in plan ballot (fate.Cast lines) fine last passes keys = (omega (arith, last, (bounds plan fine).few_ballots), cast-in plan ballot 0 0 lines fine passes keys)
 fate-in plan ballot fate.Spoiled fine last passes keys = (omega (arith, last, (bounds plan fine).few_ballots), tt)
 fate-in plan ballot (fate.Audited papers codes) fine last passes keys =
-    let parts = and_parts (are_papers plan (races_of_ballot plan ballot) papers) (are_columns plan (races_of_ballot plan ballot) codes) passes in (
+    let parts = and_parts (paper_fits plan (races_of_ballot plan ballot) papers) (are_columns plan (races_of_ballot plan ballot) codes) passes in (
       omega (arith, last, (bounds plan fine).few_ballots),
       AreIn-append plan.version (paper_lines (races_of_ballot plan ballot) papers) (map Code codes)
           (papers-in plan (races_of_ballot plan ballot) papers fine (ballot_two plan fine (style_of_ballot plan ballot)) parts.0)

@@ -2,24 +2,25 @@
 use Rattle.std.proofs.Common.{◌≡◌, ℕ, ◌-◌, ◌<◌, Bool, true, false, not, List, [], ◌∷◌, ◌++◌, length, Option, Some, None, refl, sym, subst, ap, ◌∙◌, arith}
 use Rattle.std.proofs.lemmas.List.{length-append}
 use Rattle.std.proofs.lemmas.List.Folds.{list_all-append}
-use Rattle.std.proofs.lemmas.Bool.{and_from, and_parts, not-true, not_from_false}
+use Rattle.std.proofs.lemmas.Bool.{and_from, and_parts, not-true, not_from_false, true≢false}
 use Rattle.std.specs.List.{list_all}
 use Rattle.std.specs.Option.{is_some}
 use Rattle.sg_lists.proofs.Options.{option_map-some}
 use Rattle.sg_plan.specs.Ballots.{candidates_of, entries_of}
 use Rattle.sg_plan.specs.declared.plan.Plan.{Plan}
 use Rattle.sg_forms.specs.Said.{Said}
-use Rattle.sg_forms.specs.Said.Said.{Audited, Ballots, Cast, Code, Over, Spoiled, Voided}
-use Rattle.sg_forms.specs.declared.line.CodeLine.{CodeLine}
-use Rattle.sg_grammar.specs.Due.{each, instance_flags, instance_rows, due_flags, lines_for, due_places, race_places, race_results, race_rows, race_totals, results, row_opening, due_totals}
+use Rattle.sg_forms.specs.Said.Said.{Audited, Ballots, Cast, Code, CodeCommit, DrawFull, DrawPublic, Flags, Paper, Places, Row, RowCommit, Seal, Spoiled, Total, Voided}
+use Rattle.sg_grammar.specs.Due.{each, instance_flags, instance_rows, due_flags, lines_for, due_places, race_places, race_results, race_rows, race_totals, results, row_opening, due_totals, commits, race_code_commits, race_row_commits}
 use Rattle.sg_grammar.specs.Placed.{Placed}
-use Rattle.sg_grammar.specs.Walk.{Next, Taken, after_block, behind, first_taken, in_cast, place, take_line, taking, took}
+use Rattle.sg_grammar.specs.Walk.{Next, Taken, after_block, behind, first_taken, place, take_line, taking, took, after_run, body_line}
 use Rattle.sg_grammar.specs.declared.state.Part.{Part}
 use Rattle.sg_grammar.specs.declared.state.Part.TheVariants as part
 use Rattle.sg_grammar.specs.declared.state.Slot.{Slot}
 use Rattle.sg_grammar.specs.declared.state.Slot.TheVariants as slot
 use Rattle.sg_record.proofs.BlockLines.{is_code_slot, numbered-all}
+use Rattle.sg_record.proofs.CastLines.{cast-other, cast_of}
 use Rattle.sg_record.proofs.Filling.{Fills, fits}
+use Rattle.sg_grammar.specs.declared.state.Head.TheVariants as head
 
 -- the lines, taken one after another, lead from one state to another
 abbrev pub Goes : Next → List Said → Next → Type 0
@@ -71,63 +72,30 @@ is_block_line (Audited ballot) = true
 is_block_line (Voided ballot) = true
 is_block_line said = false
 
--- a line of a cast ballot behind the first one
-abbrev pub is_cast_line : Said → Bool
-is_cast_line (Code code) = true
-is_cast_line (Over race) = true
-is_cast_line said = false
-
 -- a line of ballots of the plan
 abbrev pub is_run_line : Said → Bool
 is_run_line (Ballots style count) = true
 is_run_line said = false
 
-fits-cast : (s : Slot) (ballot : ℕ) → fits s (Cast ballot) ≡ false
-fits-cast slot.Draw ballot = refl
-fits-cast s ballot = refl
+-- what a line in a slot is not: a run, the first line of a block, or one of a cast ballot in a slot that is no code's
+pub record Fitting (s : Slot) (said : Said) : Type 0 where
+  pub no_run : is_run_line said ≡ false
+  pub no_block : is_block_line said ≡ false
+  pub no_cast : is_code_slot s ≡ false → is_some (cast_of said) ≡ false
 
-fits-spoiled : (s : Slot) (ballot : ℕ) → fits s (Spoiled ballot) ≡ false
-fits-spoiled slot.Draw ballot = refl
-fits-spoiled s ballot = refl
-
-fits-audited : (s : Slot) (ballot : ℕ) → fits s (Audited ballot) ≡ false
-fits-audited slot.Draw ballot = refl
-fits-audited s ballot = refl
-
-fits-voided : (s : Slot) (ballot : ℕ) → fits s (Voided ballot) ≡ false
-fits-voided slot.Draw ballot = refl
-fits-voided s ballot = refl
-
-fits-run : (s : Slot) (style count : ℕ) → fits s (Ballots style count) ≡ false
-fits-run slot.Draw style count = refl
-fits-run s style count = refl
-
--- no line of a slot begins a block
-pub fits-block : (s : Slot) (said : Said) → fits s said ≡ true → is_block_line said ≡ false
-fits-block s (Cast ballot) there = let none = fits-cast s ballot in cc
-fits-block s (Spoiled ballot) there = let none = fits-spoiled s ballot in cc
-fits-block s (Audited ballot) there = let none = fits-audited s ballot in cc
-fits-block s (Voided ballot) there = let none = fits-voided s ballot in cc
-fits-block s said there = refl
-
--- or is one of ballots of the plan
-pub fits-no_run : (s : Slot) (said : Said) → fits s said ≡ true → is_run_line said ≡ false
-fits-no_run s (Ballots style count) there = let none = fits-run s style count in cc
-fits-no_run s said there = refl
-
--- or stands in the block of a cast ballot, but for one of a code's slot
-pub fits-no_cast : (s : Slot) (said : Said) → is_code_slot s ≡ false → fits s said ≡ true → is_cast_line said ≡ false
-fits-no_cast s (Code code) other there = let none = no_code s code other in cc
-  where
-    no_code : (x : Slot) (c : CodeLine) → is_code_slot x ≡ false → fits x (Code c) ≡ false
-    no_code (slot.Code kind ballot race column) c is = cc
-    no_code x c is = refl
-fits-no_cast s (Over race) other there = let none = no_over s race in cc
-  where
-    no_over : (x : Slot) (r : ℕ) → fits x (Over r) ≡ false
-    no_over slot.Draw r = refl
-    no_over x r = refl
-fits-no_cast s said other there = refl
+pub fitting : (s : Slot) (said : Said) → fits s said ≡ true → Fitting s said
+fitting (slot.CodeCommit race entry) (CodeCommit named digest) there = record { no_run = refl; no_block = refl; no_cast = λ other. refl }
+fitting (slot.RowCommit race instance at) (RowCommit named of left right) there = record { no_run = refl; no_block = refl; no_cast = λ other. refl }
+fitting (slot.Seal number) (Seal named digest) there = record { no_run = refl; no_block = refl; no_cast = λ other. refl }
+fitting (slot.Paper ballot race count) (Paper named list) there = record { no_run = refl; no_block = refl; no_cast = λ other. refl }
+fitting (slot.Code kind ballot race column) (Code code) there = record { no_run = refl; no_block = refl; no_cast = λ other. other }
+fitting (slot.Flags race instance number count) (Flags named of bits) there = record { no_run = refl; no_block = refl; no_cast = λ other. refl }
+fitting (slot.Places race number count) (Places named bits) there = record { no_run = refl; no_block = refl; no_cast = λ other. refl }
+fitting (slot.Total race candidate) (Total named of count) there = record { no_run = refl; no_block = refl; no_cast = λ other. refl }
+fitting slot.Draw DrawFull there = record { no_run = refl; no_block = refl; no_cast = λ other. refl }
+fitting slot.Draw (DrawPublic digits) there = record { no_run = refl; no_block = refl; no_cast = λ other. refl }
+fitting (slot.Row race instance at) (Row opening) there = record { no_run = refl; no_block = refl; no_cast = λ other. refl }
+fitting s said there = absurd (true≢false (sym there))
 
 -- THE FIRST LINE OF THE RESULTS
 
@@ -174,16 +142,10 @@ block-other plan last (Audited ballot) other = cc
 block-other plan last (Voided ballot) other = cc
 block-other plan last said other = refl
 
--- a line that stands in no block of a cast ballot is taken as behind it
-pub cast-other : (plan : Plan) (ballot race column : ℕ) (said : Said) → is_cast_line said ≡ false → in_cast plan ballot race column said ≡ after_block plan ballot said
-cast-other plan ballot race column (Code code) other = cc
-cast-other plan ballot race column (Over over) other = cc
-cast-other plan ballot race column said other = refl
-
 -- there is a line, and it stands in no block of a cast ballot
 abbrev pub opens : List Said → Bool
 opens [] = false
-opens (said ∷ lines) = not (is_cast_line said)
+opens (said ∷ lines) = not (is_some (cast_of said))
 
 -- behind the block of a cast ballot what may follow any block may follow
 pub goes-open : (plan : Plan) (ballot race column : ℕ) (lines : List Said) (end : Next) → opens lines ≡ true
@@ -191,7 +153,7 @@ pub goes-open : (plan : Plan) (ballot race column : ℕ) (lines : List Said) (en
 unfolding take_line
 goes-open plan ballot race column [] end is_open goes = cc
 goes-open plan ballot race column (said ∷ lines) end is_open goes =
-    (goes.0, cast-other plan ballot race column said (not-true (is_cast_line said) is_open) ∙ goes.1, goes.2)
+    (goes.0, cast-other plan ballot race column said (not-true (is_some (cast_of said)) is_open) ∙ goes.1, goes.2)
 
 -- the results, in any place of ballots
 pub goes-results : (plan : Plan) (last : ℕ) (lines rest : List Said) (end : Next)
@@ -208,7 +170,37 @@ goes-results plan last lines rest end fills goes =
     from (first ∷ due) [] are some other filled on = absurd filled
     from (first ∷ due) (said ∷ front) are some other filled on =
         let tests = and_parts (is_other_slot first) (list_all is_other_slot due) other in
-        let no_cast = fits-no_cast first said (not-true (is_code_slot first) tests.0) filled.0 in (
-          not_from_false (is_cast_line said) no_cast,
-          (on.0, block-other plan last said (fits-block first said filled.0) ∙ (ap (λ l. first_taken plan l said) are ∙ on.1), on.2),
+        let no_cast = (fitting first said filled.0).no_cast (not-true (is_code_slot first) tests.0) in (
+          not_from_false (is_some (cast_of said)) no_cast,
+          (on.0, block-other plan last said (fitting first said filled.0).no_block ∙ (ap (λ l. first_taken plan l said) are ∙ on.1), on.2),
         )
+
+-- where a further run or the first commitment may come
+abbrev pub run_state : Plan → Next
+run_state plan = record { plan = plan; head = head.Runs; due = []; part = part.Ballots 0 }
+
+pub commits-some : (plan : Plan) → 0 < length (commits plan)
+commits-some plan =
+    omega (
+      arith,
+      length-append (each (race_code_commits plan) 0 (length plan.races)) (each (race_row_commits plan) 0 (length plan.races) ++ slot.Seal 1 ∷ []),
+      length-append (each (race_row_commits plan) 0 (length plan.races)) (slot.Seal 1 ∷ []),
+    )
+
+-- a line that is no run is taken as the first commitment
+pub run-other : (plan : Plan) (said : Said) → is_run_line said ≡ false → after_run plan said ≡ body_line plan (commits plan) (part.Ballots 0) said
+run-other plan (Ballots style count) other = cc
+run-other plan said other = refl
+
+pub goes-commits : (plan : Plan) (lines rest : List Said) (end : Next)
+    → Fills (commits plan) lines → Goes (behind plan [] (part.Ballots 0)) rest end → Goes (run_state plan) (lines ++ rest) end
+unfolding take_line
+goes-commits plan lines rest end fills goes =
+    from (commits plan) lines refl (commits-some plan) fills (goes-due plan (commits plan) (part.Ballots 0) lines rest end fills goes)
+  where
+    from : (slots : List Slot) (front : List Said) → commits plan ≡ slots → 0 < length slots → Fills slots front
+        → Goes (behind plan slots (part.Ballots 0)) (front ++ rest) end → Goes (run_state plan) (front ++ rest) end
+    from [] front are some filled on = absurd (omega arith)
+    from (first ∷ due) [] are some filled on = absurd filled
+    from (first ∷ due) (said ∷ front) are some filled on =
+        (on.0, run-other plan said (fitting first said filled.0).no_run ∙ (ap (λ l. body_line plan l (part.Ballots 0) said) are ∙ on.1), on.2)

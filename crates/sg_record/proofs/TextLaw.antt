@@ -1,5 +1,5 @@
 -- Different formed records have different texts.
-use Rattle.std.proofs.Common.{◌≡◌, ℕ, ◌<◌, nat_lt, Bool, true, false, ◌&&◌, not, List, [], ◌∷◌, ◌++◌, All, length, map, None, refl, sym, subst, ap, ◌∙◌, arith}
+use Rattle.std.proofs.Common.{◌≡◌, ℕ, ◌<◌, nat_lt, Bool, true, false, ◌&&◌, not, List, [], ◌∷◌, ◌++◌, All, length, map, None, refl, sym, subst, ap, ◌∙◌, arith, Option, is_some, Some}
 use Rattle.std.proofs.lemmas.Bool.{and_parts, true≢false, not-true}
 use Rattle.std.proofs.lemmas.List.{append_assoc}
 use Rattle.std.proofs.lemmas.List.Elements.{All-head, All-tail}
@@ -17,7 +17,7 @@ use Rattle.sg_forms.proofs.LineLaws.{lines_differ}
 use Rattle.sg_forms.proofs.Plain.{ArePlain, words_plain}
 use Rattle.sg_forms.proofs.WordKinds.{IsInk}
 use Rattle.sg_forms.specs.Said.{Said}
-use Rattle.sg_forms.specs.Said.Said.{Audited, Cast, Code, Dispute, Over, Version}
+use Rattle.sg_forms.specs.Said.Said.{Code, Dispute, Version}
 use Rattle.sg_forms.specs.Spelling.{IsInRange, spelling, words_of}
 use Rattle.sg_forms.specs.declared.line.CodeLine.{CodeLine}
 use Rattle.sg_grammar.specs.Due.{due_audit, commits, race_codes, results}
@@ -30,7 +30,7 @@ use Rattle.sg_record.proofs.CastLines.{cast_of, cast_of-said}
 use Rattle.sg_record.proofs.Filling.{AreIn, Fills, Fills-same, filled}
 use Rattle.sg_record.proofs.FormedLaw.{formed_goes, has_form}
 use Rattle.sg_record.proofs.FormedParts.{HasForm, commits_of, results_of}
-use Rattle.sg_record.proofs.SaidWalk.{Goes, fits-block, fits-no_cast, goes-one, is_block_line, is_cast_line, is_other_slot, opens, results-no_code, results-some}
+use Rattle.sg_record.proofs.SaidWalk.{Goes, fitting, goes-one, is_block_line, is_other_slot, opens, results-no_code, results-some}
 use Rattle.sg_record.proofs.SectionLines.{AreCommits, AreResults, Commits, Results, commits-spells, lines_of_commits, lines_of_results, results-spells}
 use Rattle.sg_record.proofs.WholeLaw.{record_of, record_of-lines}
 use Rattle.sg_plan.specs.Codes.{is_code}
@@ -96,11 +96,11 @@ same_lines a b some more same =
 -- there is a line, and it belongs to no ballot's block
 abbrev closes : List Said → Bool
 closes [] = false
-closes (said ∷ lines) = not (is_cast_line said) && not (is_block_line said)
+closes (said ∷ lines) = not (is_some (cast_of said)) && not (is_block_line said)
 
 closes-opens : (lines : List Said) → closes lines ≡ true → opens lines ≡ true
 closes-opens [] end = cc
-closes-opens (said ∷ lines) end = (and_parts (not (is_cast_line said)) (not (is_block_line said)) end).0
+closes-opens (said ∷ lines) end = (and_parts (not (is_some (cast_of said))) (not (is_block_line said)) end).0
 
 -- the results do
 results-close : (plan : Plan) (lines rest : List Said) → Fills (results plan) lines → closes (lines ++ rest) ≡ true
@@ -111,7 +111,7 @@ results-close plan lines rest fills = from (results plan) lines (results-some pl
     from (first ∷ due) [] some other filled = absurd filled
     from (first ∷ due) (said ∷ front) some other filled =
         let tests = and_parts (is_other_slot first) (list_all is_other_slot due) other in
-        rw (fits-no_cast first said (not-true (is_code_slot first) tests.0) filled.0, fits-block first said filled.0) refl
+        rw ((fitting first said filled.0).no_cast (not-true (is_code_slot first) tests.0), (fitting first said filled.0).no_block) refl
 
 -- a block does not, and it opens
 block-opens : (plan : Plan) (ballot : ℕ) (what : BlockFate) (rest : List Said) → (closes (fate_tree as_line plan ballot what ++ rest) ≡ false) × (opens (fate_tree as_line plan ballot what ++ rest) ≡ true)
@@ -135,11 +135,13 @@ behind_in [] = []
 behind_in (said ∷ lines) = option_map_or (λ line. behind_in lines) (cast_of said) (said ∷ lines)
 
 reads-none : (rest : List Said) → opens rest ≡ true → (cast_in rest ≡ []) × (behind_in rest ≡ rest)
-unfolding cast_in behind_in cast_of
+unfolding cast_in behind_in
 reads-none [] end = cc
-reads-none (Code code ∷ rest) end = cc
-reads-none (Over race ∷ rest) end = cc
-reads-none (said ∷ rest) end = (refl, refl)
+reads-none (said ∷ rest) end = by_line (cast_of said) refl (not-true (is_some (cast_of said)) end)
+  where
+    by_line : (o : Option CastLine) → cast_of said ≡ o → is_some o ≡ false → (cast_in (said ∷ rest) ≡ []) × (behind_in (said ∷ rest) ≡ said ∷ rest)
+    by_line None e none = rw e (refl, refl)
+    by_line (Some line) e none = cc
 
 reads-cast : (lines : List CastLine) (rest : List Said) → opens rest ≡ true → (cast_in (map cast_said lines ++ rest) ≡ lines) × (behind_in (map cast_said lines ++ rest) ≡ rest)
 unfolding cast_in behind_in

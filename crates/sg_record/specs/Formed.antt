@@ -1,23 +1,22 @@
 -- Which records have a text: their lists are as long as the plan says, and their codes, blocks and disputes stand in
 -- the order of the rules (this project's rules for the record).
-use Rattle.std.specs.Prelude.{ℕ, ◌+◌, ◌==◌, nat_lt, nat_le, Bool, true, ◌&&◌, List, [], ◌∷◌, length, take, drop, is_none, false, Option}
+use Rattle.std.specs.Prelude.{ℕ, ◌+◌, ◌==◌, nat_lt, nat_le, Bool, true, ◌&&◌, List, [], ◌∷◌, length, take, drop, false}
 use Rattle.std.specs.List.{list_all}
 use Rattle.std.specs.Option.{option_map_or}
 use Rattle.sg_plan.specs.Ballots.{ballot_has, candidates_of, entries_of, races_of_ballot}
 use Rattle.sg_plan.specs.Codes.{is_code}
 use Rattle.sg_plan.specs.Fates.{paper_fits}
-use Rattle.sg_plan.specs.Limits.{fault_of, most_claims, most_public_bytes}
+use Rattle.sg_plan.specs.Limits.{most_claims, most_public_bytes, plan_keeps}
 use Rattle.sg_plan.specs.declared.plan.Draw.{Draw}
 use Rattle.sg_plan.specs.declared.plan.Draw.TheVariants as drawn
 use Rattle.sg_plan.specs.declared.plan.Plan.{Plan}
 use Rattle.sg_forms.specs.declared.line.CodeLine.{CodeLine}
-use Rattle.sg_grammar.specs.Head.{if_then}
-use Rattle.sg_grammar.specs.Walk.{follows_in_order, is_column, is_later, is_race_left}
+use Rattle.sg_grammar.specs.Walk.{is_later}
+use Rattle.sg_record.specs.Tree.{behind_cast}
 use Rattle.sg_record.specs.declared.record.BallotBlock.{BallotBlock}
 use Rattle.sg_record.specs.declared.record.BlockFate.{BlockFate}
 use Rattle.sg_record.specs.declared.record.BlockFate.TheVariants as fate
 use Rattle.sg_record.specs.declared.record.CastLine.{CastLine}
-use Rattle.sg_record.specs.declared.record.CastLine.TheVariants as cast
 use Rattle.sg_record.specs.declared.record.DisputeBlock.{DisputeBlock}
 use Rattle.sg_record.specs.declared.record.Record.{Record}
 
@@ -44,14 +43,7 @@ has_candidates plan lists = length lists == length plan.races && each_passes (λ
 
 -- CODES
 
--- the race and the column from which on the next line of a cast ballot is, behind a line that may stand from this race and
--- column on: races don't fall, in one race columns rise, and behind a race that is over no line is of it
-abbrev pub behind_cast : Plan → ℕ → ℕ → ℕ → CastLine → Option (ℕ × ℕ)
-behind_cast plan ballot race column (cast.Code code) =
-    if_then ((is_column plan ballot code.race code.column && follows_in_order race column code.race code.column) && is_code plan code.code) (code.race, code.column + 1)
-behind_cast plan ballot race column (cast.Over over) = if_then (is_race_left plan ballot race over) (over + 1, 0)
-
--- such lines, one after another
+-- lines of a cast ballot from this race and column on, one after another
 abbrev pub are_cast : Plan → ℕ → ℕ → ℕ → List CastLine → Bool
 are_cast plan ballot race column [] = true
 are_cast plan ballot race column (line ∷ lines) = option_map_or (λ next. are_cast plan ballot next.0 next.1 lines) (behind_cast plan ballot race column line) false
@@ -68,14 +60,10 @@ are_columns plan (race ∷ races) codes = has_columns plan race (take (candidate
 
 -- BLOCKS
 
--- a paper for each race, with a code for each candidate
-abbrev pub are_papers : Plan → List ℕ → List (List ℕ) → Bool
-are_papers plan races papers = paper_fits plan races papers
-
 abbrev pub is_fate : Plan → ℕ → BlockFate → Bool
 is_fate plan ballot (fate.Cast lines) = are_cast plan ballot 0 0 lines
 is_fate plan ballot fate.Spoiled = true
-is_fate plan ballot (fate.Audited papers codes) = are_papers plan (races_of_ballot plan ballot) papers && are_columns plan (races_of_ballot plan ballot) codes
+is_fate plan ballot (fate.Audited papers codes) = paper_fits plan (races_of_ballot plan ballot) papers && are_columns plan (races_of_ballot plan ballot) codes
 is_fate plan ballot fate.Voided = plan.version == 2
 
 -- blocks of rising ballots behind this one
@@ -98,7 +86,7 @@ is_draw (drawn.Public bytes) = nat_le 1 (length bytes) && nat_le (length bytes) 
 -- the record has a text
 unfoldable pub is_formed : Record → Bool
 is_formed posted =
-    (is_none (fault_of posted.plan) && length posted.seals == 3)
+    (plan_keeps posted.plan && length posted.seals == 3)
     && (has_entries posted.plan posted.code_commits
     && (has_rows posted.plan posted.row_commits
     && (are_blocks posted.plan 0 posted.ballots

@@ -2,10 +2,11 @@
 -- (this project's rules for the record).
 --
 -- A leaf of this tree is a line: what it says, and its place. `Lines` takes what the leaves say, and `Places` where they stand.
-use Rattle.std.specs.Prelude.{ℕ, ◌+◌, ◌-◌, ◌*◌, if◌then◌else◌, Bool, List, [], ◌∷◌, ◌++◌, length, map, take, drop, slice_index_or}
+use Rattle.std.specs.Prelude.{ℕ, ◌+◌, ◌-◌, ◌*◌, if◌then◌else◌, Bool, ◌&&◌, List, [], ◌∷◌, ◌++◌, length, map, take, drop, slice_index_or, Option, Some, None}
 use Rattle.std.specs.List.{flat_map, zip}
 use Rattle.sg_commit.specs.declared.Digest.{Digest}
 use Rattle.sg_plan.specs.Ballots.{races_of_ballot}
+use Rattle.sg_plan.specs.Codes.{is_code}
 use Rattle.sg_plan.specs.declared.plan.Draw.{Draw}
 use Rattle.sg_plan.specs.declared.plan.Draw.TheVariants as drawn
 use Rattle.sg_plan.specs.declared.plan.Plan.{Plan}
@@ -15,8 +16,10 @@ use Rattle.sg_forms.specs.declared.line.RowOpening.{RowOpening}
 use Rattle.sg_forms.specs.Said.{Said}
 use Rattle.sg_forms.specs.Said.Said.{CodeCommit, RowCommit, Seal, Cast, Spoiled, Audited, Code, Over, Paper, Flags, Places, Total, DrawFull, DrawPublic, Row, Dispute, Voided}
 use Rattle.sg_grammar.specs.Due.{each, lines_for}
+use Rattle.sg_grammar.specs.Head.{if_then}
 use Rattle.sg_grammar.specs.Placed.{Placed}
 use Rattle.sg_grammar.specs.Placed.Placed.{CodeCommitAt, RowCommitAt, SealAt, Begun, CodeAt, OverAt, PaperAt, FlagsAt, PlacesAt, TotalAt, DrawnFull, DrawnPublic, RowAt, Disputed}
+use Rattle.sg_grammar.specs.Walk.{follows_in_order, is_column, is_race_left}
 use Rattle.sg_grammar.specs.declared.state.Block.{Block}
 use Rattle.sg_grammar.specs.declared.state.Block.TheVariants as block
 use Rattle.sg_record.specs.declared.record.BallotBlock.{BallotBlock}
@@ -74,14 +77,28 @@ commit_tree leaf posted = indexed (race_code_commit_tree leaf) 0 posted.code_com
 abbrev pub code_leaf : {A : Type 0} → Leaf A → Block → ℕ → CodeLine → A
 code_leaf leaf kind ballot code = leaf (Code code) (CodeAt kind ballot code.race code.column code)
 
--- a line of a cast ballot
+-- a line of a cast ballot: what it says
 abbrev pub cast_said : CastLine → Said
 cast_said (cast.Code code) = Code code
 cast_said (cast.Over race) = Over race
 
+-- its place
 abbrev pub cast_place : ℕ → CastLine → Placed
 cast_place ballot (cast.Code code) = CodeAt block.Cast ballot code.race code.column code
 cast_place ballot (cast.Over race) = OverAt ballot race
+
+-- the line that stands in a place, if the place is one of a cast ballot
+abbrev pub cast_at : Placed → Option CastLine
+cast_at (CodeAt block.Cast ballot race column code) = Some (cast.Code code)
+cast_at (OverAt ballot race) = Some (cast.Over race)
+cast_at placed = None
+
+-- the race and the column from which on the next line of a cast ballot is, behind a line that may stand from this race and
+-- column on: races don't fall, in one race columns rise, and behind a race that is over no line is of it
+abbrev pub behind_cast : Plan → ℕ → ℕ → ℕ → CastLine → Option (ℕ × ℕ)
+behind_cast plan ballot race column (cast.Code code) =
+    if_then ((is_column plan ballot code.race code.column && follows_in_order race column code.race code.column) && is_code plan code.code) (code.race, code.column + 1)
+behind_cast plan ballot race column (cast.Over over) = if_then (is_race_left plan ballot race over) (over + 1, 0)
 
 abbrev pub cast_leaf : {A : Type 0} → Leaf A → ℕ → CastLine → A
 cast_leaf leaf ballot line = leaf (cast_said line) (cast_place ballot line)

@@ -9,8 +9,9 @@ ghost use Rattle.sg_plan.specs.Ballots.{races_of_ballot};
 ghost use Rattle.sg_record.specs.declared.record.BlockFate.TheVariants as fate;
 ghost use Rattle.sg_record.specs.Pens.{Writes};
 ghost use Rattle.sg_record.specs.Writing.{HaveCodes};
-ghost use Rattle.sg_record.specs.inside.Parts.{ArePapers, HasCastCode, HaveCastCodes, HaveClaims, HaveFates, paper_lines};
+ghost use Rattle.sg_record.specs.inside.Parts.{ArePapers, HaveClaims, HaveFates, paper_lines};
 
+use crate::one_line::{OneLine, put_lines};
 use crate::pen::Pen;
 use crate::record::{BallotBlock, BlockFate, CastLine, DisputeBlock};
 use sg_forms::{CodeLine, Line};
@@ -18,12 +19,20 @@ use sg_outside::{Failed, Sink};
 use sg_plan::limits::MOST_CANDIDATES;
 use sg_plan::{BallotIndex, Items, Paper};
 
-/// Writes a code.
-fn put_code<O: Sink>(pen: &mut Pen, code: &CodeLine, out: &mut O) -> Result<(), Failed>
-    requires code { IsCode pen.old.version code.now.code }
-    ensures { Writes O.written O.faults pen.old out.old pen.new out.new result (Code code.now ∷ []) }
-{
-    pen.put_line(&Line::Code(*code), out)
+impl OneLine for CodeLine {
+    ghost told = { Code };
+
+    fn put<O: Sink>(&self, pen: &mut Pen, out: &mut O) -> Result<(), Failed> {
+        pen.put_line(&Line::Code(*self), out)
+    }
+}
+
+impl OneLine for CastLine {
+    ghost told = { cast_said };
+
+    fn put<O: Sink>(&self, pen: &mut Pen, out: &mut O) -> Result<(), Failed> {
+        pen.put_line(&self.line(), out)
+    }
 }
 
 /// Writes codes.
@@ -31,36 +40,7 @@ fn put_codes<O: Sink>(pen: &mut Pen, codes: &Items<CodeLine>, out: &mut O) -> Re
     requires codes { HaveCodes pen.old.version codes.now }
     ensures { Writes O.written O.faults pen.old out.old pen.new out.new result (map Code codes.now) }
 {
-    for at in 0..codes.len() {
-        put_code(pen, codes.get(at), out)?;
-    }
-    Ok(())
-}
-
-/// Writes a line of a cast ballot.
-fn put_cast_line<O: Sink>(pen: &mut Pen, line: &CastLine, out: &mut O) -> Result<(), Failed>
-    requires code { HasCastCode pen.old.version line.now }
-    ensures { Writes O.written O.faults pen.old out.old pen.new out.new result (cast_said line.now ∷ []) }
-{
-    match line {
-        CastLine::Code(code) => put_code(pen, code, out),
-        CastLine::Over(race) => pen.put_line(&Line::Over(*race), out),
-    }
-}
-
-/// Writes the lines of a cast ballot.
-fn put_cast_lines<O: Sink>(
-    pen: &mut Pen,
-    lines: &Items<CastLine>,
-    out: &mut O,
-) -> Result<(), Failed>
-    requires codes { HaveCastCodes pen.old.version lines.now }
-    ensures { Writes O.written O.faults pen.old out.old pen.new out.new result (map cast_said lines.now) }
-{
-    for at in 0..lines.len() {
-        put_cast_line(pen, lines.get(at), out)?;
-    }
-    Ok(())
+    put_lines(pen, codes, out)
 }
 
 /// Writes the codes of a race's paper.
@@ -115,7 +95,7 @@ fn put_cast<O: Sink>(
     ensures { Writes O.written O.faults pen.old out.old pen.new out.new result (fate_tree as_line index.now ballot (fate.Cast lines.now)) }
 {
     pen.put_line(&Line::Cast(ballot), out)?;
-    put_cast_lines(pen, lines, out)
+    put_lines(pen, lines, out)
 }
 
 /// Writes the block of an audited ballot with these races.

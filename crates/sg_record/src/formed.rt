@@ -1,13 +1,17 @@
 //! Which records have a text: each list is as long as the plan says, and codes, blocks and disputes stand in order.
 //!
 //! Each list is walked over once, and only the index of the plan's ballots takes memory.
-ghost use Rattle.std.specs.Prelude.{◌≡◌, ℕ, ◌==◌, ◌<◌, IsTrue, IfOk, nat_lt, nat_le, ◌&&◌, length};
+ghost use Rattle.std.specs.Prelude.{◌≡◌, ℕ, ◌+◌, ◌==◌, ◌<◌, IsTrue, IfOk, nat_lt, nat_le, ◌&&◌, length};
 ghost use Rattle.std.specs.List.{list_all, list_any};
 ghost use Rattle.sg_plan.specs.Ballots.{candidates_of, entries_of, races_of_ballot};
 ghost use Rattle.sg_plan.specs.Limits.{most_claims};
-ghost use Rattle.sg_grammar.specs.Walk.{follows_in_order};
+ghost use Rattle.sg_grammar.specs.Head.{if_then};
+ghost use Rattle.sg_grammar.specs.Walk.{follows_in_order, is_race_left};
 ghost use Rattle.sg_plan.specs.Codes.{is_code};
-ghost use Rattle.sg_record.specs.Formed.{are_blocks, are_cast, are_columns, are_papers, behind_cast, has_candidates, has_columns, has_entries, has_rows, is_dispute, is_draw, is_fate, is_formed};
+ghost use Rattle.sg_plan.specs.Fates.{paper_fits};
+ghost use Rattle.sg_record.specs.Formed.{are_blocks, are_cast, are_columns, has_candidates, has_columns, has_entries, has_rows, is_dispute, is_draw, is_fate, is_formed};
+ghost use Rattle.sg_record.specs.Tree.{behind_cast};
+ghost use Rattle.sg_record.specs.declared.record.CastLine.TheVariants as cast;
 
 use crate::record::{BallotBlock, BlockFate, CastLine, DisputeBlock, Record};
 use sg_forms::CodeLine;
@@ -24,7 +28,7 @@ fn entries_in(index: &BallotIndex, race: u32) -> usize
 }
 
 /// Each race has a list with an item for each of its entries.
-#[tactic(auto, using(crate::proofs::Bounds::few_races))]
+#[tactic(auto, using(crate::proofs::Limits::few_races))]
 fn has_entries<T>(index: &BallotIndex, lists: &Items<Items<T>>) -> bool
     ensures { result ≡ has_entries index.now lists.now }
 {
@@ -58,7 +62,7 @@ fn has_race_rows<T>(index: &BallotIndex, race: u32, lists: &Items<Items<T>>) -> 
 }
 
 /// Each race has a list for each instance, with an item for each of its rows.
-#[tactic(auto, using(crate::proofs::Bounds::few_races))]
+#[tactic(auto, using(crate::proofs::Limits::few_races))]
 fn has_rows<T>(index: &BallotIndex, lists: &Items<Items<Items<T>>>) -> bool
     ensures { result ≡ has_rows index.now lists.now }
 {
@@ -144,44 +148,51 @@ fn is_race_left(plan: &Plan, races: &[u32], least: u32, race: u32) -> bool
     least <= race
 }
 
-/// The race and the column from which on the next line of a cast ballot with these races is, behind one from this race and
-/// column on. `None` where the line may not stand.
-#[tactic(auto, using(crate::proofs::BlockTests::marks))]
-fn behind_cast(
+/// The race and the column from which on the next line of a cast ballot with these races is, behind this code. `None` where
+/// the code may not stand from this race and column on.
+#[tactic(auto, using(crate::proofs::CastLines::marks))]
+pub(crate) fn behind_code(
     index: &BallotIndex,
     races: &[u32],
     race: u32,
     column: u32,
-    line: &CastLine,
+    code: &CodeLine,
 ) -> Option<(u32, u32)>
-    ensures { (ballot : ℕ) → races.now ≡ races_of_ballot index.now ballot → result ≡ behind_cast index.now ballot race column line.now }
+    ensures { (ballot : ℕ) → races.now ≡ races_of_ballot index.now ballot → result ≡ behind_cast index.now ballot race column (cast.Code code.now) }
 {
     let plan = index.plan();
-    match line {
-        CastLine::Code(code) => {
-            if !is_mark(plan, races, race, column, code) {
-                return None;
-            }
-            Some((code.race, code.column + 1))
-        }
-        CastLine::Over(over) => {
-            if !is_race_left(plan, races, race, *over) {
-                return None;
-            }
-            Some((*over + 1, 0))
-        }
+    if !is_mark(plan, races, race, column, code) {
+        return None;
     }
+    Some((code.race, code.column + 1))
 }
 
-/// The lines are those of a cast ballot with these races: races don't fall, in one race columns rise, and behind a race
-/// that is over no line is of it.
+/// The same behind a line that ends a race. `None` where the race is not left from this race on.
+#[tactic(auto, using(crate::proofs::CastLines::marks))]
+pub(crate) fn behind_race(
+    index: &BallotIndex,
+    races: &[u32],
+    least: u32,
+    race: u32,
+) -> Option<(u32, u32)>
+    ensures { (ballot : ℕ) → races.now ≡ races_of_ballot index.now ballot → result ≡ if_then (is_race_left index.now ballot least race) (race + 1, 0) }
+{
+    let plan = index.plan();
+    if !is_race_left(plan, races, least, race) {
+        return None;
+    }
+    Some((race + 1, 0))
+}
+
+/// The lines are those of a cast ballot with these races: races don't fall, in one race columns rise, and behind a note of
+/// a race no line is of it.
 fn are_cast(index: &BallotIndex, races: &[u32], lines: &Items<CastLine>) -> bool
     ensures { (ballot : ℕ) → races.now ≡ races_of_ballot index.now ballot → result ≡ are_cast index.now ballot 0 0 lines.now }
 {
     let mut race = 0;
     let mut column = 0;
     for at in 0..lines.len() {
-        let Some(next) = behind_cast(index, races, race, column, lines.get(at)) else {
+        let Some(next) = lines.get(at).behind(index, races, race, column) else {
             return false;
         };
         race = next.0;
@@ -209,7 +220,7 @@ fn is_paper_of(plan: &Plan, race: u32, list: &Items<u16>) -> bool
 
 /// A list for each of the races, with a code for each candidate.
 fn are_papers(plan: &Plan, races: &[u32], papers: &Paper) -> bool
-    ensures { result ≡ are_papers plan.now races.now papers.now }
+    ensures { result ≡ paper_fits plan.now races.now papers.now }
 {
     for at in 0..papers.len() {
         if at >= races.len() {
@@ -356,7 +367,7 @@ impl Record {
     /// blocks and disputes stand in the order of the rules.
     ///
     /// Its time is that of one walk over all lists. An index of the plan's ballots takes memory for the length of the call.
-    #[tactic(auto, unfolding(crate::specs::Formed::is_formed))]
+    #[tactic(auto, unfolding(crate::specs::Formed::is_formed), using(sg_plan::proofs::KeptPlans::plan_keeps_is))]
     pub fn is_formed(&self, alloc: Global) -> Result<bool, NoMemory>
         ensures { IfOk result (λ formed. formed ≡ is_formed self.now) }
     {

@@ -8,29 +8,20 @@ ghost use Rattle.sg_record.specs.Lines.{plan_lines, race_lines, run_line, style_
 ghost use Rattle.sg_record.specs.Pens.{Writes};
 ghost use Rattle.sg_record.specs.inside.Parts.{StyleFits};
 
+use crate::one_line::{OneLine, put_lines};
 use crate::pen::Pen;
 use sg_forms::Line;
 use sg_outside::{Failed, Sink};
 use sg_plan::limits::MOST_RACES;
 use sg_plan::{Items, Plan, Race, Run, Style, Word};
 
-/// Writes a candidate.
-fn put_candidate<O: Sink>(pen: &mut Pen, name: &Word, out: &mut O) -> Result<(), Failed>
-    requires name { IsName name.now }
-    ensures { Writes O.written O.faults pen.old out.old pen.new out.new result (Cand name.now ∷ []) }
-{
-    pen.put_line(&Line::Cand(name.bytes()), out)
-}
+/// The name of a candidate.
+impl OneLine for Word {
+    ghost told = { Cand };
 
-/// Writes the candidates of a race.
-fn put_candidates<O: Sink>(pen: &mut Pen, names: &Items<Word>, out: &mut O) -> Result<(), Failed>
-    requires names { All IsName names.now }
-    ensures { Writes O.written O.faults pen.old out.old pen.new out.new result (map Cand names.now) }
-{
-    for at in 0..names.len() {
-        put_candidate(pen, names.get(at), out)?;
+    fn put<O: Sink>(&self, pen: &mut Pen, out: &mut O) -> Result<(), Failed> {
+        pen.put_line(&Line::Cand(self.bytes()), out)
     }
-    Ok(())
 }
 
 /// Writes a race.
@@ -52,7 +43,7 @@ fn put_race<O: Sink>(pen: &mut Pen, race: &Race, out: &mut O) -> Result<(), Fail
     ensures { Writes O.written O.faults pen.old out.old pen.new out.new result (race_lines race.now) }
 {
     put_race_line(pen, race, out)?;
-    put_candidates(pen, &race.candidates, out)
+    put_lines(pen, &race.candidates, out)
 }
 
 /// Writes all races.
@@ -66,19 +57,19 @@ fn put_races<O: Sink>(pen: &mut Pen, races: &Items<Race>, out: &mut O) -> Result
     Ok(())
 }
 
-/// Writes a style.
-fn put_style<O: Sink>(pen: &mut Pen, style: &Style, out: &mut O) -> Result<(), Failed>
-    requires style { StyleFits style.now }
-    ensures { Writes O.written O.faults pen.old out.old pen.new out.new result (style_line style.now ∷ []) }
-{
-    let mut races = [0; MOST_RACES];
-    races[..style.races.len()].copy_from_slice(style.races.as_slice());
-    let line = Line::Style {
-        name: style.name.bytes(),
-        races,
-        count: style.races.len() as u32,
-    };
-    pen.put_line(&line, out)
+impl OneLine for Style {
+    ghost told = { style_line };
+
+    fn put<O: Sink>(&self, pen: &mut Pen, out: &mut O) -> Result<(), Failed> {
+        let mut races = [0; MOST_RACES];
+        races[..self.races.len()].copy_from_slice(self.races.as_slice());
+        let line = Line::Style {
+            name: self.name.bytes(),
+            races,
+            count: self.races.len() as u32,
+        };
+        pen.put_line(&line, out)
+    }
 }
 
 /// Writes all styles.
@@ -86,31 +77,19 @@ fn put_styles<O: Sink>(pen: &mut Pen, styles: &Items<Style>, out: &mut O) -> Res
     requires styles { All StyleFits styles.now }
     ensures { Writes O.written O.faults pen.old out.old pen.new out.new result (map style_line styles.now) }
 {
-    for at in 0..styles.len() {
-        put_style(pen, styles.get(at), out)?;
-    }
-    Ok(())
+    put_lines(pen, styles, out)
 }
 
-/// Writes a run.
-fn put_run<O: Sink>(pen: &mut Pen, run: &Run, out: &mut O) -> Result<(), Failed>
-    ensures { Writes O.written O.faults pen.old out.old pen.new out.new result (run_line run.now ∷ []) }
-{
-    let line = Line::Ballots {
-        style: run.style,
-        count: run.count,
-    };
-    pen.put_line(&line, out)
-}
+impl OneLine for Run {
+    ghost told = { run_line };
 
-/// Writes all runs.
-fn put_runs<O: Sink>(pen: &mut Pen, runs: &Items<Run>, out: &mut O) -> Result<(), Failed>
-    ensures { Writes O.written O.faults pen.old out.old pen.new out.new result (map run_line runs.now) }
-{
-    for at in 0..runs.len() {
-        put_run(pen, runs.get(at), out)?;
+    fn put<O: Sink>(&self, pen: &mut Pen, out: &mut O) -> Result<(), Failed> {
+        let line = Line::Ballots {
+            style: self.style,
+            count: self.count,
+        };
+        pen.put_line(&line, out)
     }
-    Ok(())
 }
 
 /// Writes the election's name.
@@ -141,5 +120,5 @@ pub(crate) fn put_plan<O: Sink>(pen: &mut Pen, plan: &Plan, out: &mut O) -> Resu
     put_front(pen, plan, out)?;
     put_races(pen, &plan.races, out)?;
     put_styles(pen, &plan.styles, out)?;
-    put_runs(pen, &plan.runs, out)
+    put_lines(pen, &plan.runs, out)
 }

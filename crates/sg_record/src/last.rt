@@ -29,9 +29,7 @@ fn push_cast(fate: &mut BlockFate, line: CastLine) -> Result<(), NoMemory>
 {
     match fate {
         BlockFate::Cast(lines) => lines.push(line),
-        BlockFate::Audited(..) => Ok(()),
-        BlockFate::Spoiled => Ok(()),
-        BlockFate::Voided => Ok(()),
+        _ => Ok(()),
     }
 }
 
@@ -41,9 +39,7 @@ fn push_code(fate: &mut BlockFate, code: CodeLine) -> Result<(), NoMemory>
 {
     match fate {
         BlockFate::Audited(_, codes) => codes.push(code),
-        BlockFate::Cast(..) => Ok(()),
-        BlockFate::Spoiled => Ok(()),
-        BlockFate::Voided => Ok(()),
+        _ => Ok(()),
     }
 }
 
@@ -57,9 +53,7 @@ fn push_paper(alloc: Global, fate: &mut BlockFate, codes: &[u16]) -> Result<(), 
             list.extend(codes)?;
             papers.push(list)
         }
-        BlockFate::Cast(..) => Ok(()),
-        BlockFate::Spoiled => Ok(()),
-        BlockFate::Voided => Ok(()),
+        _ => Ok(()),
     }
 }
 

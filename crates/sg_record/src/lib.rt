@@ -11,6 +11,7 @@ mod lines;
 mod listed;
 mod lists;
 mod nested;
+mod one_line;
 mod openings;
 mod pen;
 mod posts;

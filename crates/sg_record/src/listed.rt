@@ -2,7 +2,7 @@
 use crate::blocks::{put_blocks, put_disputes};
 use crate::commits::{put_code_commit, put_row_commit};
 use crate::lines::put_section_seal;
-use crate::openings::put_row;
+use crate::one_line::put_lines;
 use crate::pen::Pen;
 use crate::posts::Posts;
 use crate::record::Record;
@@ -80,10 +80,7 @@ impl Posts for Record {
     ) -> Result<(), Failed> {
         let instances = self.rows.get(race as usize);
         let rows = instances.get(instance as usize);
-        for at in 0..rows.len() {
-            put_row(pen, rows.get(at), out)?;
-        }
-        Ok(())
+        put_lines(pen, rows, out)
     }
 
     fn put_disputes<O: Sink>(

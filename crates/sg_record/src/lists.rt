@@ -1,9 +1,10 @@
 //! The lists of a record, put together from its lines.
-ghost use Rattle.std.specs.Prelude.{◌≡◌, ℕ, IfOk, OnOk, take};
+ghost use Rattle.std.specs.Prelude.{◌≡◌, ℕ, IfOk, IsSome, OnOk, take};
 ghost use Rattle.sg_forms.specs.Reading.{bytes_of_digits};
 ghost use Rattle.sg_forms.specs.Said.{Said, said};
 ghost use Rattle.sg_grammar.specs.Placed.Placed.{CodeAt};
 ghost use Rattle.sg_grammar.specs.Coordinates.{placed};
+ghost use Rattle.sg_record.specs.Tree.{cast_at};
 ghost use Rattle.sg_record.specs.inside.Gathering.{blank, sealed};
 ghost use Rattle.sg_record.specs.inside.Growing.{Adds, IsOfRace, with_plan};
 
@@ -93,10 +94,6 @@ impl Lists {
                 self.ballots.push(BallotBlock { ballot, fate })
             }
             PlacedLine::Code { block, code, .. } => self.add_code(alloc, block, code),
-            PlacedLine::Over { race, .. } => {
-                let line = CastLine::Over(race);
-                push_last(alloc, &mut self.ballots, Addition::Cast(line))
-            }
             PlacedLine::Paper { codes, count, .. } => {
                 let paper = Addition::Paper(first_codes(&codes, count));
                 push_last(alloc, &mut self.ballots, paper)
@@ -125,7 +122,8 @@ impl Lists {
         }
     }
 
-    /// Adds a line that stands in the list of a race, or of one of its instances. Any other adds nothing.
+    /// Adds a line that stands in the list of a race, or of one of its instances, or a line of a cast ballot. Any other
+    /// adds nothing.
     fn add_of_race(&mut self, alloc: Global, at: &PlacedLine) -> Result<(), NoMemory>
         ensures { OnOk result (IsOfRace (placed at.now) → (s : Said) → Adds self.old self.new (placed at.now) s) }
     {
@@ -159,7 +157,17 @@ impl Lists {
                 opening,
                 ..
             } => push_in(alloc, &mut self.rows, race, instance, opening),
-            _ => Ok(()),
+            _ => self.add_cast(alloc, at),
+        }
+    }
+
+    /// Adds a line of a cast ballot. Any other adds nothing.
+    fn add_cast(&mut self, alloc: Global, at: &PlacedLine) -> Result<(), NoMemory>
+        ensures { OnOk result (IsSome (cast_at (placed at.now)) → (s : Said) → Adds self.old self.new (placed at.now) s) }
+    {
+        match CastLine::at(at) {
+            Some(line) => push_last(alloc, &mut self.ballots, Addition::Cast(line)),
+            None => Ok(()),
         }
     }
 

@@ -9,6 +9,7 @@ ghost use Rattle.sg_record.specs.Tree.{as_line, draw_leaf, indexed, opening_tree
 ghost use Rattle.sg_record.specs.Pens.{SealsWhere, Writes};
 ghost use Rattle.sg_record.specs.Writing.{text_in};
 
+use crate::one_line::OneLine;
 use crate::pen::Pen;
 use crate::posts::{Posts, count_instances, count_races};
 use sg_forms::{Line, RowOpening, know_bytes};
@@ -51,6 +52,14 @@ pub fn put_row<O: Sink>(pen: &mut Pen, opening: &RowOpening, out: &mut O) -> Res
     ensures { Writes O.written O.faults pen.old out.old pen.new out.new result (Row opening.now ∷ []) }
 {
     pen.put_line(&Line::Row(*opening), out)
+}
+
+impl OneLine for RowOpening {
+    ghost told = { Row };
+
+    fn put<O: Sink>(&self, pen: &mut Pen, out: &mut O) -> Result<(), Failed> {
+        put_row(pen, self, out)
+    }
 }
 
 /// Writes what is opened of the rows of a race.

@@ -1,7 +1,15 @@
 //! A public record, as lists by race, instance and row.
+ghost use Rattle.std.specs.Prelude.{◌≡◌, ℕ};
+ghost use Rattle.sg_forms.specs.Said.{said};
+ghost use Rattle.sg_grammar.specs.Coordinates.{placed};
+ghost use Rattle.sg_plan.specs.Ballots.{races_of_ballot};
+ghost use Rattle.sg_record.specs.Tree.{behind_cast, cast_at, cast_said};
+
+use crate::formed::{behind_code, behind_race};
 use sg_commit::Digest;
-use sg_forms::{CodeLine, RowOpening};
-use sg_plan::{ClaimWord, Draw, Items, Paper, Plan};
+use sg_forms::{CodeLine, Line, RowOpening};
+use sg_grammar::{Block, PlacedLine};
+use sg_plan::{BallotIndex, ClaimWord, Draw, Items, Paper, Plan};
 
 /// The commitments of a row's two pointers.
 #[derive(Clone, Copy, Debug, PartialEq, Eq)]
@@ -19,6 +27,50 @@ pub enum CastLine {
     Code(CodeLine),
     /// The race is over: it has more marks than a voter has votes in it, and none of them counts.
     Over(u32),
+}
+
+impl CastLine {
+    /// What the line says.
+    pub(crate) fn line(&self) -> Line<'_>
+        ensures { said result ≡ cast_said self.now }
+    {
+        match self {
+            CastLine::Code(code) => Line::Code(*code),
+            CastLine::Over(race) => Line::Over(*race),
+        }
+    }
+
+    /// The line that stands in this place, if the place is one of a cast ballot.
+    pub(crate) fn at(place: &PlacedLine) -> Option<CastLine>
+        ensures { result ≡ cast_at (placed place.now) }
+    {
+        match *place {
+            PlacedLine::Code {
+                block: Block::Cast,
+                code,
+                ..
+            } => Some(CastLine::Code(code)),
+            PlacedLine::Over { race, .. } => Some(CastLine::Over(race)),
+            _ => None,
+        }
+    }
+
+    /// The race and the column from which on the next line of a cast ballot with these races is, behind this one. `None`
+    /// where it may not stand from this race and column on.
+    pub(crate) fn behind(
+        &self,
+        index: &BallotIndex,
+        races: &[u32],
+        race: u32,
+        column: u32,
+    ) -> Option<(u32, u32)>
+        ensures { (ballot : ℕ) → races.now ≡ races_of_ballot index.now ballot → result ≡ behind_cast index.now ballot race column self.now }
+    {
+        match self {
+            CastLine::Code(code) => behind_code(index, races, race, column, code),
+            CastLine::Over(over) => behind_race(index, races, race, *over),
+        }
+    }
 }
 
 /// What a ballot's block says of it.

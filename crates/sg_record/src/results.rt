@@ -47,7 +47,7 @@ fn count_lines(bits: usize) -> usize
 }
 
 /// The bits of a line.
-#[tactic(auto, using(crate::proofs::Bits::on_line))]
+#[tactic(auto, using(crate::proofs::BitLines::on_line))]
 fn bits_on(bits: &[bool], line: usize) -> &[bool]
     requires { line < lines_for (length bits.now) }
     ensures is { result.now ≡ take 64 (drop (64 * line) bits.now) }
@@ -60,7 +60,7 @@ fn bits_on(bits: &[bool], line: usize) -> &[bool]
 }
 
 /// Writes a line of flags.
-#[tactic(auto, using(crate::proofs::Bits::few_bits))]
+#[tactic(auto, using(crate::proofs::BitLines::few_bits))]
 fn put_flag_line<O: Sink>(
     pen: &mut Pen,
     race: u32,
@@ -117,7 +117,7 @@ fn put_race_flags<O: Sink>(
 }
 
 /// Writes a line of places.
-#[tactic(auto, using(crate::proofs::Bits::few_bits))]
+#[tactic(auto, using(crate::proofs::BitLines::few_bits))]
 fn put_place_line<O: Sink>(
     pen: &mut Pen,
     race: u32,

@@ -5,155 +5,112 @@ ghost use Rattle.std.specs.Prelude.{◌≡◌, All, true};
 ghost use Rattle.sg_forms.specs.Spelling.{IsNumber, IsRow};
 ghost use Rattle.sg_record.specs.Formed.{is_formed};
 ghost use Rattle.sg_record.specs.Laws.{HasWords};
-ghost use Rattle.sg_record.specs.Typed.{AreDigests, AreDrawn, BlockHasKeys, DisputeHasKeys, HasCastKey, HasKey, HaveKeys, IsDigest, IsTyped};
+ghost use Rattle.sg_record.specs.Typed.{AreDigests, AreDrawn, BlockHasKeys, DisputeHasKeys, HasCastKey, HasKey, IsDigest, IsTyped};
 
 use crate::record::{BallotBlock, BlockFate, CastLine, DisputeBlock, Record, RowCommit};
 use sg_commit::Digest;
-use sg_forms::{CodeLine, RowOpening, know_bytes, know_digest, know_key, know_numbers, know_row};
+use sg_forms::{CodeLine, RowOpening, know_bytes, know_digest, know_key, know_row};
 use sg_plan::{Draw, Items};
 
-/// The digests are such.
-fn know_digests(digests: &Items<Digest>)
-    ensures { All IsDigest digests.now }
+/// A value of which its type says something.
+trait Known {
+    ghost known: { Self → Type 0 };
+
+    /// What its type says of it holds.
+    fn know(&self)
+        ensures { known self.now };
+}
+
+/// What the type of the items says holds of each.
+fn know_each<T: Known>(items: &Items<T>)
+    ensures { All T.known items.now }
 {
-    for at in 0..digests.len() {
-        know_digest(digests.get(at));
+    for at in 0..items.len() {
+        items.get(at).know();
     }
 }
 
-/// The digests of each race are such.
-fn know_race_digests(races: &Items<Items<Digest>>)
-    ensures { All (All IsDigest) races.now }
-{
-    for at in 0..races.len() {
-        know_digests(races.get(at));
+impl<T: Known> Known for Items<T> {
+    ghost known = { All T.known };
+
+    fn know(&self) {
+        know_each(self);
     }
 }
 
-/// The digests of a row are such.
-fn know_row_commit(commit: &RowCommit)
-    ensures { AreDigests commit.now }
-{
-    know_digest(&commit.left);
-    know_digest(&commit.right);
-}
+/// The number has 32 bits.
+fn know_number(number: u32)
+    ensures { IsNumber number }
+{}
 
-/// The digests of the rows are such.
-fn know_row_commits(commits: &Items<RowCommit>)
-    ensures { All AreDigests commits.now }
-{
-    for at in 0..commits.len() {
-        know_row_commit(commits.get(at));
+impl Known for u32 {
+    ghost known = { IsNumber };
+
+    fn know(&self) {
+        know_number(*self);
     }
 }
 
-/// The digests of the rows of each instance are such.
-fn know_instance_commits(instances: &Items<Items<RowCommit>>)
-    ensures { All (All AreDigests) instances.now }
-{
-    for at in 0..instances.len() {
-        know_row_commits(instances.get(at));
+impl Known for Digest {
+    ghost known = { IsDigest };
+
+    fn know(&self) {
+        know_digest(self);
     }
 }
 
-/// The digests of the rows of each race are such.
-fn know_race_commits(races: &Items<Items<Items<RowCommit>>>)
-    ensures { All (All (All AreDigests)) races.now }
-{
-    for at in 0..races.len() {
-        know_instance_commits(races.get(at));
+impl Known for RowCommit {
+    ghost known = { AreDigests };
+
+    fn know(&self) {
+        know_digest(&self.left);
+        know_digest(&self.right);
     }
 }
 
-/// The keys of the codes are such.
-fn know_codes(codes: &Items<CodeLine>)
-    ensures { All HasKey codes.now }
-{
-    for at in 0..codes.len() {
-        know_key(&codes.get(at).key);
+impl Known for RowOpening {
+    ghost known = { IsRow };
+
+    fn know(&self) {
+        know_row(self);
     }
 }
 
-/// The key of a line of a cast ballot is such, if it has one.
-fn know_cast_line(line: &CastLine)
-    ensures { HasCastKey line.now }
-{
-    if let CastLine::Code(code) = line {
-        know_key(&code.key);
+impl Known for CodeLine {
+    ghost known = { HasKey };
+
+    fn know(&self) {
+        know_key(&self.key);
     }
 }
 
-/// The keys of the lines of a cast ballot are such.
-fn know_cast_lines(lines: &Items<CastLine>)
-    ensures { All HasCastKey lines.now }
-{
-    for at in 0..lines.len() {
-        know_cast_line(lines.get(at));
+impl Known for CastLine {
+    ghost known = { HasCastKey };
+
+    fn know(&self) {
+        if let CastLine::Code(code) = self {
+            know_key(&code.key);
+        }
     }
 }
 
-/// The keys of a ballot's block are such.
-fn know_fate(fate: &BlockFate)
-    ensures { HaveKeys fate.now }
-{
-    match fate {
-        BlockFate::Cast(lines) => know_cast_lines(lines),
-        BlockFate::Audited(_, codes) => know_codes(codes),
-        BlockFate::Spoiled | BlockFate::Voided => {}
+impl Known for BallotBlock {
+    ghost known = { BlockHasKeys };
+
+    fn know(&self) {
+        match &self.fate {
+            BlockFate::Cast(lines) => know_each(lines),
+            BlockFate::Audited(_, codes) => know_each(codes),
+            BlockFate::Spoiled | BlockFate::Voided => {}
+        }
     }
 }
 
-/// The keys of the blocks are such.
-fn know_blocks(blocks: &Items<BallotBlock>)
-    ensures { All BlockHasKeys blocks.now }
-{
-    for at in 0..blocks.len() {
-        know_fate(&blocks.get(at).fate);
-    }
-}
+impl Known for DisputeBlock {
+    ghost known = { DisputeHasKeys };
 
-/// The totals of each race have 32 bits.
-fn know_totals(races: &Items<Items<u32>>)
-    ensures { All (All IsNumber) races.now }
-{
-    for at in 0..races.len() {
-        know_numbers(races.get(at).as_slice());
-    }
-}
-
-/// What is opened of the rows has keys and numbers.
-fn know_rows(rows: &Items<RowOpening>)
-    ensures { All IsRow rows.now }
-{
-    for at in 0..rows.len() {
-        know_row(rows.get(at));
-    }
-}
-
-/// What is opened of the rows of each instance has keys and numbers.
-fn know_instance_rows(instances: &Items<Items<RowOpening>>)
-    ensures { All (All IsRow) instances.now }
-{
-    for at in 0..instances.len() {
-        know_rows(instances.get(at));
-    }
-}
-
-/// What is opened of the rows of each race has keys and numbers.
-fn know_race_rows(races: &Items<Items<Items<RowOpening>>>)
-    ensures { All (All (All IsRow)) races.now }
-{
-    for at in 0..races.len() {
-        know_instance_rows(races.get(at));
-    }
-}
-
-/// The keys of the disputes are such.
-fn know_disputes(disputes: &Items<DisputeBlock>)
-    ensures { All DisputeHasKeys disputes.now }
-{
-    for at in 0..disputes.len() {
-        know_codes(&disputes.get(at).codes);
+    fn know(&self) {
+        know_each(&self.codes);
     }
 }
 
@@ -183,14 +140,14 @@ fn know_draw(draw: &Draw)
 pub fn know_types(posted: &Record)
     ensures { IsTyped posted.now }
 {
-    know_race_digests(&posted.code_commits);
-    know_race_commits(&posted.row_commits);
+    know_each(&posted.code_commits);
+    know_each(&posted.row_commits);
     know_seals(&posted.seals);
-    know_blocks(&posted.ballots);
-    know_totals(&posted.totals);
+    know_each(&posted.ballots);
+    know_each(&posted.totals);
     know_draw(&posted.draw);
-    know_race_rows(&posted.rows);
-    know_disputes(&posted.disputes);
+    know_each(&posted.rows);
+    know_each(&posted.disputes);
 }
 
 /// Each word of a formed record is of its kind: so the laws of records and their texts hold of each formed value of

@@ -1,6 +1,7 @@
 //! Standard input and output. They count their faults and keep the cause of the last one. Standard input tells nothing of its
 //! bytes, and standard output what its writer tells.
 ghost use Rattle.std.specs.Prelude.{◌≡◌, ◌≤◌, [], None, IfOk, OnOk, OnErr, length};
+ghost use Rattle.std.specs.Option.{option_map};
 ghost use Rattle.std.specs.Io.Buffered.{writer_buffer, writer_capacity, writer_contents, writer_inner};
 ghost use Rattle.std.specs.Io.KnownBytes.{Keeps, WriteAppends};
 ghost use Rattle.sg_outside.specs.Faults.{HasCause, counted_up};
@@ -34,7 +35,9 @@ impl StdSource {
     }
 
     /// What the system said of the last read that failed.
-    pub fn cause(&self) -> Option<&io::Error> {
+    pub fn cause(&self) -> Option<&io::Error>
+        ensures { option_map (λ error. error.now) result ≡ self.now.cause }
+    {
         self.cause.as_ref()
     }
 }
@@ -132,7 +135,9 @@ impl<W: Write + Drop> StdSink<W> {
     }
 
     /// What the system said of the last write that failed.
-    pub fn cause(&self) -> Option<&io::Error> {
+    pub fn cause(&self) -> Option<&io::Error>
+        ensures { option_map (λ error. error.now) result ≡ self.now.cause }
+    {
         self.cause.as_ref()
     }
 

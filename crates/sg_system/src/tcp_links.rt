@@ -1,5 +1,6 @@
 //! Connections from this machine. They count their faults, keep the cause of the last one, and tell nothing of their bytes.
 ghost use Rattle.std.specs.Prelude.{◌≡◌, ◌≤◌, None, false, is_some, IfOk, length};
+ghost use Rattle.std.specs.Option.{option_map};
 ghost use Rattle.sg_outside.specs.Faults.{Rose};
 
 use crate::gate::Gate;
@@ -40,7 +41,9 @@ impl<'a> TcpLinks<'a> {
     }
 
     /// What the system said of the last call that failed.
-    pub fn cause(&self) -> Option<&io::Error> {
+    pub fn cause(&self) -> Option<&io::Error>
+        ensures { option_map (λ error. error.now) result ≡ self.now.cause }
+    {
         self.cause.as_ref()
     }
 

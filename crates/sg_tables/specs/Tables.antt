@@ -3,8 +3,7 @@
 -- and places are numbered from 0.
 use Rattle.std.specs.Prelude.{ℕ, ◌+◌, ◌*◌, ◌/◌, ◌%◌, ◌==◌, List, [], map, slice_index}
 use Rattle.std.specs.List.{position_or_len}
-use Rattle.std.specs.Option.{option_map_or}
-use Rattle.sg_plan.specs.Ballots.{ballot_row, candidates_of, entries_of, races_of_style, rows_of, style_of_ballot}
+use Rattle.sg_plan.specs.Ballots.{ballot_row, candidates_of, entries_of, races_of_ballot, rows_of}
 use Rattle.sg_plan.specs.declared.plan.Plan.{Plan}
 use Rattle.sg_commit.specs.declared.Opening.{Opening}
 use Rattle.sg_streams.specs.OpeningKeys.{item_key}
@@ -30,9 +29,7 @@ code_beside plan seed race row candidate = slice_index (codes_of_row plan seed r
 -- the paper of a ballot: for each race of its style the codes by candidate, and no list where the plan
 -- has no such ballot
 unfoldable pub paper_of : Plan → List ℕ → ℕ → List (List ℕ)
-paper_of plan seed ballot =
-    map (λ race. codes_of_row plan seed race (ballot_row plan race ballot))
-    (option_map_or (races_of_style plan) (style_of_ballot plan ballot) [])
+paper_of plan seed ballot = map (λ race. codes_of_row plan seed race (ballot_row plan race ballot)) (races_of_ballot plan ballot)
 
 -- TABLE Q: THE SAME CODES, EACH BALLOT ROW SHUFFLED
 

@@ -10,5 +10,5 @@ mod purposes;
 mod race_lists;
 mod table_set;
 
-pub use opening_walks::{LeftOpenings, QOpenings, RightOpenings};
+pub use opening_walks::{QOpenings, RowOpenings};
 pub use table_set::Tables;

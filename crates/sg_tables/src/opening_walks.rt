@@ -65,17 +65,18 @@ impl<'a> QOpenings<'a> {
     }
 }
 
-/// A walk over what opens the commitments to the left pointers of an instance's rows.
+/// A walk over what opens the commitments to both pointers of an instance's rows.
 #[derive(Drop)]
-pub struct LeftOpenings<'a> {
+pub struct RowOpenings<'a> {
     tables: &'a Tables,
     race: u32,
     instance: u32,
     row: u32,
-    keys: Keys,
+    lefts: Keys,
+    rights: Keys,
 }
 
-impl<'a> Model for LeftOpenings<'a> {
+impl<'a> Model for RowOpenings<'a> {
     ghost use Rattle.std.specs.Prelude.{◌<◌};
     ghost use Rattle.sg_tables.specs.inside.Kept.{KeepsKeys};
     ghost use Rattle.sg_tables.specs.Tables.{RowWalk};
@@ -90,95 +91,52 @@ impl<'a> Model for LeftOpenings<'a> {
       row = w.row;
     } };
 
-    ghost invariant = { λ w. (w.instance < w.tables.now.plan.instances) × KeepsKeys w.tables.now.plan w.tables.now.seed 6 w.race w.instance w.row w.keys };
+    ghost invariant = { λ w. (w.instance < w.tables.now.plan.instances)
+        × KeepsKeys w.tables.now.plan w.tables.now.seed 6 w.race w.instance w.row w.lefts
+        × KeepsKeys w.tables.now.plan w.tables.now.seed 7 w.race w.instance w.row w.rights };
 }
 
-impl<'a> LeftOpenings<'a> {
+impl<'a> RowOpenings<'a> {
     /// A walk that begins at `row`.
-    pub(crate) fn at(tables: &'a Tables, race: u32, instance: u32, row: u32) -> LeftOpenings<'a>
+    pub(crate) fn at(tables: &'a Tables, race: u32, instance: u32, row: u32) -> RowOpenings<'a>
         requires race { race < length tables.now.plan.races }
         requires instance { instance < tables.now.plan.instances }
         ensures { result ≡ record { plan = tables.now.plan; seed = tables.now.seed; race = race; instance = instance; row = row } }
     {
-        LeftOpenings {
+        RowOpenings {
             tables,
             race,
             instance,
             row,
-            keys: tables.keys(LEFT_KEYS, race, instance, row),
+            lefts: tables.keys(LEFT_KEYS, race, instance, row),
+            rights: tables.keys(RIGHT_KEYS, race, instance, row),
         }
     }
 
-    /// The opening of the row's left pointer, an entry of the race. The row then goes up by one.
-    #[tactic(auto, unfolding(crate::specs::Tables::left_opening_of))]
-    pub fn next(&mut self) -> Opening
+    /// What opens the row's left pointer, an entry of the race, and its right pointer, a place. The row then goes up by
+    /// one.
+    #[tactic(auto, unfolding(crate::specs::Tables::left_opening_of, crate::specs::Tables::right_opening_of))]
+    pub fn next(&mut self) -> (Opening, Opening)
         requires { self.old.row < entries_of self.old.plan self.old.race }
-        ensures opening { result ≡ left_opening_of self.old.plan self.old.seed self.old.race self.old.instance self.old.row }
-        ensures bound { result.value < entries_of self.old.plan self.old.race }
+        ensures left { result.0 ≡ left_opening_of self.old.plan self.old.seed self.old.race self.old.instance self.old.row }
+        ensures right { result.1 ≡ right_opening_of self.old.plan self.old.seed self.old.race self.old.instance self.old.row }
+        ensures left_bound { result.0.value < entries_of self.old.plan self.old.race }
+        ensures right_bound { result.1.value < entries_of self.old.plan self.old.race }
         ensures row { self.new ≡ record self.old { row = self.old.row + 1 } }
     {
-        let value = self.tables.left(self.race, self.instance, self.row);
+        let (left, right) = self.tables.r_row(self.race, self.instance, self.row);
         self.row += 1;
-        let key = Key(self.keys.next());
-        Opening { key, value }
-    }
-}
-
-/// A walk over what opens the commitments to the right pointers of an instance's rows.
-#[derive(Drop)]
-pub struct RightOpenings<'a> {
-    tables: &'a Tables,
-    race: u32,
-    instance: u32,
-    row: u32,
-    keys: Keys,
-}
-
-impl<'a> Model for RightOpenings<'a> {
-    ghost use Rattle.std.specs.Prelude.{◌<◌};
-    ghost use Rattle.sg_tables.specs.inside.Kept.{KeepsKeys};
-    ghost use Rattle.sg_tables.specs.Tables.{RowWalk};
-
-    ghost Value = { RowWalk };
-
-    ghost view = { λ w. record {
-      plan = w.tables.now.plan;
-      seed = w.tables.now.seed;
-      race = w.race;
-      instance = w.instance;
-      row = w.row;
-    } };
-
-    ghost invariant = { λ w. (w.instance < w.tables.now.plan.instances) × KeepsKeys w.tables.now.plan w.tables.now.seed 7 w.race w.instance w.row w.keys };
-}
-
-impl<'a> RightOpenings<'a> {
-    /// A walk that begins at `row`.
-    pub(crate) fn at(tables: &'a Tables, race: u32, instance: u32, row: u32) -> RightOpenings<'a>
-        requires race { race < length tables.now.plan.races }
-        requires instance { instance < tables.now.plan.instances }
-        ensures { result ≡ record { plan = tables.now.plan; seed = tables.now.seed; race = race; instance = instance; row = row } }
-    {
-        RightOpenings {
-            tables,
-            race,
-            instance,
-            row,
-            keys: tables.keys(RIGHT_KEYS, race, instance, row),
-        }
-    }
-
-    /// The opening of the row's right pointer, a place of the race. The row then goes up by one.
-    #[tactic(auto, unfolding(crate::specs::Tables::right_opening_of))]
-    pub fn next(&mut self) -> Opening
-        requires { self.old.row < entries_of self.old.plan self.old.race }
-        ensures opening { result ≡ right_opening_of self.old.plan self.old.seed self.old.race self.old.instance self.old.row }
-        ensures bound { result.value < entries_of self.old.plan self.old.race }
-        ensures row { self.new ≡ record self.old { row = self.old.row + 1 } }
-    {
-        let (_, value) = self.tables.r_row(self.race, self.instance, self.row);
-        self.row += 1;
-        let key = Key(self.keys.next());
-        Opening { key, value }
+        let left_key = Key(self.lefts.next());
+        let right_key = Key(self.rights.next());
+        (
+            Opening {
+                key: left_key,
+                value: left,
+            },
+            Opening {
+                key: right_key,
+                value: right,
+            },
+        )
     }
 }

@@ -2,7 +2,7 @@
 ghost use Rattle.std.specs.Prelude.{◌≡◌, ◌<◌, ◌==◌, ◌&&◌, length, IfOk};
 ghost use Rattle.sg_plan.specs.Ballots.{candidates_of, entries_of, rows_of};
 ghost use Rattle.sg_plan.specs.Fates.{has_mark};
-ghost use Rattle.sg_tables.specs.Posts.{column_marked, fate_marks, has_code, is_void, marked_columns, posted_codes, right_word, row_entry, void_races};
+ghost use Rattle.sg_tables.specs.Posts.{column_marked, fate_marks, has_code, is_void, posted_codes, right_word, row_entry, void_races};
 ghost use Rattle.sg_tables.specs.Tables.{code_of_entry, codes_of_row, shown_by};
 
 use crate::table_set::Tables;
@@ -83,30 +83,6 @@ impl Tables {
     {
         let shown = self.shown(race, self.row_entry(race, ballot_row, column));
         fate_marks(self.plan(), race, shown, fate)
-    }
-
-    /// The columns that a ballot with this fate marks in a ballot row, rising: those that show a candidate
-    /// for whom it is cast, in a race that is not void. It refuses for want of memory alone.
-    pub fn marked_columns(
-        &self,
-        alloc: Global,
-        race: u32,
-        ballot_row: u32,
-        fate: &Fate,
-    ) -> Result<Items<u32>, NoMemory>
-        requires race { race < length self.now.plan.races }
-        requires ballot_row { ballot_row < rows_of self.now.plan race }
-        ensures { IfOk result (λ columns. columns ≡ marked_columns self.now.plan self.now.seed race ballot_row fate.now) }
-    {
-        let candidates = self.lists(race).candidates;
-        let mut columns = Items::new(alloc);
-        for column in 0..candidates {
-            if !self.column_marked(race, ballot_row, fate, column) {
-                continue;
-            }
-            columns.push(column)?;
-        }
-        Ok(columns)
     }
 
     /// The codes that a ballot with this fate posts in a race, by column. It refuses for want of memory alone.

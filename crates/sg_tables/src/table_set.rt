@@ -8,7 +8,7 @@ ghost use Rattle.sg_tables.specs.inside.Kept.{KeepsKeys, KeepsRace};
 ghost use Rattle.sg_tables.specs.Tables.{code_beside, code_of_entry, entry_showing, left_of, left_opening_of, path_of, place_row, q_opening_of, right_of, right_opening_of, shown_by};
 
 use crate::drawing::draw_races;
-use crate::opening_walks::{LeftOpenings, QOpenings, RightOpenings};
+use crate::opening_walks::{QOpenings, RowOpenings};
 use crate::purposes::{ENTRY_KEYS, LEFT_KEYS, RIGHT_KEYS};
 use crate::race_lists::RaceLists;
 use sg_commit::{Key, Opening};
@@ -190,22 +190,13 @@ impl Tables {
         QOpenings::at(self, race, entry)
     }
 
-    /// The openings of an instance's left pointers in turn, from `row` on.
-    pub fn left_openings(&self, race: u32, instance: u32, row: u32) -> LeftOpenings<'_>
+    /// The openings of both pointers of an instance's rows in turn, from `row` on.
+    pub fn row_openings(&self, race: u32, instance: u32, row: u32) -> RowOpenings<'_>
         requires race { race < length self.now.plan.races }
         requires instance { instance < self.now.plan.instances }
         ensures { result ≡ record { plan = self.now.plan; seed = self.now.seed; race = race; instance = instance; row = row } }
     {
-        LeftOpenings::at(self, race, instance, row)
-    }
-
-    /// The openings of an instance's right pointers in turn, from `row` on.
-    pub fn right_openings(&self, race: u32, instance: u32, row: u32) -> RightOpenings<'_>
-        requires race { race < length self.now.plan.races }
-        requires instance { instance < self.now.plan.instances }
-        ensures { result ≡ record { plan = self.now.plan; seed = self.now.seed; race = race; instance = instance; row = row } }
-    {
-        RightOpenings::at(self, race, instance, row)
+        RowOpenings::at(self, race, instance, row)
     }
 
     /// What opens the commitment to an entry's code. Its value is a code of the plan's version.

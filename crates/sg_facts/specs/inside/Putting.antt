@@ -49,7 +49,7 @@ AreOwn plan ballot codes = (at : ℕ) (code : CodeLine) → slice_get codes at �
 -- and so is the code of each of these lines, where it has one
 abbrev pub IsOwnLine : Plan → ℕ → CastLine → Type 0
 IsOwnLine plan ballot (cast.Code code) = is_column plan ballot code.race code.column ≡ true
-IsOwnLine plan ballot (cast.Over race) = Unit {0}
+IsOwnLine plan ballot line = Unit {0}
 
 abbrev pub AreOwnLines : Plan → ℕ → List CastLine → Type 0
 AreOwnLines plan ballot lines = (at : ℕ) (line : CastLine) → slice_get lines at ≡ Some line → IsOwnLine plan ballot line

@@ -1,8 +1,7 @@
 -- The lines of rows, number by number, as they are written.
-use Rattle.std.specs.Prelude.{◌≡◌, ℕ, List, [], ◌∷◌, length}
+use Rattle.std.specs.Prelude.{ℕ, List, [], ◌∷◌, length}
 use Rattle.sg_plan.specs.Ballots.{entries_of}
 use Rattle.sg_plan.specs.declared.plan.Plan.{Plan}
-use Rattle.sg_tables.specs.Tables.{MadeFrom, RowWalk}
 use Rattle.sg_forms.specs.Said.{Said}
 use Rattle.sg_forms.specs.Said.Said.{Row}
 use Rattle.sg_grammar.specs.Due.{each}
@@ -21,11 +20,3 @@ race_lines plan seed race = each (instance_lines plan seed race) 0 plan.instance
 
 abbrev pub all_lines : Plan → List ℕ → List Said
 all_lines plan seed = each (race_lines plan seed) 0 (length plan.races)
-
--- a walk that has come to a row
-abbrev pub walk_at : MadeFrom → ℕ → ℕ → ℕ → RowWalk
-walk_at tables race instance row = record { plan = tables.plan; seed = tables.seed; race = race; instance = instance; row = row }
-
--- the walks on the left and on the right have come to a row
-abbrev pub AreAt : MadeFrom → ℕ → ℕ → ℕ → RowWalk → RowWalk → Type 0
-AreAt tables race instance row lefts rights = (lefts ≡ walk_at tables race instance row) × (rights ≡ walk_at tables race instance row)

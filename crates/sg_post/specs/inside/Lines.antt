@@ -5,13 +5,14 @@ use Rattle.sg_plan.specs.Ballots.{ballot_row, candidates_of, entries_of, races_o
 use Rattle.sg_plan.specs.declared.plan.Draw.{Draw}
 use Rattle.sg_plan.specs.declared.plan.Fate.{Fate}
 use Rattle.sg_plan.specs.declared.plan.Plan.{Plan}
-use Rattle.sg_tables.specs.Posts.{column_marked, is_void}
+use Rattle.sg_tables.specs.Posts.{column_marked}
 use Rattle.sg_forms.specs.Said.{Said}
-use Rattle.sg_forms.specs.Said.Said.{Audited, Cast, Code, CodeCommit, Dispute, Over, Row, RowCommit}
+use Rattle.sg_forms.specs.Said.Said.{Audited, Cast, Code, CodeCommit, Dispute, Row, RowCommit}
 use Rattle.sg_grammar.specs.Due.{each}
-use Rattle.sg_record.specs.Tree.{as_line, block_tree}
+use Rattle.sg_record.specs.Tree.{as_line, block_tree, cast_leaf}
 use Rattle.sg_record.specs.inside.Parts.{paper_lines}
-use Rattle.sg_post.specs.Posted.{audited_race_codes, code_commit_of, code_in_row, opened_row, row_commit_of, told_blocks}
+use Rattle.sg_post.specs.Marks.{is_audit_fate}
+use Rattle.sg_post.specs.Posted.{audited_race_codes, code_commit_of, code_in_row, opened_row, race_notes, row_commit_of, told_blocks}
 use Rattle.sg_post.specs.declared.story.Claimed.{Claimed}
 use Rattle.sg_post.specs.declared.story.Told.{Told}
 
@@ -43,20 +44,27 @@ marked_code plan seed race row what column = (if column_marked plan seed race ro
 abbrev pub marked_row_codes : Plan → List ℕ → ℕ → ℕ → Fate → List Said
 marked_row_codes plan seed race row what = each (marked_code plan seed race row what) 0 (candidates_of plan race)
 
-abbrev pub void_line : Plan → Fate → ℕ → List Said
-void_line plan what race = (if is_void plan what race then Over race ∷ [] else [])
+abbrev pub note_lines : Plan → ℕ → Fate → ℕ → List Said
+note_lines plan ballot what race = map (cast_leaf as_line ballot) (race_notes plan ballot what race)
 
 abbrev pub cast_race : Plan → List ℕ → ℕ → Fate → ℕ → List Said
-cast_race plan seed ballot what race = marked_row_codes plan seed race (ballot_row plan race ballot) what ++ void_line plan what race
-
-abbrev pub cast_block : Plan → List ℕ → ℕ → Fate → List Said
-cast_block plan seed ballot what = Cast ballot ∷ each (cast_race plan seed ballot what) 0 (length plan.races)
+cast_race plan seed ballot what race = marked_row_codes plan seed race (ballot_row plan race ballot) what ++ note_lines plan ballot what race
 
 abbrev pub audited_race : Plan → List ℕ → ℕ → ℕ → List Said
 audited_race plan seed ballot race = map Code (audited_race_codes plan seed ballot race)
 
-abbrev pub audited_block : Plan → List ℕ → ℕ → List (List ℕ) → List Said
-audited_block plan seed ballot paper = Audited ballot ∷ (paper_lines (races_of_ballot plan ballot) paper ++ each (audited_race plan seed ballot) 0 (length plan.races))
+-- in a race, by the ballot's fate: all codes where it was audited
+abbrev pub fate_race : Plan → List ℕ → ℕ → Fate → ℕ → List Said
+fate_race plan seed ballot what race = (if is_audit_fate what then audited_race plan seed ballot race else cast_race plan seed ballot what race)
+
+abbrev pub fate_races : Plan → List ℕ → ℕ → Fate → List Said
+fate_races plan seed ballot what = each (fate_race plan seed ballot what) 0 (length plan.races)
+
+abbrev pub cast_block : Plan → List ℕ → ℕ → Fate → List Said
+cast_block plan seed ballot what = Cast ballot ∷ fate_races plan seed ballot what
+
+abbrev pub audited_block : Plan → List ℕ → ℕ → Fate → List (List ℕ) → List Said
+audited_block plan seed ballot what paper = Audited ballot ∷ (paper_lines (races_of_ballot plan ballot) paper ++ fate_races plan seed ballot what)
 
 unfoldable pub told_lines : Plan → List ℕ → Told → List Said
 told_lines plan seed told = flat_map (block_tree as_line plan) (told_blocks plan seed told)

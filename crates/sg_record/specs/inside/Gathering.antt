@@ -1,7 +1,7 @@
 -- How the lists of a record are put together from its lines, one line after another. Each step is defined for all
 -- values; that the lines of a formed record give its lists is proved.
 use Rattle.std.specs.Prelude.{ℕ, ◌-◌, ◌==◌, if◌then◌else◌, Bool, List, [], ◌∷◌, ◌++◌, length, map, replicate, slice_index_or, slice_set, Option, Some, option_and_then}
-use Rattle.std.specs.Option.{option_map}
+use Rattle.std.specs.Option.{option_map, option_map_or}
 use Rattle.sg_commit.specs.declared.Digest.{Digest}
 use Rattle.sg_plan.specs.declared.plan.Draw.TheVariants as drawn
 use Rattle.sg_plan.specs.declared.plan.Plan.{Plan}
@@ -11,14 +11,14 @@ use Rattle.sg_forms.specs.Said.Said.{Audited, Spoiled, Voided}
 use Rattle.sg_forms.specs.declared.line.CodeLine.{CodeLine}
 use Rattle.sg_grammar.specs.Head.{no_plan}
 use Rattle.sg_grammar.specs.Placed.{Placed}
-use Rattle.sg_grammar.specs.Placed.Placed.{OfPlan, CodeCommitAt, RowCommitAt, SealAt, Begun, CodeAt, OverAt, PaperAt, FlagsAt, PlacesAt, TotalAt, DrawnFull, DrawnPublic, RowAt, Disputed}
+use Rattle.sg_grammar.specs.Placed.Placed.{OfPlan, CodeCommitAt, RowCommitAt, SealAt, Begun, CodeAt, PaperAt, FlagsAt, PlacesAt, TotalAt, DrawnFull, DrawnPublic, RowAt, Disputed}
 use Rattle.sg_grammar.specs.Walk.{Next, Taken, start, take_line}
 use Rattle.sg_grammar.specs.declared.state.Block.TheVariants as block
+use Rattle.sg_record.specs.Tree.{cast_at}
 use Rattle.sg_record.specs.declared.record.BallotBlock.{BallotBlock}
 use Rattle.sg_record.specs.declared.record.BlockFate.{BlockFate}
 use Rattle.sg_record.specs.declared.record.BlockFate.TheVariants as fate
 use Rattle.sg_record.specs.declared.record.CastLine.{CastLine}
-use Rattle.sg_record.specs.declared.record.CastLine.TheVariants as cast
 use Rattle.sg_record.specs.declared.record.DisputeBlock.{DisputeBlock}
 use Rattle.sg_record.specs.declared.record.Record.{Record}
 
@@ -104,9 +104,7 @@ added plan made (RowCommitAt race instance row left right) said = record made { 
 added plan made (SealAt number digest) said = record made { seals = sealed made.seals number digest }
 added plan made (Begun ballot) said = record made { ballots = made.ballots ++ record { ballot = ballot; fate = begun said } ∷ [] }
 added plan made (CodeAt block.Dispute ballot race column code) said = record made { disputes = dispute_with code made.disputes }
-added plan made (CodeAt block.Cast ballot race column code) said = record made { ballots = last_with (with_cast (cast.Code code)) made.ballots }
 added plan made (CodeAt block.Audited ballot race column code) said = record made { ballots = last_with (with_code code) made.ballots }
-added plan made (OverAt ballot race) said = record made { ballots = last_with (with_cast (cast.Over race)) made.ballots }
 added plan made (PaperAt ballot race list) said = record made { ballots = last_with (with_paper list) made.ballots }
 added plan made (FlagsAt race instance from bits) said = record made { flags = append_in made.flags race instance (bits_of bits) }
 added plan made (PlacesAt race from bits) said = record made { places = append_at made.places race (bits_of bits) }
@@ -115,6 +113,7 @@ added plan made DrawnFull said = record made { draw = drawn.Full }
 added plan made (DrawnPublic digits) said = record made { draw = drawn.Public (bytes_of_digits digits) }
 added plan made (RowAt race instance row opening) said = record made { rows = append_in made.rows race instance (opening ∷ []) }
 added plan made (Disputed ballot race code word) said = record made { disputes = made.disputes ++ record { ballot = ballot; race = race; code = code; word = word; codes = [] } ∷ [] }
+added plan made placed said = option_map_or (λ line. record made { ballots = last_with (with_cast line) made.ballots }) (cast_at placed) made
 
 -- ALL LINES
 

@@ -1,10 +1,11 @@
 -- What the program keeps of the lines of a record while they come: the lists, apart from the plan.
-use Rattle.std.specs.Prelude.{◌≡◌, Option, Some, None}
+use Rattle.std.specs.Prelude.{◌≡◌, IsSome, Option, Some, None}
 use Rattle.sg_plan.specs.declared.plan.Plan.{Plan}
 use Rattle.sg_forms.specs.Said.{Said}
 use Rattle.sg_grammar.specs.Placed.{Placed}
 use Rattle.sg_grammar.specs.Placed.Placed.{CodeCommitAt, FlagsAt, PlacesAt, RowAt, RowCommitAt, TotalAt}
 use Rattle.sg_record.specs.inside.Gathering.{Gathered, added, blank, with_cast, with_code, with_paper}
+use Rattle.sg_record.specs.Tree.{cast_at}
 use Rattle.sg_record.specs.declared.last.Addition.{Addition}
 use Rattle.sg_record.specs.declared.last.Addition.TheVariants as addition
 use Rattle.sg_record.specs.declared.lists.Lists.{Lists}
@@ -38,7 +39,7 @@ with_plan plan lists = record {
 abbrev pub Adds : Lists → Lists → Placed → Said → Type 0
 Adds old new placed said = (plan : Plan) → with_plan plan new ≡ added plan (with_plan plan old) placed said
 
--- the line stands in the list of a race, or of one of its instances
+-- the line stands in the list of a race, or of one of its instances, or in the block of a cast ballot
 abbrev pub IsOfRace : Placed → Type 0
 IsOfRace (CodeCommitAt race entry digest) = Unit {0}
 IsOfRace (RowCommitAt race instance row left right) = Unit {0}
@@ -46,7 +47,7 @@ IsOfRace (FlagsAt race instance from bits) = Unit {0}
 IsOfRace (PlacesAt race from bits) = Unit {0}
 IsOfRace (TotalAt race candidate count) = Unit {0}
 IsOfRace (RowAt race instance row opening) = Unit {0}
-IsOfRace placed = ⊥
+IsOfRace placed = IsSome (cast_at placed)
 
 -- the record so far: no line behind the plan stands where there are no lists
 abbrev pub made_of : Plan → Option Lists → Record

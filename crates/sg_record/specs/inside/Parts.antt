@@ -11,19 +11,8 @@ use Rattle.sg_plan.specs.Names.{IsName}
 use Rattle.sg_record.specs.Formed.{is_fate}
 use Rattle.sg_record.specs.Writing.{HaveCodes}
 use Rattle.sg_record.specs.declared.record.BallotBlock.{BallotBlock}
-use Rattle.sg_record.specs.declared.record.CastLine.{CastLine}
-use Rattle.sg_record.specs.declared.record.CastLine.TheVariants as cast
 use Rattle.sg_record.specs.declared.record.DisputeBlock.{DisputeBlock}
 use Rattle.sg_record.specs.declared.record.Record.{Record}
-
--- the code of a line of a cast ballot is of the version, if it has one
-abbrev pub HasCastCode : ℕ → CastLine → Type 0
-HasCastCode version (cast.Code code) = IsCode version code.code
-HasCastCode version other = Unit {0}
-
-abbrev pub HaveCastCodes : ℕ → List CastLine → Type 0
-HaveCastCodes version [] = Unit {0}
-HaveCastCodes version (line ∷ lines) = HasCastCode version line × HaveCastCodes version lines
 
 -- a paper's codes, race by race
 abbrev pub paper_lines : List ℕ → List (List ℕ) → List Said

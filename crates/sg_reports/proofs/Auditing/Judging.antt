@@ -55,13 +55,5 @@ took_lines-as before now then took = record {
 }
 
 pub took_unended-as : {P Q : List (List ℕ) → Type 0} (before now : Option (List ℕ)) → ((lines : List (List ℕ)) → P lines → Q lines) → TookUnended P before now → TookUnended Q before now
-took_unended-as before now then took = record {
-  done = took.done;
-  rest = took.rest;
-  lines = took.lines;
-  are = then took.done took.are;
-  short = took.short;
-  unended = took.unended;
-  few = took.few;
-  taken = took.taken;
-}
+unfolding took_lines-as
+took_unended-as before now then unended = record { took = took_lines-as before now then unended.took; unended = unended.unended; fewer = unended.fewer }

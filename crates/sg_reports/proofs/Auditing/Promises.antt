@@ -17,9 +17,9 @@ use Rattle.sg_check.specs.declared.judged.Kind.{Kind}
 use Rattle.sg_check.specs.declared.judged.Total.{Total}
 use Rattle.sg_fronts.proofs.ByRecords.{verdicts_say}
 use Rattle.sg_fronts.proofs.Promised.{bound_on, right_verdict}
-use Rattle.sg_fronts.specs.ByRecords.{Says, totals_on}
-use Rattle.sg_fronts.specs.Promised.{IsWholeAndAgrees}
-use Rattle.sg_reports.specs.audit.Audit.{ArePromised, AuditSays}
+use Rattle.sg_fronts.specs.ByRecords.{IsWholeAndAgrees, Says, totals_on}
+use Rattle.sg_fronts.specs.Promised.{IsPromised}
+use Rattle.sg_reports.specs.audit.Audit.{AuditSays}
 use Rattle.sg_reports.specs.audit.Promise.{IsAnsweredYes, Promise}
 use Rattle.sg_report.specs.Report.{report_of}
 
@@ -39,8 +39,8 @@ at_verdict known bytes found same told = (verdicts_say (lines_of bytes) found).1
 right_record : (bytes : List ℕ) (how : Outcome) (input input' out out' : Seen) → input.bytes ≡ Some bytes → AuditSays how input input' out out' → status_of how ≡ 0
     → (posted : Record) × IsWholeAndAgrees (lines_of bytes) posted
 right_record bytes outcome.Done input input' out out' same says is =
-    let promised = subst (λ (k : Option (List ℕ)). ArePromised k says.due.totals) same says.due.promised in
-    (promised.posted, promised.right)
+    let promised = at_bytes input.bytes bytes (λ b. IsPromised (lines_of b) says.due.totals) same says.due.promised in
+    (promised.0, promised.1)
 right_record bytes _ input input' out out' same says is = absurd (omega (arith, is))
 
 -- where the verdict on the input's bytes is yes, that is the answer

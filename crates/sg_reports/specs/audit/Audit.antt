@@ -19,19 +19,14 @@ use Rattle.sg_fronts.specs.Promised.{IsPromised}
 abbrev pub Judges : Option (List ℕ) → Judged → Type 0
 Judges known judged = IfSome known (λ bytes. Says judged (lines_of bytes))
 
--- where the source tells its bytes, what a yes with these totals promises holds of their lines: the bound on altered rows,
--- over every printing and every completion that opens no commitment twice
-abbrev pub ArePromised : Option (List ℕ) → List Total → Type 0
-ArePromised known totals = IfSome known (λ bytes. IsPromised (lines_of bytes) totals)
-
 -- WHAT IS DUE
 
--- the verdict on the input's bytes is yes, and what it promises holds of the totals in the report, which is the text; the input
--- was read to its end
+-- the verdict on the input's bytes is yes, and what it promises holds of the totals in the report, which is the text: the bound on
+-- altered rows, over every printing and every completion; the input was read to its end
 pub record AnswersYes (text : List ℕ) (before now : Option (List ℕ)) : Type 0 where
   pub totals : List Total
   pub judged : Judges before (Yes totals)
-  pub promised : ArePromised before totals
+  pub promised : IfSome before (λ bytes. IsPromised (lines_of bytes) totals)
   pub read : IsAtEnd now
   pub text_is : text ≡ report_of (Yes totals)
 

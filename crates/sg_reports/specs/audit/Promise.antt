@@ -7,8 +7,8 @@ use Rattle.sg_record.specs.declared.record.Record.{Record}
 use Rattle.sg_check.specs.declared.judged.Judged.TheVariants.{Yes}
 use Rattle.sg_check.specs.declared.judged.Total.{Total}
 use Rattle.sg_report.specs.Report.{report_of}
-use Rattle.sg_fronts.specs.ByRecords.{totals_on}
-use Rattle.sg_fronts.specs.Promised.{IsBound, IsWholeAndAgrees}
+use Rattle.sg_fronts.specs.ByRecords.{IsWholeAndAgrees, totals_on}
+use Rattle.sg_fronts.specs.Promised.{IsBound}
 
 -- The answer is yes (0) with these totals, and its report was written. Only these keep it back: a read failed (3), and the
 -- input's count of faults rose; a write failed (4), and the output's count rose; memory was wanted (9).

@@ -11,7 +11,7 @@ use Rattle.sg_words.specs.declared.command.Command.TheVariants as command
 use Rattle.sg_app.specs.Headline.{Headline}
 use Rattle.sg_app.specs.Touches.{is_report}
 use Rattle.sg_app.proofs.Commands.{command_grows}
-use Rattle.sg_app.proofs.Headlines.{audit_headline}
+use Rattle.sg_app.proofs.Headlines.{audit_headline, headline_histories}
 use Rattle.sg_app.proofs.Obeyed.{asked_is, ended_for, outside, says_for}
 use Rattle.sg_app.proofs.Statuses.{closed_statuses}
 use Rattle.sg_app.proofs.program.run.Goals as goal
@@ -32,6 +32,14 @@ returns-in-Some-clause-headline g c =
     (audit_headline c.obey.result input input' out out'
     (says_for c.in-Some.command command.Audit (command_in c.args.words.now) c.obey.result (g.K.Keeper.tells c.args.keeper.now) (g.K.Keeper.rows c.args.keeper.now) (g.K.Keeper.rows c.obey.new.keeper)
     before now here asked c.obey.ensures.says))
+
+pub returns-in-Some-clause-histories : goal.returns-in-Some-clause-histories
+returns-in-Some-clause-histories g c =
+    let input : Seen = seen (g.S.Source.left c.args.input.now) (g.S.Source.faults c.args.input.now) in
+    let input' : Seen = seen (g.S.Source.left c.obey.new.input) (g.S.Source.faults c.obey.new.input) in
+    let out : Seen = seen (g.O.Sink.written c.args.out.now) (g.O.Sink.faults c.args.out.now) in
+    let out' : Seen = seen (g.O.Sink.written c.obey.new.out) (g.O.Sink.faults c.obey.new.out) in
+    λ asked. headline_histories input.bytes c.status.result input input' out out' (returns-in-Some-clause-headline g c asked)
 
 pub returns-in-Some-clause-ended : goal.returns-in-Some-clause-ended
 returns-in-Some-clause-ended g c =

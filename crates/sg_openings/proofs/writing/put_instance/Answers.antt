@@ -8,7 +8,7 @@ use Rattle.sg_openings.proofs.writing.put_instance.Goals as goal
 
 pub loop-row-init : goal.loop-row-init
 loop-row-init g c = record {
-  walks = (c.left_openings-lefts.ensures, c.right_openings-rights.ensures);
+  walk = c.row_openings-walk.ensures;
   written = left_all _ (each (row_line c.args.tables.now.plan c.args.tables.now.seed c.args.race c.args.instance) 0 (entries_of c.args.tables.now.plan c.args.race));
 }
 
@@ -18,7 +18,7 @@ returns-in_err-put_opened g c =
 
 pub loop-row-preserved : goal.loop-row-preserved
 loop-row-preserved g c = record {
-  walks = c.in_ok-put_opened.ensures.walks;
+  walk = c.in_ok-put_opened.ensures.walk;
   written = each_next _ _ _ _ (row_line c.args.tables.now.plan c.args.tables.now.seed c.args.race c.args.instance) c.loop-row.row (entries_of c.args.tables.now.plan c.args.race) (omega arith) c.loop-row.invariant.written c.in_ok-put_opened.ensures.writes;
 }
 

@@ -17,8 +17,8 @@ returns-in-Cast g c = rw (cast-is c.args.tables.now.plan c.args.tables.now.seed 
 pub returns-in-Spoiled : goal.returns-in-Spoiled
 returns-in-Spoiled g c = rw (spoiled-is c.args.tables.now.plan c.args.tables.now.seed c.args.told.now c.in-Spoiled.is) c.put_line.ensures
 
-pub put_audited-requires-clause-fits : goal.put_audited-requires-clause-fits
-put_audited-requires-clause-fits g c =
+pub put_audited-requires-clause-paper : goal.put_audited-requires-clause-paper
+put_audited-requires-clause-paper g c =
     let plan = c.args.tables.now.plan in
     let told = c.args.told.now in
     ap (λ (f : Fate). detail_fits plan (races_of_ballot plan told.ballot) f) (sym c.in-Audited.is) ∙ detail-of plan told.ballot told.fate c.requires.fits

@@ -6,7 +6,7 @@ use Rattle.sg_post.specs.inside.Lines.{row_commit}
 use Rattle.sg_post.proofs.commitments.put_instance_commits.Goals as goal
 
 pub loop-row-init : goal.loop-row-init
-loop-row-init g c = record { walks = c.at-walks.ensures; written = left_all _ _ }
+loop-row-init g c = record { walk = c.row_openings-walk.ensures; written = left_all _ _ }
 
 pub returns-in_err-put_row : goal.returns-in_err-put_row
 returns-in_err-put_row g c =
@@ -14,7 +14,7 @@ returns-in_err-put_row g c =
 
 pub loop-row-preserved : goal.loop-row-preserved
 loop-row-preserved g c = record {
-  walks = c.in_ok-put_row.ensures.walks;
+  walk = c.in_ok-put_row.ensures.walk;
   written = each_next _ _ _ _ (row_commit c.args.tables.now.plan c.args.tables.now.seed c.args.race c.args.instance) c.loop-row.row (entries_of c.args.tables.now.plan c.args.race) (omega arith) c.loop-row.invariant.written c.in_ok-put_row.ensures.writes;
 }
 

@@ -8,7 +8,7 @@ use Rattle.sg_post.proofs.openings.put_instance_rows.Goals as goal
 
 pub loop-row-init : goal.loop-row-init
 loop-row-init g c = record {
-  walks = (c.at.ensures, c.at-2.ensures);
+  walks = (c.row_openings.ensures, c.at.ensures);
   written = left_all _ (each (row_opening c.args.posted.now.tables.now.plan c.args.posted.now.tables.now.seed c.args.posted.now.story.now.fates c.args.posted.now.draw.now c.args.race c.args.instance) 0 (entries_of c.args.posted.now.tables.now.plan c.args.race));
 }
 

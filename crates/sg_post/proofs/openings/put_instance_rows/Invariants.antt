@@ -8,6 +8,6 @@ use Rattle.sg_post.proofs.openings.put_instance_rows.Given as goal
 
 abbrev pub invariant-loop-row : goal.invariant-loop-row
 invariant-loop-row g l = record {
-  walks : AreDrawn l.posted.tables.now l.posted.key.0 l.fn.race l.fn.instance l.row l.walks.openings.lefts l.walks.openings.rights l.walks.coins;
+  walks : AreDrawn l.posted.tables.now l.posted.key.0 l.fn.race l.fn.instance l.row l.walks.openings l.walks.coins;
   written : LeftEach (moment g.O.Sink.written g.O.Sink.faults l.fn.pen l.fn.out) (moment g.O.Sink.written g.O.Sink.faults l.pen l.out) (row_opening l.posted.tables.now.plan l.posted.tables.now.seed l.posted.story.now.fates l.posted.draw.now l.fn.race l.fn.instance) l.row (entries_of l.posted.tables.now.plan l.fn.race);
 }

@@ -15,20 +15,20 @@ loop-at-preserved g c =
     let first = first_fate c.args.index.now 0 (drop c.loop-at.at c.args.blocks.now) c.get-block.result.now (drop (c.loop-at.at + 1) c.args.blocks.now) c.get-block.ensures.rest c.loop-at.invariant.fates in
     record {
       left = items_next _ _ _ _ (flat_map (block_tree as_line c.args.index.now)) c.args.blocks.now c.loop-at.at (block_tree as_line c.args.index.now c.get-block.result.now) c.loop-at.invariant.left (ap (flat_map (block_tree as_line c.args.index.now)) c.get-block.ensures.rest) c.in_ok-put_block.ensures;
-      fates = fates_behind c.args.index.now 0 c.get-block.result.now.ballot (drop (c.loop-at.at + 1) c.args.blocks.now) (omega arith) first.rest;
+      fates = fates_behind c.args.index.now 0 c.get-block.result.now.ballot (drop (c.loop-at.at + 1) c.args.blocks.now) (omega arith) first.3;
     }
 
 pub returns : goal.returns
 returns g c = items_end _ _ _ (flat_map (block_tree as_line c.args.index.now)) c.args.blocks.now c.loop-at.at refl c.loop-at.invariant.left (omega arith)
 
 pub races-races-requires-clause-first : goal.races-races-requires-clause-first
-races-races-requires-clause-first g c = (first_fate c.args.index.now 0 (drop c.loop-at.at c.args.blocks.now) c.get-block.result.now (drop (c.loop-at.at + 1) c.args.blocks.now) c.get-block.ensures.rest c.loop-at.invariant.fates).later
+races-races-requires-clause-first g c = (first_fate c.args.index.now 0 (drop c.loop-at.at c.args.blocks.now) c.get-block.result.now (drop (c.loop-at.at + 1) c.args.blocks.now) c.get-block.ensures.rest c.loop-at.invariant.fates).0
 
 pub races-races-requires-clause-last : goal.races-races-requires-clause-last
-races-races-requires-clause-last g c = (first_fate c.args.index.now 0 (drop c.loop-at.at c.args.blocks.now) c.get-block.result.now (drop (c.loop-at.at + 1) c.args.blocks.now) c.get-block.ensures.rest c.loop-at.invariant.fates).within
+races-races-requires-clause-last g c = (first_fate c.args.index.now 0 (drop c.loop-at.at c.args.blocks.now) c.get-block.result.now (drop (c.loop-at.at + 1) c.args.blocks.now) c.get-block.ensures.rest c.loop-at.invariant.fates).1
 
 pub put_block-requires-clause-fate : goal.put_block-requires-clause-fate
-put_block-requires-clause-fate g c = (first_fate c.args.index.now 0 (drop c.loop-at.at c.args.blocks.now) c.get-block.result.now (drop (c.loop-at.at + 1) c.args.blocks.now) c.get-block.ensures.rest c.loop-at.invariant.fates).fate
+put_block-requires-clause-fate g c = (first_fate c.args.index.now 0 (drop c.loop-at.at c.args.blocks.now) c.get-block.result.now (drop (c.loop-at.at + 1) c.args.blocks.now) c.get-block.ensures.rest c.loop-at.invariant.fates).2
 
 pub put_block-requires-clause-version : goal.put_block-requires-clause-version
 put_block-requires-clause-version g c = c.loop-at.invariant.left.puts.version ∙ c.requires.version

@@ -27,7 +27,7 @@ returns g c =
     puts_then _ _ _ _ _ (Version c.args.plan.now.version ∷ Election c.args.plan.now.name ∷ Instances c.args.plan.now.instances ∷ []) (flat_map race_lines c.args.plan.now.races ++ (map style_line c.args.plan.now.styles ++ (map run_line c.args.plan.now.runs))) c.in_ok-put_front.ensures
     (puts_then _ _ _ _ _ (flat_map race_lines c.args.plan.now.races) (map style_line c.args.plan.now.styles ++ (map run_line c.args.plan.now.runs)) c.in_ok-put_races.ensures
     (puts_then _ _ _ _ _ (map style_line c.args.plan.now.styles) (map run_line c.args.plan.now.runs) c.in_ok-put_styles.ensures
-    (c.put_runs.ensures)))
+    (c.put_lines.ensures)))
 
 pub put_races-requires : goal.put_races-requires
 put_races-requires g c = record { races = races_of c.args.plan.now c.requires.limits }

@@ -11,4 +11,4 @@ returns-in_err-put_race_line g c =
 pub returns : goal.returns
 returns g c =
     puts_then _ _ _ _ _ (Race c.args.race.now.name (length c.args.race.now.candidates) c.args.race.now.votes ∷ []) (map Cand c.args.race.now.candidates) c.in_ok-put_race_line.ensures
-    (c.put_candidates.ensures)
+    (c.put_lines.ensures)

@@ -1,7 +1,7 @@
 -- A formed record has few races.
 use Rattle.std.proofs.Common.{◌≡◌, length, ap, ◌∙◌, arith}
 use Rattle.sg_plan.specs.declared.plan.Plan.{Plan}
-use Rattle.sg_record.proofs.Bounds.{few_races}
+use Rattle.sg_record.proofs.Limits.{few_races}
 use Rattle.sg_record.proofs.FormedLists.{formed_parts}
 use Rattle.sg_record.proofs.posts.count_races.Goals as goal
 

@@ -1,7 +1,7 @@
 -- No more bits are taken than are left.
 use Rattle.std.proofs.Common.{◌≡◌, ◌+◌, ◌-◌, ◌*◌, ◌∙◌, ap, take, drop, arith}
 use Rattle.std.proofs.lemmas.List.{length-drop}
-use Rattle.sg_record.proofs.Bits.{take_fitting}
+use Rattle.sg_record.proofs.BitLines.{take_fitting}
 use Rattle.sg_record.proofs.results.bits_on.Goals as goal
 
 pub returns-clause-is : goal.returns-clause-is

@@ -1,7 +1,0 @@
--- Those so far are of their types.
-use Rattle.std.proofs.Common.{All, take}
-use Rattle.sg_record.specs.Typed.{IsDigest}
-use Rattle.sg_record.proofs.typed.know_digests.Given as goal
-
-abbrev pub invariant-loop-at : goal.invariant-loop-at
-invariant-loop-at l = All IsDigest (take l.at l.digests)
